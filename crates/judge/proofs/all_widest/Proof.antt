@@ -1,0 +1,73 @@
+-- `judge::all_widest` meets its contract: the test holds at each row passed.
+use Prim.Native.Nat.{ℕ, _≤_, _-_}
+use mathlib.Core.Path.{_≡_, refl}
+use mathlib.Core.Bool.{true, false}
+use native.Mathlib.Omega.{arith}
+use borrow.Author.Tests.{eq-eqb, ne-eqb}
+use lib.Dec.{eqb}
+use Rattle.sets.specs.Lists.{allBelow}
+use Rattle.sets.proofs.Tabulated.{all-none, all-more, all-fails, all-done}
+use Rattle.table.specs.Pairs.{row}
+use Rattle.judge.proofs.Turns.{widest-test}
+use Rattle.judge.specs.Tests.{widest, allWidest}
+use Rattle.judge.proofs.all_widest.Statement.{statement}
+use Rattle.judge.proofs.all_widest.Tie as tie
+
+abbrev Inv-loop : tie.InvT-loop
+Inv-loop outer rows n i₀ i = (i ≤ n) × (allBelow (λ (k : ℕ). eqb (widest rows (row outer k) k n) (row rows k)) i ≡ true)
+
+abbrev μ-loop : tie.MeasureT-loop
+μ-loop outer rows n i₀ i = n - i
+
+loop-holds : tie.Need-loop-holds Inv-loop μ-loop
+loop-holds c = (omega arith, all-none _)
+
+mul-widest : tie.Need-mul-widest Inv-loop μ-loop
+mul-widest c = omega arith
+
+element-copy-out-widest : tie.Need-element-copy-out-widest Inv-loop μ-loop
+element-copy-out-widest c = omega arith
+
+widest-requires : tie.Need-widest-requires Inv-loop μ-loop
+widest-requires c κs = (omega arith, omega arith)
+
+mul-if1 : tie.Need-mul-if1 Inv-loop μ-loop
+mul-if1 c = omega arith
+
+element-copy-out-if1 : tie.Need-element-copy-out-if1 Inv-loop μ-loop
+element-copy-out-if1 c = omega arith
+
+returns : tie.Need-returns Inv-loop μ-loop
+unfolding allWidest
+returns c = all-fails _ _ (c .before .before .before .before .before .loop .i) false (c .before .before .before .before .loop-test .taken) (widest-test (c .before .before .before .before .before .before .args .outer .now) _ _ _ _ _ (c .before .before .widest .ensures) (ne-eqb _ _ (c .if1 .taken))) refl
+
+add-i : tie.Need-add-i Inv-loop μ-loop
+add-i c = omega arith
+
+loop-less : tie.Need-loop-less Inv-loop μ-loop
+loop-less c = omega arith
+
+loop-again : tie.Need-loop-again Inv-loop μ-loop
+loop-again c = (omega arith, all-more _ _ true (c .before .before .before .before .before .loop .inv .1) (widest-test (c .before .before .before .before .before .before .args .outer .now) _ _ _ _ _ (c .before .before .widest .ensures) (eq-eqb _ _ (c .if1 .left))) refl)
+
+returns-2 : tie.Need-returns-2 Inv-loop μ-loop
+unfolding allWidest
+returns-2 c = all-done _ _ _ (c .before .loop .inv .1) (omega arith)
+
+pub all-widest-spec : {M : Type 1} → statement M
+all-widest-spec =
+    tie.close
+    (tie.spec
+    Inv-loop
+    μ-loop
+    loop-holds
+    mul-widest
+    element-copy-out-widest
+    widest-requires
+    mul-if1
+    element-copy-out-if1
+    returns
+    add-i
+    loop-less
+    loop-again
+    returns-2)

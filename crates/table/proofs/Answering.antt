@@ -1,0 +1,48 @@
+-- Reading answers: a refusal's number is never 0, and what an answer is where a check refused or passed.
+use mathlib.Core.Path.{_≡_, refl, sym, ap, _∙_}
+use mathlib.Core.Bool.{false, true}
+use Prim.Native.Nat.{ℕ, _<_}
+use native.Mathlib.Omega.{arith}
+use lib.Dec.{eqb}
+use borrow.Author.Tests.{ne-eqb, eq-eqb}
+use Rattle.table.specs.Answers.{number, Answer, answer, refused, verdict}
+use Rattle.table.specs.declared.Refusal.{Refusal}
+use Rattle.table.specs.declared.Refusal.the-variants.{FileTooLong, NotTheBanner, LineTooLong, SizeFields, SizeRange, PairFields, PairRange, PairRepeated, PairCount, TableShape, TableRows, ChainCount, ChainPairs, NotAChain, NotReached, BufferTooShort, NoSuchComment, BudgetTooLarge}
+use Rattle.table.specs.declared.Verdict.{Verdict}
+use Rattle.table.specs.declared.Verdict.the-variants.{Accepted, Refused}
+
+pub number-pos : (x : Refusal) → 0 < number x
+number-pos FileTooLong = omega arith
+number-pos NotTheBanner = omega arith
+number-pos LineTooLong = omega arith
+number-pos SizeFields = omega arith
+number-pos SizeRange = omega arith
+number-pos PairFields = omega arith
+number-pos PairRange = omega arith
+number-pos PairRepeated = omega arith
+number-pos PairCount = omega arith
+number-pos TableShape = omega arith
+number-pos TableRows = omega arith
+number-pos ChainCount = omega arith
+number-pos ChainPairs = omega arith
+number-pos NotAChain = omega arith
+number-pos NotReached = omega arith
+number-pos BufferTooShort = omega arith
+number-pos NoSuchComment = omega arith
+number-pos BudgetTooLarge = omega arith
+
+-- a check that refused, and one that passed, by its verdict
+pub verdict-refused : (v : Verdict) (x : Refusal) (n : ℕ) → v ≡ Refused x → verdict v ≡ n → number x ≡ n
+verdict-refused v x n e d = ap verdict (sym e) ∙ d
+
+pub verdict-accepted : (v : Verdict) (n : ℕ) → v ≡ Accepted → verdict v ≡ n → n ≡ 0
+verdict-accepted v n e d = sym d ∙ ap verdict e
+
+-- the answer of a refusal, and of a result
+pub answer-refused : {A : Type 0} (x : Refusal) (n : ℕ) (value blank : A) → number x ≡ n → refused x blank ≡ answer n value blank
+answer-refused x n value blank e =
+    let z : eqb n 0 ≡ false = ne-eqb n 0 (λ d. omega (arith, number-pos x)) in
+    rw (z, e)
+
+pub answer-given : {A : Type 0} (n : ℕ) (value blank : A) → n ≡ 0 → record { refusal = 0; value = value } ≡ answer n value blank
+answer-given n value blank e = rw e

@@ -1,0 +1,8 @@
+-- Laws that belong to no one function: pairs and nested rows, the two sides exchanged, legality.
+pub mod Places
+pub mod Nesting
+pub mod Transposition
+pub mod Legality
+pub mod Steps
+pub mod Answering
+pub mod Sides

@@ -1,0 +1,29 @@
+-- `table::Table::from_rows` meets its contract: the answer is that of the check of the table made.
+use borrow.Author.Needs.{needs}
+use mathlib.Core.Path.{_∙_}
+use Rattle.table.proofs.Answering.{verdict-refused, verdict-accepted, answer-refused, answer-given}
+use Rattle.table.proofs.Table.from_rows.Statement.{statement}
+use Rattle.table.proofs.Table.from_rows.Tie as tie
+
+check-table-requires : tie.Need-check-table-requires
+check-table-requires c κs = search needs
+
+enum-known-checked : tie.Need-enum-known-checked
+enum-known-checked c = search needs
+
+refuse-requires : tie.Need-refuse-requires
+refuse-requires c κs = search needs
+
+returns : tie.Need-returns
+returns c = c .refuse .ensures ∙ answer-refused (c .before .before .checked .given .0 .0) _ _ _ (verdict-refused _ _ _ (c .before .before .checked .given .1) (c .before .before .before .before .check-table .ensures))
+
+enum-told : tie.Need-enum-told
+enum-told c = search needs
+
+returns-2 : tie.Need-returns-2
+returns-2 c = answer-given _ _ _ (verdict-accepted _ _ (c .enum-told .given .1) (c .before .before .check-table .ensures))
+
+pub from-rows-spec : {M : Type 1} → statement M
+from-rows-spec =
+    tie.close
+    (tie.spec check-table-requires enum-known-checked refuse-requires returns enum-told returns-2)

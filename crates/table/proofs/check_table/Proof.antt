@@ -1,0 +1,40 @@
+-- `table::check_table` meets its contract: each answer is 01's number by the tests that led to it (`table-decided`).
+use borrow.Author.Needs.{needs}
+use mathlib.Core.Path.{sym, _∙_}
+use borrow.Author.Tests.{not-true, not-false}
+use Rattle.table.proofs.Legality.{range-is, no-gauges, no-cases, no-rows, all-pass}
+use Rattle.table.proofs.check_table.Statement.{statement}
+use Rattle.table.proofs.check_table.Tie as tie
+
+in-range-requires : tie.Need-in-range-requires
+in-range-requires c κs = search needs
+
+returns : tie.Need-returns
+returns c = no-gauges _ _ (c .before .in-range .ensures) (not-true _ (c .if1 .taken))
+
+in-range-requires-2 : tie.Need-in-range-requires-2
+in-range-requires-2 c κs = search needs
+
+returns-2 : tie.Need-returns-2
+returns-2 c = no-cases _ _ _ (c .before .before .before .in-range .ensures) (not-false _ (c .before .before .if1 .left)) (c .before .in-range2 .ensures) (not-true _ (c .if2 .taken))
+
+rows-fit-requires : tie.Need-rows-fit-requires
+rows-fit-requires c κs = (range-is 64 _ (sym (c .before .before .before .before .in-range .ensures) ∙ not-false _ (c .before .before .before .if1 .left)) .1, range-is 64 _ (sym (c .before .before .in-range2 .ensures) ∙ not-false _ (c .before .if2 .left)) .1, search needs)
+
+returns-3 : tie.Need-returns-3
+returns-3 c = no-rows _ _ _ _ (c .before .before .before .before .before .before .in-range .ensures) (not-false _ (c .before .before .before .before .before .if1 .left)) (c .before .before .before .before .in-range2 .ensures) (not-false _ (c .before .before .before .if2 .left)) (c .before .rows-fit .ensures) (not-true _ (c .if3 .taken))
+
+returns-4 : tie.Need-returns-4
+returns-4 c = all-pass _ _ _ _ (c .before .before .before .before .before .before .in-range .ensures) (not-false _ (c .before .before .before .before .before .if1 .left)) (c .before .before .before .before .in-range2 .ensures) (not-false _ (c .before .before .before .if2 .left)) (c .before .rows-fit .ensures) (not-false _ (c .if3 .left))
+
+pub check-table-spec : {M : Type 1} → statement M
+check-table-spec =
+    tie.close
+    (tie.spec
+    in-range-requires
+    returns
+    in-range-requires-2
+    returns-2
+    rows-fit-requires
+    returns-3
+    returns-4)

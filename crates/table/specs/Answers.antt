@@ -1,0 +1,53 @@
+-- What an entry answers, in 01's words: the number of the refusal, 0 where nothing is refused, and the values beside it, which are
+-- blank on a refusal. Each answer of the code is read through a definition here, and no two answers read alike.
+use mathlib.Core.Bool.{Bool, cond}
+use Prim.Native.Nat.{ℕ}
+use lib.Dec.{eqb}
+use Rattle.table.specs.declared.Refusal.{Refusal}
+use Rattle.table.specs.declared.Refusal.the-variants.{FileTooLong, NotTheBanner, LineTooLong, SizeFields, SizeRange, PairFields, PairRange, PairRepeated, PairCount, TableShape, TableRows, ChainCount, ChainPairs, NotAChain, NotReached, BufferTooShort, NoSuchComment, BudgetTooLarge}
+use Rattle.table.specs.declared.Verdict.{Verdict}
+use Rattle.table.specs.declared.Verdict.the-variants.{Accepted, Refused}
+use Rattle.table.specs.declared.Table.{Table}
+use Rattle.table.specs.declared.Made.{Made}
+
+-- the number of a refusal in 01, "Refused, by the place of the check"
+abbrev pub number : Refusal → ℕ
+number FileTooLong = 1
+number NotTheBanner = 2
+number LineTooLong = 3
+number SizeFields = 4
+number SizeRange = 5
+number PairFields = 6
+number PairRange = 7
+number PairRepeated = 8
+number PairCount = 9
+number TableShape = 10
+number TableRows = 11
+number ChainCount = 12
+number ChainPairs = 13
+number NotAChain = 14
+number NotReached = 15
+number BufferTooShort = 16
+number NoSuchComment = 17
+number BudgetTooLarge = 18
+
+-- an answer: 01's number, 0 where nothing is refused, and the value
+pub record Answer (A : Type 0) : Type 0 where
+  pub refusal : ℕ
+  pub value : A
+
+-- the answer whose refusal is n, with the value where n is 0 and the blank one where it is not
+abbrev pub answer : {A : Type 0} → ℕ → A → A → Answer A
+answer n value blank = record { refusal = n; value = cond (eqb n 0) value blank }
+
+-- the answer of a refusal
+abbrev pub refused : {A : Type 0} → Refusal → A → Answer A
+refused why blank = record { refusal = number why; value = blank }
+
+-- how the code's answers read
+abbrev pub verdict : Verdict → ℕ
+verdict Accepted = 0
+verdict (Refused x) = number x
+
+abbrev pub made : Made → Answer Table
+made m = record { refusal = verdict (m .verdict); value = m .table }

@@ -1,0 +1,270 @@
+// Response tables and chains as values: the types, the checks of a table and of a chain handed in (01, refusals 10 to 13), and the
+// table with its two sides exchanged. No function has a `requires`, and none is lent memory that it changes.
+use sets;
+ghost use mathlib.Core.Path.{_≡_};
+ghost use mathlib.Core.Logic.{_↔_};
+ghost use mathlib.Core.Bool.{true};
+ghost use Prim.Native.Nat.{ℕ, _≤_, _<_};
+ghost use lib.ListN.{length};
+ghost use lib.Seq.{slice};
+ghost use Rattle.table.specs.Pairs.{Has};
+ghost use Rattle.table.specs.Transposing.{column as columnOf, transpose};
+ghost use Rattle.table.specs.Tables.{inRange, rowsFit, tableRefusal, rowsWithin, chainRefusal, makeTable, blankTable, transposeTable};
+ghost use Rattle.table.specs.Answers.{Answer, answer, refused, verdict, made};
+ghost use Rattle.table.specs.Unions.{union};
+
+// A gauge's number, from 1. A gauge number never stands where a case number belongs (01): the two node classes of source 003.
+pub struct Gauge(pub u64);
+
+// A load case's number, from 1.
+pub struct Case(pub u64);
+
+// A response table: its gauges, its cases, and a row of case bits for each gauge; rows past the last gauge are zero.
+pub struct Table {
+    pub gauges: u64,
+    pub cases: u64,
+    pub rows: [u64; 64],
+}
+
+// A set of pairs of a table, by gauge rows; its row count is the table's number of gauges.
+pub struct Chain {
+    pub gauges: u64,
+    pub rows: [u64; 64],
+}
+
+// The conditions that 01 refuses. `number` in specs/Answers.antt gives each its number there.
+pub enum Refusal {
+    FileTooLong,
+    NotTheBanner,
+    LineTooLong,
+    SizeFields,
+    SizeRange,
+    PairFields,
+    PairRange,
+    PairRepeated,
+    PairCount,
+    TableShape,
+    TableRows,
+    ChainCount,
+    ChainPairs,
+    NotAChain,
+    NotReached,
+    BufferTooShort,
+    NoSuchComment,
+    BudgetTooLarge,
+}
+
+// Whether a check passed, and if not, which refusal it was.
+pub enum Verdict {
+    Accepted,
+    Refused(Refusal),
+}
+
+// A table, or a refusal with the blank table.
+pub struct Made {
+    pub verdict: Verdict,
+    pub table: Table,
+}
+
+impl Table {
+    // The greatest G and L (01: they "belong to the table type").
+    pub const MOST_GAUGES: u64 = 64;
+
+    pub const MOST_CASES: u64 = 64;
+
+    // A table from its rows; 10 and 11 are refused.
+    pub fn from_rows(gauges: u64, cases: u64, rows: [u64; 64]) -> Made
+        ensures { λ r. ⌜ made r ≡ makeTable gauges cases rows ⌝ }
+    {
+        let table = Table {
+            gauges: gauges,
+            cases: cases,
+            rows: rows,
+        };
+        let checked = check_table(table);
+        if let Verdict::Refused(why) = checked {
+            return refuse(why);
+        }
+        Made {
+            verdict: Verdict::Accepted,
+            table: table,
+        }
+    }
+
+    // Whether gauge `g` responds under case `c`, as the rows say; other numbers than 1 to 64 name no pair.
+    pub fn has(self, g: Gauge, c: Case) -> bool
+        ensures { λ r. ⌜ (r ≡ true) ↔ Has (self .rows) (g .0) (c .0) ⌝ }
+    {
+        let gauge = g.0;
+        let case = c.0;
+        if !in_range(gauge, Table::MOST_GAUGES) {
+            return false;
+        }
+        if case < 1 {
+            return false;
+        }
+        let i = (gauge - 1) as usize;
+        let rows = self.rows;
+        let row = rows[i];
+        sets::has(row, case - 1)
+    }
+}
+
+// The check of a table handed in: 10, then 11.
+pub fn check_table(t: Table) -> Verdict
+    ensures { λ r. ⌜ verdict r ≡ tableRefusal t ⌝ }
+{
+    let gauges = t.gauges;
+    let cases = t.cases;
+    let rows = t.rows;
+    if !in_range(gauges, Table::MOST_GAUGES) {
+        return Verdict::Refused(Refusal::TableShape);
+    }
+    if !in_range(cases, Table::MOST_CASES) {
+        return Verdict::Refused(Refusal::TableShape);
+    }
+    if !rows_fit(&rows, gauges, cases) {
+        return Verdict::Refused(Refusal::TableRows);
+    }
+    Verdict::Accepted
+}
+
+// The check of a chain after its table: 10, 11, then 12, then 13.
+pub fn check_chain(t: Table, s: Chain) -> Verdict
+    ensures { λ r. ⌜ verdict r ≡ chainRefusal t s ⌝ }
+{
+    let checked = check_table(t);
+    if let Verdict::Refused(why) = checked {
+        return Verdict::Refused(why);
+    }
+    if s.gauges != t.gauges {
+        return Verdict::Refused(Refusal::ChainCount);
+    }
+    let outer = t.rows;
+    let rows = s.rows;
+    if !rows_within(&outer, &rows) {
+        return Verdict::Refused(Refusal::ChainPairs);
+    }
+    Verdict::Accepted
+}
+
+// The table with gauges and cases exchanged; 10 and 11 are refused.
+pub fn transpose_table(t: Table) -> Made
+    ensures { λ r. ⌜ made r ≡ answer (tableRefusal t) (transposeTable t) blankTable ⌝ }
+{
+    let checked = check_table(t);
+    if let Verdict::Refused(why) = checked {
+        return refuse(why);
+    }
+    let before = t.rows;
+    let rows = transpose_rows(before);
+    let table = Table {
+        gauges: t.cases,
+        cases: t.gauges,
+        rows: rows,
+    };
+    Made {
+        verdict: Verdict::Accepted,
+        table: table,
+    }
+}
+
+// A set of pairs with gauges and cases exchanged, of any 64 rows.
+pub fn transpose_rows(rows: [u64; 64]) -> [u64; 64]
+    ensures { λ r. ⌜ r ≡ transpose 64 rows ⌝ }
+{
+    let mut turned = [0u64; 64];
+    let mut k: u64 = 0;
+    while k < 64 {
+        let at = k as usize;
+        turned[at] = column(&rows, k);
+        k += 1;
+    }
+    turned
+}
+
+// A refusal, with the blank table.
+pub fn refuse(why: Refusal) -> Made
+    ensures { λ r. ⌜ made r ≡ refused why blankTable ⌝ }
+{
+    let rows = [0u64; 64];
+    let table = Table {
+        gauges: 0,
+        cases: 0,
+        rows: rows,
+    };
+    Made {
+        verdict: Verdict::Refused(why),
+        table: table,
+    }
+}
+
+// A number from 1 to `most`.
+pub fn in_range(n: u64, most: u64) -> bool
+    ensures { λ r. ⌜ r ≡ inRange most n ⌝ }
+{
+    if n < 1 {
+        return false;
+    }
+    if most < n {
+        return false;
+    }
+    true
+}
+
+// No bit past the last case, and no row past the last gauge: two unions of rows, with no branch for each row.
+fn rows_fit(rows: &[u64; 64], gauges: u64, cases: u64) -> bool
+    requires { ⌜ (gauges ≤ 64) × (cases ≤ 64) × (length (now rows) ≡ 64) ⌝ }
+    ensures { λ r. ⌜ r ≡ rowsFit gauges cases (now (rows .entry)) ⌝ }
+{
+    let g = gauges as usize;
+    let used = union_of(rows, 0, g);
+    let rest = union_of(rows, g, 64);
+    if !sets::subset(used, sets::lowest(cases)) {
+        return false;
+    }
+    rest == 0
+}
+
+// The cases of the rows from `from` up to, not with, `to`.
+fn union_of(rows: &[u64; 64], from: usize, to: usize) -> u64
+    requires { ⌜ (from ≤ to) × (to ≤ 64) × (length (now rows) ≡ 64) ⌝ }
+    ensures { λ r. ⌜ r ≡ union (slice from to (now (rows .entry))) ⌝ }
+{
+    let mut seen: u64 = 0;
+    let mut i = from;
+    while i < to {
+        seen = seen | rows[i];
+        i += 1;
+    }
+    seen
+}
+
+// Every pair of `rows` is in `outer`.
+fn rows_within(outer: &[u64; 64], rows: &[u64; 64]) -> bool
+    requires { ⌜ (length (now outer) ≡ 64) × (length (now rows) ≡ 64) ⌝ }
+    ensures { λ r. ⌜ r ≡ rowsWithin (now (outer .entry)) (now (rows .entry)) ⌝ }
+{
+    let mut i = 0;
+    while i < 64 {
+        if !sets::subset(rows[i], outer[i]) {
+            return false;
+        }
+        i += 1;
+    }
+    true
+}
+
+// The gauges that respond under the case at place `k`, as a set.
+fn column(rows: &[u64; 64], k: u64) -> u64
+    requires { ⌜ (k < 64) × (length (now rows) ≡ 64) ⌝ }
+    ensures { λ r. ⌜ r ≡ columnOf (now (rows .entry)) k ⌝ }
+{
+    let mut set: u64 = 0;
+    let mut i: usize = 64;
+    while 0 < i {
+        i -= 1;
+        set = set * 2 + (rows[i] >> k) % 2;
+    }
+    set
+}
