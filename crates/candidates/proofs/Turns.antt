@@ -1,0 +1,74 @@
+-- What each answer and each turn says of the tests in specs/Finding.antt.
+use mathlib.Core.Path.{_≡_, refl, sym, ap, _∙_}
+use mathlib.Core.Bool.{Bool, true, false, not, _&&_, _||_}
+use mathlib.Core.List.{List}
+use Prim.Native.Nat.{ℕ, _+_, _≤_, _<_, min}
+use native.Mathlib.Decide.{ℕ-discrete}
+use native.Mathlib.Omega.{arith}
+use lib.Bits.{bitAnd}
+use lib.Dec.{eqb, ltb}
+use borrow.Author.Tests.{lt-ltb, le-ltb, eq-eqb, ne-eqb}
+use Rattle.sets.specs.Sets.{meet, isSubset}
+use Rattle.sets.specs.Lists.{allBelow}
+use Rattle.sets.proofs.Tabulated.{all-fails, all-done}
+use Rattle.table.specs.Pairs.{row}
+use Rattle.candidates.specs.Finding.{remainderIn, blocks, candidateIn, First}
+
+-- ---- blocks
+pub blocks-out : (x y : ℕ) (l t : Bool) → t ≡ isSubset x y → t ≡ false → false ≡ blocks x y l
+unfolding blocks
+blocks-out x y l t e d = rw (← e, d)
+
+pub blocks-more : (x y : ℕ) (l t : Bool) → t ≡ isSubset x y → t ≡ true → (x ≡ y → ⊥) → true ≡ blocks x y l
+unfolding blocks
+blocks-more x y l t e d n = rw (← e, d, ne-eqb x y n)
+
+pub blocks-same : (x y : ℕ) (l t : Bool) → t ≡ isSubset x y → t ≡ true → x ≡ y → l ≡ blocks x y l
+unfolding blocks
+blocks-same x y l t e d s = rw (← e, d, eq-eqb x y s)
+
+-- ---- a candidate
+pub past-places : (unpicked : List ℕ) (left n g : ℕ) → 64 ≤ g → false ≡ candidateIn unpicked left n g
+unfolding candidateIn
+past-places unpicked left n g h = rw (le-ltb g 64 h)
+
+-- the place i does not rule out g
+abbrev pub passes : List ℕ → ℕ → ℕ → ℕ → Bool
+passes unpicked left g i = not (blocks (remainderIn unpicked left g) (remainderIn unpicked left i) (ltb i g))
+
+pub turn-passes : (unpicked : List ℕ) (left g i : ℕ) (t : Bool) → t ≡ blocks (bitAnd (row unpicked g) left) (bitAnd (row unpicked i) left) (ltb i g) → t ≡ false → true ≡ passes unpicked left g i
+unfolding meet
+turn-passes unpicked left g i t e d = ap not (sym d ∙ e)
+
+module _ (unpicked : List ℕ) (left n g : ℕ) (h : g < 64) where
+  abbrev own : ℕ
+  own = bitAnd (row unpicked g) left
+
+  pub empty-remainder : own ≡ 0 → false ≡ candidateIn unpicked left n g
+  unfolding candidateIn meet
+  empty-remainder e = rw (lt-ltb g 64 h, eq-eqb own 0 e)
+
+  candidate-by : (own ≡ 0 → ⊥) → candidateIn unpicked left n g ≡ allBelow (passes unpicked left g) (min n 64)
+  unfolding candidateIn meet
+  candidate-by e = rw (lt-ltb g 64 h, ne-eqb own 0 e)
+
+  pub blocked : (own ≡ 0 → ⊥) → (most i : ℕ) (t : Bool) → most ≡ min n 64 → i < most → t ≡ blocks own (bitAnd (row unpicked i) left) (ltb i g) → t ≡ true → false ≡ candidateIn unpicked left n g
+  unfolding meet
+  blocked e most i t m l d s = all-fails (passes unpicked left g) (min n 64) i false (omega arith) (ap not (sym s ∙ d)) refl ∙ sym (candidate-by e)
+
+  pub unblocked : (own ≡ 0 → ⊥) → (most i : ℕ) → most ≡ min n 64 → allBelow (passes unpicked left g) i ≡ true → i ≡ most → true ≡ candidateIn unpicked left n g
+  unblocked e most i m a d = all-done (passes unpicked left g) i (min n 64) a (d ∙ m) ∙ sym (candidate-by e)
+
+-- ---- the lowest
+pub first-found : (f : ℕ → Bool) (from n g : ℕ) (t : Bool) → from ≤ g → g < n → ((i : ℕ) → from ≤ i → i < g → f i ≡ false) → t ≡ f g → t ≡ true → First f from n g
+first-found f from n g t l h below e d = record { least = below; found = λ k. (l, sym e ∙ d); none = λ k. absurd (omega arith) }
+
+pub first-none : (f : ℕ → Bool) (from n g r : ℕ) → n ≤ g → ((i : ℕ) → from ≤ i → i < g → f i ≡ false) → r ≡ n → First f from n r
+first-none f from n g r h below e = record { least = λ i a b. below i a (omega arith); found = λ k. absurd (omega arith); none = λ k. e }
+
+pub below-next : (f : ℕ → Bool) (from g : ℕ) (t : Bool) → ((i : ℕ) → from ≤ i → i < g → f i ≡ false) → t ≡ f g → t ≡ false → (i : ℕ) → from ≤ i → i < g + 1 → f i ≡ false
+below-next f from g t below e d i a b = go (ℕ-discrete i g)
+  where
+    go : Dec (i ≡ g) → f i ≡ false
+    go (yes x) = ap f x ∙ sym e ∙ d
+    go (no x) = below i a (omega arith)

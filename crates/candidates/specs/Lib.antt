@@ -1,0 +1,2 @@
+-- What a reader must believe of finding candidates.
+pub mod Finding
