@@ -174,6 +174,9 @@ module _ (r p unpicked : List ℕ) (left : ℕ) (ok : Rows r) (o : After r p unp
     pub search-end : (g < length r → ⊥) → g ≡ length r
     search-end h = s .none (omega (arith, min-eq-left (ok .few))) ∙ min-eq-left (ok .few)
 
+    pub found-candidate : g < length r → T (candidate r p g)
+    found-candidate h = at h
+
     -- from the first place on: the lowest candidate, or none
     pub lowest-found : from ≡ 0 → g < length r → head? (candidates r p) ≡ some g
     unfolding candidates

@@ -1,0 +1,129 @@
+// Extending a chain of a table to the first maximal chain, in gauge order, that contains it (01: "Growing"). Any table and any chain are
+// taken, however malformed; 10 to 14 are refused in 01's order, and a refusal has the blank chain beside it. No maximal chains are listed:
+// each turn picks the lowest candidate that still leaves room for the rest of the chain, at most 64 turns of at most 64 * 64 steps.
+use candidates;
+use judge;
+use judge::Judgement;
+use sets;
+use table::Chain;
+use table::Refusal;
+use table::Table;
+use table::Verdict;
+ghost use mathlib.Core.Path.{_≡_};
+ghost use Prim.Native.Nat.{_≤_, _<_};
+ghost use Rattle.table.specs.Chains.{IsChain};
+ghost use Rattle.table.specs.Tables.{chainRows, chainRefusal};
+ghost use Rattle.table.specs.Answers.{refused};
+ghost use Rattle.candidates.specs.Finding.{First};
+ghost use Rattle.extend.specs.Extending.{extended, blankChain, FirstRows, Extends};
+ghost use Rattle.extend.specs.Steps.{unionTo, fitsIn};
+
+// A maximal chain, or a refusal with the blank chain. `extended` in specs/Extending.antt reads it.
+pub struct Extended {
+    pub verdict: Verdict,
+    pub chain: Chain,
+}
+
+// The first maximal chain of `t` that contains `s`.
+pub fn extend_chain(t: Table, s: Chain) -> Extended
+    ensures { λ r. ⌜ Extends t s (extended r) ⌝ }
+{
+    let judged = judge::judge_chain(t, s);
+    match judged {
+        Judgement::Refused(why) => refuse(why),
+        Judgement::No => refuse(Refusal::NotAChain),
+        Judgement::Yes => {
+            let rows = first_rows(t, s);
+            let chain = Chain {
+                gauges: t.gauges,
+                rows: rows,
+            };
+            Extended {
+                verdict: Verdict::Accepted,
+                chain: chain,
+            }
+        }
+    }
+}
+
+// A refusal, with the blank chain.
+fn refuse(why: Refusal) -> Extended
+    ensures { λ r. ⌜ extended r ≡ refused why blankChain ⌝ }
+{
+    let rows = [0u64; 64];
+    let chain = Chain {
+        gauges: 0,
+        rows: rows,
+    };
+    Extended {
+        verdict: Verdict::Refused(why),
+        chain: chain,
+    }
+}
+
+// The rows of the first maximal chain that contains `s`. `owed` has the rows of `s` whose gauges are still to be picked: a pick whose
+// remainder does not contain them all would leave a pair of `s` out.
+fn first_rows(t: Table, s: Chain) -> [u64; 64]
+    requires { ⌜ (chainRefusal t s ≡ 0) × IsChain (chainRows s) ⌝ }
+    ensures { λ r. ⌜ FirstRows t s r ⌝ }
+{
+    let n = t.gauges as usize;
+    let mut unpicked = t.rows;
+    let mut owed = s.rows;
+    let mut left = sets::lowest(Table::MOST_CASES);
+    let mut rows = [0u64; 64];
+    let mut turns = 0;
+    while turns < n {
+        let all_owed = union_to(&owed, n);
+        let g = next_fitting(&unpicked, left, n, all_owed);
+        if n <= g {
+            return rows;
+        }
+        left = unpicked[g] & left;
+        rows[g] = left;
+        unpicked[g] = 0;
+        owed[g] = 0;
+        turns += 1;
+    }
+    rows
+}
+
+// The lowest place of a gauge that fits, of the first `n`; `n` where there is none.
+fn next_fitting(unpicked: &[u64; 64], left: u64, n: usize, owed: u64) -> usize
+    requires { ⌜ n ≤ 64 ⌝ }
+    ensures { λ r. ⌜ First (fitsIn (now (unpicked .entry)) left n owed) 0 n r ⌝ }
+{
+    let mut g = 0;
+    while g < n {
+        if fits(unpicked, left, n, owed, g) {
+            return g;
+        }
+        g += 1;
+    }
+    n
+}
+
+// Whether the gauge at place `g` is a candidate whose remainder contains `owed`.
+fn fits(unpicked: &[u64; 64], left: u64, n: usize, owed: u64, g: usize) -> bool
+    requires { ⌜ g < 64 ⌝ }
+    ensures { λ r. ⌜ r ≡ fitsIn (now (unpicked .entry)) left n owed g ⌝ }
+{
+    if !sets::subset(owed, unpicked[g] & left) {
+        return false;
+    }
+    candidates::is_candidate(unpicked, left, n, g)
+}
+
+// The cases of the first `n` rows.
+fn union_to(rows: &[u64; 64], n: usize) -> u64
+    requires { ⌜ n ≤ 64 ⌝ }
+    ensures { λ r. ⌜ r ≡ unionTo (now (rows .entry)) n ⌝ }
+{
+    let mut seen: u64 = 0;
+    let mut i = 0;
+    while i < n {
+        seen = seen | rows[i];
+        i += 1;
+    }
+    seen
+}

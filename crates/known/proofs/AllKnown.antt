@@ -1,0 +1,87 @@
+-- The known tables of 01, all in one theorem (`known-tables`). A table's gauge list is had from the list theorem of crate `listing`: the
+-- chains of the leaves of the candidates, in order, are the gauge list of any table, and for a table written out they are computed. Pick
+-- sequences, numbers of pairs and moves are computed from their definitions. K6 and K7 are decided by the tests of crate `judge`, and K8 is
+-- what the greedy choice of crate `listing` gives.
+use mathlib.Core.Path.{_≡_, refl, subst}
+use mathlib.Core.Logic.{_≢_}
+use mathlib.Core.Bool.{Bool, true, false}
+use mathlib.Core.List.{List, [], _∷_, map}
+use Prim.Native.Nat.{ℕ, suc, _-_, _≤_, _<_}
+use native.Mathlib.Omega.{arith}
+use lib.Dec.{T}
+use lib.Count.{onesIn, ones}
+use lib.ListN.{length}
+use Rattle.sets.specs.Sets.{meet, isSubset, isProperSubset}
+use Rattle.sets.specs.Lists.{tabulate, allBelow}
+use Rattle.sets.proofs.Tabulated.{all-at}
+use Rattle.table.specs.declared.Table.{Table}
+use Rattle.table.specs.Pairs.{Within}
+use Rattle.table.specs.Chains.{IsChain}
+use Rattle.table.specs.Tables.{tableRows, rowsFit, tableRefusal, rowsWithin}
+use Rattle.table.proofs.Legality.{legal-of, within-rows}
+use Rattle.table.proofs.Places.{sub-within}
+use Rattle.judge.specs.Tests.{nested, nestedWith, allNested}
+use Rattle.judge.proofs.NestedTest.{chain-of-test}
+use Rattle.judge.proofs.KnownChains.{k6-within, k6-no-chain, k7-within, k7-chain, k7-not-maximal}
+use Rattle.walk.specs.Machine.{fresh, Given, nothing, hands, ends, move, after}
+use Rattle.walk.proofs.Sequences.{All-of}
+use Rattle.listing.specs.PickSequence.{isIn, score, best, takeFrom, pickSeq}
+use Rattle.listing.specs.Lists.{GaugeList}
+use Rattle.listing.specs.Picks.{common, rulesOut, candidate, select, candidates}
+use Rattle.listing.specs.Rules.{chainRow, chainOf}
+use Rattle.listing.proofs.Listed.{chainsInOrder, gauge-list}
+use Rattle.listing.proofs.Growing.{covers, fitting, growFrom, grow, grow-first}
+use Rattle.known.specs.KnownTables.{pairs, count, Entry, Lists, moveOf, k1, k2, k3, k4, k5, Known, K1, K2, K3, K4, K5, K6, K7, K8, K9, K10, Holds, knownTables, AllKnown}
+
+-- ---- the gauge list of a table, from what is computed
+module _ (t : Table) (es : List Entry) where
+  lists : length (t .rows) ≡ 64 → tableRefusal t ≡ 0 → chainsInOrder (tableRows t) ≡ map (λ (e : Entry). e .set) es
+      → map (λ (e : Entry). map suc (pickSeq (e .set))) es ≡ map (λ (e : Entry). e .picks) es → map (λ (e : Entry). count (e .set)) es ≡ map (λ (e : Entry). e .size) es → Lists t es
+  lists n l e p c = record { legal = legal-of t n l; list = subst (GaugeList (tableRows t)) e (gauge-list (tableRows t)); picks = p; sizes = c }
+
+-- ---- 3:2 is a chain of K2
+k8 : List ℕ
+k8 = pairs ([] ∷ [] ∷ (2 ∷ []) ∷ [])
+
+k8-within : Within (tableRows k2) k8
+unfolding k8 rowsWithin isSubset meet
+k8-within = sub-within (tableRows k2) k8 refl (within-rows (tableRows k2) k8 refl)
+
+k8-chain : IsChain k8
+unfolding k8 allNested nestedWith nested allBelow isSubset meet
+k8-chain = chain-of-test k8 refl
+
+-- ---- moves that do not end
+goesOn : Given → Bool
+goesOn nothing = true
+goesOn (hands p) = true
+goesOn ends = false
+
+no-end : (g : Given) → T (goesOn g) → g ≢ ends
+unfolding goesOn
+no-end nothing t e = let z : _≡_ {A = ℕ} 0 1 = cc in omega arith
+no-end (hands p) t e = let z : _≡_ {A = ℕ} 0 1 = cc in omega arith
+no-end ends t e = t
+
+-- none of the first n moves ends, where a test of each of them says so
+none-ends : (t : Table) (n : ℕ) → T (allBelow (λ i. goesOn (move (candidates (tableRows t)) (after (candidates (tableRows t)) i fresh) .given)) n)
+    → (k : ℕ) → 1 ≤ k → k < suc n → moveOf t k .given ≢ ends
+none-ends t n h k l b =
+    no-end (moveOf t k .given) (all-at (λ i. goesOn (move (candidates (tableRows t)) (after (candidates (tableRows t)) i fresh) .given)) n (k - 1) h (omega arith))
+
+-- ---- all of them
+holds : (k : Known) → Holds k
+unfolding tableRefusal rowsFit candidates select candidate rulesOut common isIn isProperSubset isSubset meet allBelow chainOf chainRow tabulate pickSeq takeFrom best score ones onesIn grow growFrom fitting covers k8 goesOn
+holds K1 = lists k1 _ refl refl refl refl refl
+holds K2 = lists k2 _ refl refl refl refl refl
+holds K3 = lists k3 _ refl refl refl refl refl
+holds K4 = lists k4 _ refl refl refl refl refl
+holds K5 = (lists k5 _ refl refl refl refl refl, refl, refl)
+holds K6 = record { within = k6-within; no-chain = k6-no-chain }
+holds K7 = record { within = k7-within; chain = k7-chain; not-maximal = k7-not-maximal }
+holds K8 = record { within = k8-within; chain = k8-chain; first = grow-first (tableRows k2) k8 k8-within k8-chain }
+holds K9 = record { last = refl; sooner = none-ends k2 24 tt }
+holds K10 = (refl, refl, refl, refl)
+
+pub known-tables : AllKnown
+known-tables = All-of Holds knownTables (λ k m. holds k)

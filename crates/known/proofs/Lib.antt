@@ -1,0 +1,2 @@
+-- The known tables, proved.
+pub mod AllKnown

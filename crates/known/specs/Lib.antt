@@ -1,0 +1,2 @@
+-- The known tables of document 01, as statements.
+pub mod KnownTables

@@ -1,0 +1,62 @@
+-- `reader::comment` meets its contract: the part that `comment_at` gives lies in the file, and its bytes are those that are shown.
+use native.Mathlib.Omega.{arith}
+use native.Mathlib.Nat.{add-sub-cancel-left}
+use Rattle.reader.proofs.Lookup.{part-is, part-none, part-inside}
+use borrow.Author.Needs.{needs}
+use Rattle.reader.proofs.comment.Statement.{statement}
+use Rattle.reader.proofs.comment.Tie as tie
+
+comment-at-requires : tie.Need-comment-at-requires
+comment-at-requires c κs = search needs
+
+enum-known-place : tie.Need-enum-known-place
+enum-known-place c = search needs
+
+enum-told : tie.Need-enum-told
+enum-told c = search needs
+
+slice-aggregate-result : tie.Need-slice-aggregate-result
+slice-aggregate-result c = search needs
+
+returns : tie.Need-returns
+returns c =
+    let f = c .before .before .before in
+    rw (← part-none _ _ _ (f .comment-at .ensures) (c .before .enum-told .given .1))
+    (record { block = search needs; offset = search needs; bytes = search needs })
+
+add-result : tie.Need-add-result
+add-result c =
+    let f = c .before .before .before in
+    omega (arith, part-inside (f .before .before .args .file .now) (f .before .before .args .k) _ (f .comment-at .ensures) (c .before .place .given .1))
+
+sub-result : tie.Need-sub-result
+sub-result c = search needs
+
+part-result-start : tie.Need-part-result-start
+part-result-start c = search needs
+
+part-result-end : tie.Need-part-result-end
+part-result-end c =
+    let f = c .before .before .before in
+    omega (arith, part-inside (f .before .before .args .file .now) (f .before .before .args .k) _ (f .comment-at .ensures) (c .before .place .given .1))
+
+returns-2 : tie.Need-returns-2
+returns-2 c =
+    let f = c .before .before .before .before in
+    rw (← part-is _ _ _ (f .comment-at .ensures) (c .before .before .place .given .1))
+    (record { block = search needs; offset = search needs; bytes = rw add-sub-cancel-left })
+
+pub comment-spec : {M : Type 1} → statement M
+comment-spec =
+    tie.close
+    (tie.spec
+    comment-at-requires
+    enum-known-place
+    enum-told
+    slice-aggregate-result
+    returns
+    add-result
+    sub-result
+    part-result-start
+    part-result-end
+    returns-2)

@@ -1,0 +1,50 @@
+-- `reader::comment_at` meets its contract: the reader's answer comes first, and the search starts behind the first line.
+use mathlib.Core.Path.{_∙_}
+use native.Mathlib.Omega.{arith}
+use Rattle.text.proofs.LineAt.{inside}
+use Rattle.reader.proofs.Lookup.{find-start, lookup-refused, lookup-found}
+use borrow.Author.Needs.{needs}
+use Rattle.reader.proofs.comment_at.Statement.{statement}
+use Rattle.reader.proofs.comment_at.Tie as tie
+
+read-requires : tie.Need-read-requires
+read-requires c κs = search needs
+
+line-at-requires : tie.Need-line-at-requires
+line-at-requires c κs = search needs
+
+enum-known-verdict : tie.Need-enum-known-verdict
+enum-known-verdict c = search needs
+
+enum-told : tie.Need-enum-told
+enum-told c = search needs
+
+find-comment-requires : tie.Need-find-comment-requires
+find-comment-requires c κs =
+    let l = c .before .before in
+    omega (arith, inside (l .before .before .before .args .file .now) 0 _ (l .line-at .ensures) (omega arith))
+
+returns : tie.Need-returns
+returns c =
+    let l = c .before .before .before in
+    lookup-refused (l .before .before .before .args .file .now) _ _ (l .before .read .ensures) (c .before .verdict .given .1)
+
+returns-2 : tie.Need-returns-2
+returns-2 c =
+    let l = c .before .before .before in
+    let file = l .before .before .before .args .file .now in
+    c .find-comment .ensures
+    ∙ find-start file _ (l .line-at .ensures) _
+    ∙ lookup-found file _ _ (l .before .read .ensures) (c .before .enum-told .given .1)
+
+pub comment-at-spec : {M : Type 1} → statement M
+comment-at-spec =
+    tie.close
+    (tie.spec
+    read-requires
+    line-at-requires
+    enum-known-verdict
+    enum-told
+    find-comment-requires
+    returns
+    returns-2)

@@ -1,0 +1,86 @@
+-- `reader::head_line` meets its contract: each return has its law of `KindOf`; what no pattern took is neither blank nor three fields.
+use mathlib.Core.List.{[], _∷_}
+use mathlib.Core.Logic.{⊎-elim}
+use native.Mathlib.Omega.{arith}
+use borrow.Author.Tests.{not-true, not-false}
+use denote.Enum.Declared
+use Rattle.text.specs.declared.Fields.{Fields}
+use Rattle.text.specs.declared.Fields.the-variants.{Blank, Two, Three, Other}
+use Rattle.text.proofs.Fields.{the-type}
+use Rattle.reader.proofs.KindOf.{NoSize, head-long, head-comment, head-blank, head-none, head-gauges, head-cases, head-size}
+use borrow.Author.Needs.{needs}
+use Rattle.reader.proofs.head_line.Statement.{statement}
+use Rattle.reader.proofs.head_line.Tie as tie
+
+no-size : (x : Fields) → types.Run.OneOf (1 ∷ 2 ∷ 3 ∷ []) (Declared.tagOf the-type x) → types.Run.OneOf (0 ∷ 1 ∷ 3 ∷ []) (Declared.tagOf the-type x) → NoSize x
+unfolding NoSize
+no-size Blank h k = ⊎-elim (λ e. omega arith) (⊎-elim (λ e. omega arith) (λ e. omega arith)) h
+no-size (Two a b) h k = tt
+no-size (Three a b c) h k = ⊎-elim (λ e. omega arith) (⊎-elim (λ e. omega arith) (λ e. omega arith)) k
+no-size Other h k = tt
+
+returns : tie.Need-returns
+returns c = search (needs, head-long)
+
+is-comment-requires : tie.Need-is-comment-requires
+is-comment-requires c κs = search needs
+
+returns-2 : tie.Need-returns-2
+returns-2 c = search (needs, head-comment)
+
+fields-of-requires : tie.Need-fields-of-requires
+fields-of-requires c κs = search needs
+
+enum-told : tie.Need-enum-told
+enum-told c = search needs
+
+returns-3 : tie.Need-returns-3
+returns-3 c = search (needs, head-blank)
+
+enum-known-f : tie.Need-enum-known-f
+enum-known-f c = search needs
+
+returns-4 : tie.Need-returns-4
+returns-4 c =
+    let f = c .before .before in
+    let k = f .before .before in
+    head-none _ (k .before .if1 .left) _ (k .is-comment .ensures) (f .before .if2 .left) _ (f .fields-of .ensures) (no-size _ (c .before .match .keys2) (c .match2 .keys2))
+
+in-range-requires : tie.Need-in-range-requires
+in-range-requires c κs = search needs
+
+returns-5 : tie.Need-returns-5
+returns-5 c = search (needs, head-gauges, not-true)
+
+in-range-requires-2 : tie.Need-in-range-requires-2
+in-range-requires-2 c κs = search needs
+
+returns-6 : tie.Need-returns-6
+returns-6 c = search (needs, head-cases, not-true, not-false)
+
+returns-7 : tie.Need-returns-7
+returns-7 c =
+    let i = c .before .before .before in
+    let w = i .before .before in
+    let f = w .before .before .before in
+    let k = f .before .before in
+    head-size _ (k .before .if1 .left) _ (k .is-comment .ensures) (f .before .if2 .left) _ (f .fields-of .ensures) _ _ _ (w .f .given .1)
+    _ (i .in-range .ensures) (not-false _ (c .before .before .if3 .left)) _ (c .before .in-range2 .ensures) (not-false _ (c .if4 .left))
+
+pub head-line-spec : {M : Type 1} → statement M
+head-line-spec =
+    tie.close
+    (tie.spec
+    returns
+    is-comment-requires
+    returns-2
+    fields-of-requires
+    enum-told
+    returns-3
+    enum-known-f
+    returns-4
+    in-range-requires
+    returns-5
+    in-range-requires-2
+    returns-6
+    returns-7)

@@ -1,0 +1,124 @@
+-- `reader::read_head` meets its contract: what is still to be read is what the first line behind the banner started with.
+use Prim.Native.Nat.{_≤_, _-_}
+use mathlib.Core.Path.{_≡_, _∙_}
+use borrow.Author.Needs.{needs}
+use native.Mathlib.Omega.{arith}
+use lib.ListN.{length, drop}
+use Rattle.text.specs.Lines.{lines}
+use Rattle.reader.specs.Reading.{readHead}
+use Rattle.text.proofs.LineAt.{Inside, inside}
+use Rattle.reader.proofs.Turns.{HeadTurn, head-absent, head-skip, head-bad, head-range, head-size}
+use Rattle.reader.proofs.read_head.Statement.{statement}
+use Rattle.reader.proofs.read_head.Tie as tie
+
+abbrev Inv-loop : tie.InvT-loop
+Inv-loop file from at₀ at = (at ≤ length file) × (readHead (lines (drop at file)) ≡ readHead (lines (drop from file)))
+
+abbrev μ-loop : tie.MeasureT-loop
+μ-loop file from at₀ at = length file - at
+
+-- the line of a turn, and what the turn starts with
+bounds : (c : tie.After-line-at Inv-loop μ-loop)
+    → Inside (c .before .before .before .before .args .file .now) (c .before .before .loop .at) (c .line-at .result .end) (c .line-at .result .next)
+bounds c =
+    let l = c .before .before in
+    inside (l .before .before .args .file .now) (l .loop .at) (c .line-at .result) (c .line-at .ensures) (l .loop .inv .0)
+
+abbrev at-line : tie.After-head-line Inv-loop μ-loop → tie.After-line-at Inv-loop μ-loop
+at-line c = c .before .before
+
+abbrev round : tie.After-head-line Inv-loop μ-loop → tie.At-loop Inv-loop μ-loop
+round c = at-line c .before .before
+
+abbrev start : tie.After-head-line Inv-loop μ-loop → tie.Start Inv-loop μ-loop
+start c = round c .before .before
+
+turn : (c : tie.After-head-line Inv-loop μ-loop)
+    → HeadTurn (start c .args .file .now) (round c .loop .at) (at-line c .line-at .result) (c .head-line .result)
+    (readHead (lines (drop (start c .args .from) (start c .args .file .now))))
+turn c = record {
+  here = at-line c .before .loop-test .taken;
+  span = at-line c .line-at .ensures;
+  kind = c .head-line .ensures;
+  goal = round c .loop .inv .1;
+}
+
+loop-holds : tie.Need-loop-holds Inv-loop μ-loop
+loop-holds c = search needs
+
+line-at-requires : tie.Need-line-at-requires Inv-loop μ-loop
+line-at-requires c κs = search needs
+
+sub-head-line : tie.Need-sub-head-line Inv-loop μ-loop
+sub-head-line c = bounds c .start
+
+part-head-line-start : tie.Need-part-head-line-start Inv-loop μ-loop
+part-head-line-start c = bounds c .start
+
+part-head-line-end : tie.Need-part-head-line-end Inv-loop μ-loop
+part-head-line-end c = omega (arith, bounds c)
+
+head-line-requires : tie.Need-head-line-requires Inv-loop μ-loop
+head-line-requires c κs = search needs
+
+enum-told : tie.Need-enum-told Inv-loop μ-loop
+enum-told c = search needs
+
+loop-less : tie.Need-loop-less Inv-loop μ-loop
+loop-less c =
+    let l = at-line (c .before .before) in
+    omega (arith, bounds l .moves (l .before .loop-test .taken), bounds l)
+
+loop-again : tie.Need-loop-again Inv-loop μ-loop
+loop-again c = (bounds (c .before .before .before .before) .fits, head-skip (turn (c .before .before)) (c .enum-told .given .1))
+
+enum-known-kind : tie.Need-enum-known-kind Inv-loop μ-loop
+enum-known-kind c = search needs
+
+refuse-requires : tie.Need-refuse-requires Inv-loop μ-loop
+refuse-requires c κs = search needs
+
+returns : tie.Need-returns Inv-loop μ-loop
+returns c = c .refuse .ensures ∙ head-bad (turn (c .before .before .before .before)) (c .before .before .kind .given .1)
+
+enum-known-kind-2 : tie.Need-enum-known-kind-2 Inv-loop μ-loop
+enum-known-kind-2 c = search needs
+
+read-pairs-requires : tie.Need-read-pairs-requires Inv-loop μ-loop
+read-pairs-requires c κs =
+    let k = c .before .before .before in
+    let r = head-range (turn k) (c .before .kind2 .given .1) in
+    (bounds (at-line k) .fits, r .gauge-high, r .case-high)
+
+returns-2 : tie.Need-returns-2 Inv-loop μ-loop
+returns-2 c = c .read-pairs .ensures ∙ head-size (turn (c .before .before .before .before)) (c .before .before .kind2 .given .1)
+
+refuse-requires-2 : tie.Need-refuse-requires-2 Inv-loop μ-loop
+refuse-requires-2 c κs = search needs
+
+returns-3 : tie.Need-returns-3 Inv-loop μ-loop
+returns-3 c = c .refuse2 .ensures ∙ head-absent _ _ _ (c .before .before .loop .inv .1) (c .before .loop-test .left)
+
+pub read-head-spec : {M : Type 1} → statement M
+read-head-spec =
+    tie.close
+    (tie.spec
+    Inv-loop
+    μ-loop
+    loop-holds
+    line-at-requires
+    sub-head-line
+    part-head-line-start
+    part-head-line-end
+    head-line-requires
+    enum-told
+    loop-less
+    loop-again
+    enum-known-kind
+    refuse-requires
+    returns
+    enum-known-kind-2
+    read-pairs-requires
+    returns-2
+    refuse-requires-2
+    returns-3)

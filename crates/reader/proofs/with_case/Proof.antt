@@ -1,0 +1,23 @@
+-- `reader::with_case` meets its contract: the shifted bit is the power of two that `withCase` joins to the row.
+use mathlib.Core.Path.{_∙_, ap}
+use native.Mathlib.Omega.{arith}
+use native.Mathlib.Nat.{one-mul}
+use Prim.Native.Nat.{_-_, _^_}
+use lib.Pow.{shl-exact}
+use Rattle.sets.specs.Sets.{join}
+use borrow.Author.Needs.{needs}
+use Rattle.reader.proofs.with_case.Statement.{statement}
+use Rattle.reader.proofs.with_case.Tie as tie
+
+sub-result : tie.Need-sub-result
+sub-result c = search needs
+
+shl-result : tie.Need-shl-result
+shl-result c = search needs
+
+returns : tie.Need-returns
+unfolding join
+returns c = ap (join (c .before .args .row)) (shl-exact 1 (c .before .args .c .0 - 1) 64 (omega arith) (omega arith) ∙ one-mul (2 ^ (c .before .args .c .0 - 1)))
+
+pub with-case-spec : {M : Type 1} → statement M
+with-case-spec = tie.close (tie.spec sub-result shl-result returns)

@@ -1,0 +1,95 @@
+-- A call on a value handed in, put together: which test failed, or the moves that were made, as `CarriesOn` says it.
+use mathlib.Core.Path.{_≡_, refl, sym, ap, _∙_, subst}
+use mathlib.Core.Bool.{Bool, true, false}
+use mathlib.Core.List.{List, map}
+use Prim.Native.Nat.{ℕ, suc, _≤_, _<_}
+use native.Mathlib.Omega.{arith}
+use lib.ListN.{length, take}
+use Rattle.table.specs.Tables.{noRows}
+use Rattle.walk.specs.Machine.{Phase, State, at}
+use Rattle.walk.specs.Calls.{mostBudget}
+use Rattle.walk.specs.Fitting.{Valid}
+use Rattle.listing.specs.Picks.{candidates}
+use Rattle.runs.specs.Working.{Sized, modePhase, placed, stateOf, HoldsAt, Holds, ComesOut, Advanced, Decides, RestZero, Front, Replays, PhaseIn, StandsFor, Went, CarriedBy, CarriesOn}
+use Rattle.runs.specs.declared.engine.Mode.{Mode}
+use Rattle.runs.specs.declared.engine.Spot.{Spot}
+use Rattle.runs.specs.declared.engine.Fate.{Fate}
+use Rattle.runs.specs.declared.engine.Fate.the-variants.{NotReached, TooLarge, Moves}
+use Rattle.runs.specs.declared.engine.Report.{Report}
+use Rattle.runs.specs.declared.engine.Replayed.{Replayed}
+use Rattle.runs.specs.declared.engine.Carried.{Carried}
+use Rattle.runs.proofs.Holding.{state-is, holds-own}
+use Rattle.runs.proofs.Checking.{no-count, no-rest, no-replay, no-phase, legal-of}
+
+module _ (n : ℕ) (rows k : List ℕ) (count : ℕ) (m : Mode) (b : ℕ) (z : Sized n rows) (size : length k ≡ 64) where
+  abbrev r : List ℕ
+  r = take n rows
+
+  abbrev f : Phase
+  f = modePhase m
+
+  -- a call that fails
+  failed-as : (c′ k′ : List ℕ) (o : Carried) (x : Fate) → o .fate ≡ x → CarriedBy r k count f b c′ k′ o x → CarriesOn r k count f b c′ k′ o
+  failed-as c′ k′ o x e h = record { says = subst (CarriedBy r k count f b c′ k′ o) (sym e) h }
+
+  module _ (c′ k′ : List ℕ) (o : Carried) (e : o .fate ≡ NotReached) where
+    pub many-fails : 64 < count → CarriesOn r k count f b c′ k′ o
+    many-fails h = failed-as c′ k′ o NotReached e (no-count n rows rows rows k count 0 f z size h)
+
+    pub rest-fails : (t : Bool) → Decides (RestZero k count) t → t ≡ false → CarriesOn r k count f b c′ k′ o
+    rest-fails t d x = failed-as c′ k′ o NotReached e (no-rest n rows rows rows k count 0 f z size (d .no x))
+
+    pub replay-fails : (rows′ u c : List ℕ) (s : Replayed) → rows′ ≡ rows → Replays (take n rows′) u c k count s → s .ok ≡ false → CarriesOn r k count f b c′ k′ o
+    replay-fails rows′ u c s w d x =
+        failed-as c′ k′ o NotReached e (no-replay n rows u c k count 0 f z size (subst (λ (y : List ℕ). (p : List ℕ) → take count k ≡ map suc p → Valid (candidates (take n y)) p → ⊥) w (d .no x)))
+
+  -- the tests passed: the front of the picks is all of them
+  module _ (rows′ u c : List ℕ) (s : Replayed) (w : rows′ ≡ rows) (few : count ≤ 64) (d : Replays (take n rows′) u c k count s) (ok : s .ok ≡ true) where
+    front : Front r u c k count (s .left)
+    front = subst (λ (y : List ℕ). Front (take n y) u c k count (s .left)) w (d .yes ok)
+
+    pub phase-fails : (c′ k′ : List ℕ) (o : Carried) → o .fate ≡ NotReached → (t : Bool) → Decides (PhaseIn u (s .left) n count f) t → t ≡ false → CarriesOn r k count f b c′ k′ o
+    phase-fails c′ k′ o e t p x = failed-as c′ k′ o NotReached e (no-phase n rows u c k count (s .left) f z size front few (p .no x))
+
+    module _ (a t : Bool) (da : Decides (RestZero k count) a) (ha : a ≡ true) (dt : Decides (PhaseIn u (s .left) n count f) t) (ht : t ≡ true) where
+      from : State
+      from = at (front .picks) (placed f)
+
+      legal : StandsFor r k count f from
+      unfolding from
+      legal = legal-of n rows u c k count (s .left) f z size front few (da .yes ha) (dt .yes ht)
+
+      pub budget-fails : (c′ k′ : List ℕ) (o : Carried) → o .fate ≡ TooLarge → mostBudget < b → CarriesOn r k count f b c′ k′ o
+      budget-fails c′ k′ o e l = failed-as c′ k′ o TooLarge e (l, (from, legal))
+
+      abbrev spot : Spot
+      spot = record { count = count; left = s .left; mode = m }
+
+      standing : HoldsAt r u c k spot from
+      unfolding from
+      standing = record {
+        after = front .after;
+        size = front .size;
+        chained = front .chained;
+        picked = legal .picked;
+        counted = legal .counted;
+        phased = legal .phased;
+        fits = legal .fits;
+      }
+
+      pub may-advance : Holds n rows u c k spot
+      may-advance = holds-own standing
+
+      pub went-on : (u′ c′ k′ : List ℕ) (p : Report) → b ≤ mostBudget → Advanced n rows u′ c′ k′ b (stateOf k spot) p
+          → CarriesOn r k count f b c′ k′ (record { fate = Moves (p .done); moves = p .moves; count = p .spot .count; mode = p .spot .mode })
+      went-on u′ c′ k′ p l h = record {
+        says = record {
+          from = from;
+          legal = legal;
+          budget = l;
+          to = stateOf k′ (p .spot);
+          comes = subst (λ (y : State). ComesOut r b y (p .done) (p .moves) (stateOf k′ (p .spot))) (state-is standing) (h .comes);
+          chained = h .holds .chained;
+          stands = record { picked = h .holds .picked; counted = h .holds .counted; phased = h .holds .phased; fits = h .holds .fits };
+        };
+      }

@@ -1,0 +1,11 @@
+-- Laws that belong to no one function.
+pub mod Padding
+pub mod Holding
+pub mod Stepping
+pub mod Advancing
+pub mod Checking
+pub mod Carrying
+pub mod Answered
+pub mod Sides
+pub mod Demands
+pub mod SideCalls

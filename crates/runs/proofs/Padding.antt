@@ -1,0 +1,94 @@
+-- Lists in arrays of 64: a list with zeros behind it, one entry more, one fewer, one changed; and picks by number and by place.
+use mathlib.Core.Path.{_≡_, refl, sym, ap, ap₂, _∙_, subst}
+use mathlib.Core.List.{List, [], _∷_, _++_, map}
+use Prim.Native.Nat.{ℕ, zero, suc, _+_, _-_, _≤_, _<_}
+use native.Mathlib.Decide.{ℕ-discrete, decLt}
+use native.Mathlib.Omega.{arith}
+use lib.ListN.{length, getD, set, take, drop, replicate, length-append, length-set, length-replicate, getD-replicate, List·getD-append, List·getD-eq-default}
+use lib.Seq.{ext-getD, set-append-left, getD-append-add, getD-append-seam, getD-set-same, getD-set-other, take-append-seam}
+use Rattle.runs.specs.Paused.{padded}
+
+pub pad-length : (xs : List ℕ) → length xs ≤ 64 → length (padded xs) ≡ 64
+pad-length xs h = omega (arith, length-append xs (replicate (64 - length xs) 0), length-replicate {A = ℕ} (64 - length xs) 0)
+
+-- the zeros behind are what stands past the end
+pub pad-getD : (xs : List ℕ) (i : ℕ) → getD (padded xs) i 0 ≡ getD xs i 0
+pad-getD xs i = go (decLt i (length xs))
+  where
+    zeros : (n j : ℕ) → _≡_ {A = ℕ} (getD (replicate n 0) j 0) 0
+    zeros n j = back (decLt j n)
+      where
+        back : Dec (j < n) → _≡_ {A = ℕ} (getD (replicate n 0) j 0) 0
+        back (yes l) = getD-replicate n j 0 0 l
+        back (no l) = List·getD-eq-default (replicate n 0) 0 (omega (arith, length-replicate {A = ℕ} n 0))
+
+    go : Dec (i < length xs) → getD (padded xs) i 0 ≡ getD xs i 0
+    go (yes l) = List·getD-append xs (replicate (64 - length xs) 0) 0 i l
+    go (no l) =
+        let e : length xs + (i - length xs) ≡ i = omega arith in
+        ap (λ (j : ℕ). getD (padded xs) j 0) (sym e) ∙ getD-append-add xs (replicate (64 - length xs) 0) (i - length xs) 0 ∙ zeros (64 - length xs) (i - length xs)
+        ∙ sym (List·getD-eq-default xs 0 (omega arith))
+
+pub pad-ext : (xs ys : List ℕ) → length xs ≡ 64 → length ys ≤ 64 → ((i : ℕ) → getD xs i 0 ≡ getD ys i 0) → xs ≡ padded ys
+pad-ext xs ys n h f = ext-getD 0 xs (padded ys) (n ∙ sym (pad-length ys h)) (λ i l. f i ∙ sym (pad-getD ys i))
+
+pub pad-set : (xs : List ℕ) (i a : ℕ) → i < length xs → set (padded xs) i a ≡ padded (set xs i a)
+pad-set xs i a l = set-append-left xs (replicate (64 - length xs) 0) i a l ∙ ap (λ (n : ℕ). set xs i a ++ replicate (64 - n) 0) (sym (length-set xs i a))
+
+length-one : (xs : List ℕ) (a : ℕ) → length (xs ++ (a ∷ [])) ≡ suc (length xs)
+length-one xs a = omega (arith, length-append xs (a ∷ []))
+
+-- an entry more, at the first zero
+pub pad-snoc : (xs : List ℕ) (a : ℕ) → length xs < 64 → set (padded xs) (length xs) a ≡ padded (xs ++ (a ∷ []))
+pad-snoc xs a h =
+    pad-ext (set (padded xs) (length xs) a) (xs ++ (a ∷ [])) (length-set (padded xs) (length xs) a ∙ pad-length xs (omega arith)) (omega (arith, length-one xs a)) (λ i.
+    go i (ℕ-discrete i (length xs)) (decLt i (length xs)))
+  where
+    go : (i : ℕ) → Dec (i ≡ length xs) → Dec (i < length xs) → getD (set (padded xs) (length xs) a) i 0 ≡ getD (xs ++ (a ∷ [])) i 0
+    go i (yes e) d =
+        ap (λ (j : ℕ). getD (set (padded xs) (length xs) a) j 0) e ∙ getD-set-same (padded xs) (length xs) a 0 (omega (arith, pad-length xs (omega arith)))
+        ∙ sym (ap (λ (j : ℕ). getD (xs ++ (a ∷ [])) j 0) e ∙ getD-append-seam xs a [] 0)
+    go i (no e) (yes l) = getD-set-other (padded xs) (length xs) i a 0 e ∙ pad-getD xs i ∙ sym (List·getD-append xs (a ∷ []) 0 i l)
+    go i (no e) (no l) =
+        getD-set-other (padded xs) (length xs) i a 0 e ∙ pad-getD xs i ∙ List·getD-eq-default xs 0 (omega arith)
+        ∙ sym (List·getD-eq-default (xs ++ (a ∷ [])) 0 (omega (arith, length-one xs a)))
+
+-- and the last entry cleared
+pub pad-unsnoc : (xs : List ℕ) (a : ℕ) → length xs < 64 → set (padded (xs ++ (a ∷ []))) (length xs) 0 ≡ padded xs
+pad-unsnoc xs a h =
+    pad-ext (set (padded (xs ++ (a ∷ []))) (length xs) 0) xs (length-set (padded (xs ++ (a ∷ []))) (length xs) 0 ∙ pad-length (xs ++ (a ∷ [])) (omega (arith, length-one xs a))) (omega arith) (λ i.
+    go i (ℕ-discrete i (length xs)) (decLt i (length xs)))
+  where
+    go : (i : ℕ) → Dec (i ≡ length xs) → Dec (i < length xs) → getD (set (padded (xs ++ (a ∷ []))) (length xs) 0) i 0 ≡ getD xs i 0
+    go i (yes e) d =
+        ap (λ (j : ℕ). getD (set (padded (xs ++ (a ∷ []))) (length xs) 0) j 0) e
+        ∙ getD-set-same (padded (xs ++ (a ∷ []))) (length xs) 0 0 (omega (arith, pad-length (xs ++ (a ∷ [])) (omega (arith, length-one xs a)), length-one xs a))
+        ∙ sym (List·getD-eq-default xs 0 (omega arith))
+    go i (no e) (yes l) = getD-set-other (padded (xs ++ (a ∷ []))) (length xs) i 0 0 e ∙ pad-getD (xs ++ (a ∷ [])) i ∙ List·getD-append xs (a ∷ []) 0 i l
+    go i (no e) (no l) =
+        getD-set-other (padded (xs ++ (a ∷ []))) (length xs) i 0 0 e ∙ pad-getD (xs ++ (a ∷ [])) i ∙ List·getD-eq-default (xs ++ (a ∷ [])) 0 (omega (arith, length-one xs a))
+        ∙ sym (List·getD-eq-default xs 0 (omega arith))
+
+-- ---- numbers and places
+pub length-numbers : (p : List ℕ) → length (map suc p) ≡ length p
+length-numbers [] = refl
+length-numbers (g ∷ p) = ap suc (length-numbers p)
+
+pub places-numbers : (p : List ℕ) → map (λ x. x - 1) (map suc p) ≡ p
+places-numbers [] = refl
+places-numbers (g ∷ p) = let e : suc g - 1 ≡ g = omega arith in ap₂ (λ (x : ℕ) (l : List ℕ). x ∷ l) e (places-numbers p)
+
+pub numbers-snoc : (p : List ℕ) (g : ℕ) → map suc (p ++ (g ∷ [])) ≡ map suc p ++ (suc g ∷ [])
+numbers-snoc [] g = refl
+numbers-snoc (x ∷ p) g = ap (λ (l : List ℕ). suc x ∷ l) (numbers-snoc p g)
+
+pub take-padded : (xs : List ℕ) (n : ℕ) → n ≡ length xs → take n (padded xs) ≡ xs
+take-padded xs n e = ap (λ (m : ℕ). take m (padded xs)) e ∙ take-append-seam xs (replicate (64 - length xs) 0)
+
+-- a list that is not empty ends with something
+pub last-split : (p : List ℕ) → 0 < length p → (q : List ℕ) × (g : ℕ) × (p ≡ q ++ (g ∷ []))
+last-split [] h = absurd (omega arith)
+last-split (x ∷ []) h = ([], x, refl)
+last-split (x ∷ (y ∷ p)) h =
+    let (q, g, e) = last-split (y ∷ p) (omega arith) in
+    (x ∷ q, g, ap (λ (l : List ℕ). x ∷ l) e)

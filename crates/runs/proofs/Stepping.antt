@@ -1,0 +1,237 @@
+-- One move of the core, as its functions make it: what each answer of `step` and `take_back` says of the rules, from the facts that the
+-- code has where it answers.
+use mathlib.Core.Path.{_≡_, refl, sym, ap, ap₂, _∙_, subst}
+use mathlib.Core.Bool.{Bool, true, false}
+use mathlib.Core.Option.{some}
+use mathlib.Core.List.{List, [], _∷_, _++_, head?, map}
+use Prim.Native.Nat.{ℕ, zero, suc, _+_, _-_, _^_, _≤_, _<_, min}
+use native.Mathlib.Decide.{decLt}
+use native.Mathlib.Omega.{arith}
+use lib.Bits.{bitAnd}
+use lib.ListN.{length, getD, set, take}
+use lib.Seq.{getD-take, length-take-le}
+use Rattle.sets.specs.Sets.{_⊆_, lowest}
+use Rattle.sets.proofs.Order.{zero-sub}
+use Rattle.table.specs.Pairs.{row}
+use Rattle.table.proofs.Places.{row-past}
+use Rattle.walk.specs.Machine.{Phase, Down, Handed, Back, Ended, State, at, Move, gives, nothing, hands, ends, cutLast, takeBack, pick, down, back, above, move}
+use Rattle.walk.specs.Fitting.{Valid, Fits}
+use Rattle.walk.proofs.Trees.{cut-snoc}
+use Rattle.listing.specs.Picks.{common, candidate, candidates}
+use Rattle.listing.specs.Rules.{chainOf}
+use Rattle.listing.proofs.Candidates.{Cand, cand-of}
+use Rattle.candidates.specs.Finding.{candidateIn, First}
+use Rattle.candidates.proofs.AfterPicks.{full, Rows, After, lowest-found, lowest-none, above-found, above-none, found-candidate}
+use Rattle.runs.specs.Paused.{padded, numbered}
+use Rattle.runs.specs.Working.{Sized, modePhase, placed, stateOf, HoldsAt, Holds, TakesBack, NumberAt, leftAfter, spotDown, Stepped}
+use Rattle.runs.specs.declared.engine.Mode.{Mode}
+use Rattle.runs.specs.declared.engine.Mode.the-variants.{Down as modeDown, Handed as modeHanded, Back as modeBack, Ended as modeEnded}
+use Rattle.runs.specs.declared.engine.Spot.{Spot}
+use Rattle.runs.specs.declared.engine.Moved.{Moved}
+use Rattle.runs.specs.declared.engine.Moved.the-variants.{On, Out, Over}
+use Rattle.runs.proofs.Padding.{last-split}
+use Rattle.runs.proofs.Holding.{stepped-on, stepped-out, stepped-over, full-is, common-none, room, holds-pick, few, last-count, last-below, last-number, holds-back, left-back, number-back}
+
+-- ---- the side's rows
+module _ (n : ℕ) (rows : List ℕ) (z : Sized n rows) where
+  pub side-length : length (take n rows) ≡ n
+  side-length = length-take-le n rows (omega (arith, z .size, z .few))
+
+  pub side-rows : Rows (take n rows)
+  side-rows = record { few = omega (arith, side-length, z .few); inside = λ i. go i (decLt i n) }
+    where
+      go : (i : ℕ) → Dec (i < n) → row (take n rows) i ⊆ full
+      go i (yes l) = subst (λ (x : ℕ). x ⊆ full) (sym (getD-take n rows i 0 l)) (z .inside i)
+      go i (no l) = subst (λ (x : ℕ). x ⊆ full) (sym (row-past (take n rows) i (omega (arith, side-length)))) (zero-sub full)
+
+valid-back : (kids : List ℕ → List ℕ) (p : List ℕ) (m : Phase) → TakesBack m → Fits kids p (placed m) → Valid kids p
+valid-back kids p Down t f = absurd t
+valid-back kids p Handed t f = f .0
+valid-back kids p (Back k) t f = f .0
+valid-back kids p Ended t f = absurd t
+
+-- ---- taking back
+module _ (n : ℕ) (rows u c k : List ℕ) (s : Spot) (z : Sized n rows) (h : Holds n rows u c k s) (t : TakesBack (modePhase (s .mode))) where
+  abbrev r : List ℕ
+  r = take n rows
+
+  abbrev x : State
+  x = stateOf k s
+
+  valid : Valid (candidates r) (x .picks)
+  valid = valid-back (candidates r) (x .picks) (modePhase (s .mode)) t (h .fits)
+
+  -- no pick: the end
+  pub back-end : s .count ≡ 0 → Stepped n rows u c k (takeBack (cutLast (x .picks))) (Over (record { count = 0; left = 2 ^ 64 - 1; mode = modeEnded }))
+  back-end e =
+      stepped-over n rows u c k (takeBack (cutLast (x .picks))) (record { count = 0; left = 2 ^ 64 - 1; mode = modeEnded }) (at [] Ended)
+      (record {
+        after = record { entry = λ i. after′ .entry i; remains = sym full-is ∙ sym (common-none r full) };
+        size = h .size;
+        chained = subst (λ (p : List ℕ). c ≡ padded (chainOf r p)) none (h .chained);
+        picked = subst (λ (p : List ℕ). k ≡ padded (map suc p)) none (h .picked);
+        counted = refl;
+        phased = refl;
+        fits = refl;
+      })
+      (ap (λ (p : List ℕ). takeBack (cutLast p)) none)
+    where
+      none : x .picks ≡ []
+      none = empty (x .picks) (omega (arith, h .counted))
+        where
+          empty : (p : List ℕ) → length p ≡ 0 → p ≡ []
+          empty [] d = refl
+          empty (y ∷ p) d = absurd (omega arith)
+
+      after′ : After r [] u (s .left)
+      after′ = subst (λ (p : List ℕ). After r p u (s .left)) none (h .after)
+
+  module _ (l : 0 < s .count) where
+    abbrev Last : Type 0
+    Last = (q : List ℕ) × (g : ℕ) × (x .picks ≡ q ++ (g ∷ []))
+
+    last : Last
+    last = last-split (x .picks) (omega (arith, h .counted))
+
+    -- the facts of the last pick's number
+    pub record LastFacts : Type 0 where
+      pub index : s .count - 1 < 64
+      pub low : 1 ≤ getD k (s .count - 1) 0
+      pub high : getD k (s .count - 1) 0 ≤ n
+      pub place : getD k (s .count - 1) 0 - 1 < 64
+
+    pub last-facts : LastFacts
+    last-facts = go last
+      where
+        go : Last → LastFacts
+        go (q, g, e) =
+            let i : s .count - 1 ≡ length q = omega (arith, last-count r u c k (side-rows n rows z) s x h q g e valid) in
+            let m : getD k (s .count - 1) 0 ≡ suc g = ap (λ (j : ℕ). getD k j 0) i ∙ last-number r u c k (side-rows n rows z) s x h q g e valid in
+            let b : g < n = omega (arith, last-below r u c k (side-rows n rows z) s x h q g e valid, side-length n rows z) in
+            let f : length q < 64 = few r u c k (side-rows n rows z) s x h q g e valid in
+            record { index = omega arith; low = omega arith; high = omega arith; place = omega (arith, z .few) }
+
+    module _ (j number g′ : ℕ) (ej : j ≡ s .count - 1) (en : number ≡ getD k j 0) (eg : g′ ≡ number - 1) where
+      pub back-number : NumberAt (set k j 0) j
+      back-number = go last
+        where
+          go : Last → NumberAt (set k j 0) j
+          go (q, g, e) =
+              let i : j ≡ length q = omega (arith, last-count r u c k (side-rows n rows z) s x h q g e valid) in
+              rw i (number-back r u c k (side-rows n rows z) s x h q g e valid)
+
+      pub back-on : (left : ℕ) → left ≡ leftAfter (set c g′ 0) (set k j 0) j
+          → Stepped n rows (set u g′ (getD rows g′ 0)) (set c g′ 0) (set k j 0) (takeBack (cutLast (x .picks))) (On (record { count = j; left = left; mode = modeBack number }))
+      back-on left el = go last
+        where
+          go : Last → Stepped n rows (set u g′ (getD rows g′ 0)) (set c g′ 0) (set k j 0) (takeBack (cutLast (x .picks))) (On (record { count = j; left = left; mode = modeBack number }))
+          go (q, g, e) =
+              let i : j ≡ length q = omega (arith, last-count r u c k (side-rows n rows z) s x h q g e valid) in
+              let m : number ≡ suc g = en ∙ ap (λ (j : ℕ). getD k j 0) i ∙ last-number r u c k (side-rows n rows z) s x h q g e valid in
+              let a : g′ ≡ g = omega arith in
+              let w : getD rows g′ 0 ≡ row r g = ap (λ (y : ℕ). getD rows y 0) a ∙ sym (getD-take n rows g 0 (omega (arith, last-below r u c k (side-rows n rows z) s x h q g e valid, side-length n rows z))) in
+              let d : left ≡ common r q full = el ∙ ap₂ (λ (y b : ℕ). leftAfter (set c y 0) (set k b 0) b) a i ∙ left-back r u c k (side-rows n rows z) s x h q g e valid in
+              stepped-on n rows (set u g′ (getD rows g′ 0)) (set c g′ 0) (set k j 0) (takeBack (cutLast (x .picks))) (record { count = j; left = left; mode = modeBack number }) (at q (Back g))
+              (rw (w, a, i, m) (holds-back r u c k (side-rows n rows z) s x h q g e valid left d))
+              (ap (λ (p : List ℕ). takeBack (cutLast p)) e ∙ ap takeBack (cut-snoc q g))
+
+-- ---- the moves
+module _ (n : ℕ) (rows u c k : List ℕ) (s : Spot) (z : Sized n rows) (h : Holds n rows u c k s) where
+  abbrev side : List ℕ
+  side = take n rows
+
+  abbrev now : State
+  now = stateOf k s
+
+  -- the search looks at the side's candidates
+  searched : (from g : ℕ) → First (candidateIn u (s .left) n) from (min n 64) g → First (candidateIn u (s .left) (length side)) from (min (length side) 64) g
+  searched from g f = subst (λ (m : ℕ). First (candidateIn u (s .left) m) from (min m 64) g) (sym (side-length n rows z)) f
+
+  picked-on : (g : ℕ) → Valid (candidates side) (now .picks) → Cand side (now .picks) g → move (candidates side) now ≡ pick (now .picks) g
+      → (u′ c′ k′ : List ℕ) (s′ : Spot) → u′ ≡ set u g 0 → c′ ≡ set c g (bitAnd (getD u g 0) (s .left)) → k′ ≡ set k (s .count) (g + 1)
+      → s′ ≡ spotDown (s .count + 1) (bitAnd (getD u g 0) (s .left)) → Stepped n rows u′ c′ k′ (move (candidates side) now) (On s′)
+  picked-on g v cand e u′ c′ k′ s′ eu ec ek es =
+      stepped-on n rows u′ c′ k′ (move (candidates side) now) s′ (at (now .picks ++ (g ∷ [])) Down)
+      (rw (eu, ec, ek, es) (holds-pick side u c k (side-rows n rows z) s now h v g cand)) e
+
+  module _ (from g : ℕ) (f : First (candidateIn u (s .left) n) from (min n 64) g) where
+    found : g < n → Cand side (now .picks) g
+    found l = cand-of side (now .picks) g (found-candidate side (now .picks) u (s .left) (side-rows n rows z) (h .after) from g (searched from g f) (omega (arith, side-length n rows z)))
+
+    -- Down
+    module _ (e : s .mode ≡ modeDown) where
+      down-is : move (candidates side) now ≡ down (now .picks) (head? (candidates side (now .picks)))
+      down-is = ap (λ (m : Mode). move (candidates side) (at (now .picks) (placed (modePhase m)))) e
+
+      down-valid : Valid (candidates side) (now .picks)
+      down-valid = subst (λ (m : Mode). Fits (candidates side) (now .picks) (placed (modePhase m))) e (h .fits)
+
+      pub down-room : g < n → (s .count < 64) × (g < 64)
+      down-room l = (omega (arith, h .counted, room side u c k (side-rows n rows z) s now h down-valid g (found l)), omega (arith, z .few))
+
+      pub down-on : from ≡ 0 → g < n → (u′ c′ k′ : List ℕ) (s′ : Spot) → u′ ≡ set u g 0 → c′ ≡ set c g (bitAnd (getD u g 0) (s .left)) → k′ ≡ set k (s .count) (g + 1)
+          → s′ ≡ spotDown (s .count + 1) (bitAnd (getD u g 0) (s .left)) → Stepped n rows u′ c′ k′ (move (candidates side) now) (On s′)
+      down-on z0 l =
+          picked-on g down-valid (found l)
+          (down-is ∙ ap (down (now .picks)) (lowest-found side (now .picks) u (s .left) (side-rows n rows z) (h .after) from g (searched from g f) z0 (omega (arith, side-length n rows z))))
+
+      pub down-out : from ≡ 0 → (g < n → ⊥) → Stepped n rows u c k (move (candidates side) now) (Out (record { count = s .count; left = s .left; mode = modeHanded }))
+      down-out z0 l =
+          stepped-out n rows u c k (move (candidates side) now) (record { count = s .count; left = s .left; mode = modeHanded }) (at (now .picks) Handed)
+          (record { after = h .after; size = h .size; chained = h .chained; picked = h .picked; counted = h .counted; phased = refl; fits = (down-valid, none) })
+          (down-is ∙ ap (λ (q : List ℕ). down (now .picks) (head? q)) none)
+        where
+          none : candidates side (now .picks) ≡ []
+          none = lowest-none side (now .picks) u (s .left) (side-rows n rows z) (h .after) from g (searched from g f) z0 (λ d. l (omega (arith, side-length n rows z)))
+
+    -- Back from the gauge whose number is `from`
+    module _ (e : s .mode ≡ modeBack from) where
+      back-is : move (candidates side) now ≡ back (now .picks) (head? (above (from - 1) (candidates side (now .picks))))
+      back-is = ap (λ (m : Mode). move (candidates side) (at (now .picks) (placed (modePhase m)))) e
+
+      back-fits : Fits (candidates side) (now .picks) (Back (from - 1))
+      back-fits = subst (λ (m : Mode). Fits (candidates side) (now .picks) (placed (modePhase m))) e (h .fits)
+
+      number-low : from ≡ suc (from - 1)
+      number-low = go (now .phase) (sym (ap modePhase e) ∙ h .phased)
+        where
+          go : (f : Phase) → Back from ≡ numbered f → from ≡ suc (from - 1)
+          go Down d = let w : _≡_ {A = ℕ} 0 1 = cc in absurd (omega arith)
+          go Handed d = let w : _≡_ {A = ℕ} 0 1 = cc in absurd (omega arith)
+          go (Back i) d = let w : from ≡ suc i = cc in omega arith
+          go Ended d = let w : _≡_ {A = ℕ} 0 1 = cc in absurd (omega arith)
+
+      pub back-room : g < n → (s .count < 64) × (g < 64)
+      back-room l = (omega (arith, h .counted, room side u c k (side-rows n rows z) s now h (back-fits .0) g (found l)), omega (arith, z .few))
+
+      pub back-pick : g < n → (u′ c′ k′ : List ℕ) (s′ : Spot) → u′ ≡ set u g 0 → c′ ≡ set c g (bitAnd (getD u g 0) (s .left)) → k′ ≡ set k (s .count) (g + 1)
+          → s′ ≡ spotDown (s .count + 1) (bitAnd (getD u g 0) (s .left)) → Stepped n rows u′ c′ k′ (move (candidates side) now) (On s′)
+      back-pick l =
+          picked-on g (back-fits .0) (found l)
+          (back-is ∙ ap (back (now .picks)) (above-found side (now .picks) u (s .left) (side-rows n rows z) (h .after) from g (searched from g f) (from - 1) number-low (omega (arith, side-length n rows z))))
+
+      -- none above: the pick before is taken back
+      pub back-none : (g < n → ⊥) → move (candidates side) now ≡ takeBack (cutLast (now .picks))
+      back-none l =
+          back-is
+          ∙ ap (λ (q : List ℕ). back (now .picks) (head? q)) (above-none side (now .picks) u (s .left) (side-rows n rows z) (h .after) from g (searched from g f) (from - 1) number-low (λ d. l (omega (arith, side-length n rows z))))
+
+  -- Handed: the last pick is taken back
+  pub handed-is : s .mode ≡ modeHanded → move (candidates side) now ≡ takeBack (cutLast (now .picks))
+  handed-is e = ap (λ (m : Mode). move (candidates side) (at (now .picks) (placed (modePhase m)))) e
+
+  -- Ended: end again
+  pub ended-over : s .mode ≡ modeEnded → Stepped n rows u c k (move (candidates side) now) (Over s)
+  ended-over e = record { says = (ended, h) }
+    where
+      phase-is : now .phase ≡ Ended
+      phase-is = ap (λ (m : Mode). placed (modePhase m)) e
+
+      ended : move (candidates side) now ≡ gives ends now
+      ended = ap (λ (f : Phase). move (candidates side) (at (now .picks) f)) phase-is ∙ sym (ap (λ (f : Phase). gives ends (at (now .picks) f)) phase-is)
+
+pub stepped-as : (n : ℕ) (rows u c k : List ℕ) (m o : Move) (r : Moved) → m ≡ o → Stepped n rows u c k o r → Stepped n rows u c k m r
+stepped-as n rows u c k m o r e h = subst (λ (y : Move). Stepped n rows u c k y r) (sym e) h
+
+pub takes-back : (m o : Mode) → m ≡ o → TakesBack (modePhase o) → TakesBack (modePhase m)
+takes-back m o e t = subst (λ (y : Mode). TakesBack (modePhase y)) (sym e) t

@@ -1,0 +1,96 @@
+-- Run calls (01, "A run call has a budget ..", refusals 10, 11, 15 and 18) and demand 3 for them. A call's answer, of either side, reads as a
+-- `Step`; `Called` says what it is for every paused value and budget; `Calls` says it of a list of calls, each from the value that the
+-- last unrefused call returned; and `KeepsDemand`, which each fresh start promises, is demand 3 of crate `listing` for every such list.
+use mathlib.Core.Path.{_≡_}
+use mathlib.Core.List.{List, [], _∷_, map}
+use Prim.Native.Nat.{ℕ, _<_}
+use Rattle.table.specs.Tables.{noRows, chainRows, tableRefusal}
+use Rattle.table.specs.Answers.{number}
+use Rattle.table.specs.declared.Table.{Table}
+use Rattle.table.specs.declared.Chain.{Chain}
+use Rattle.walk.specs.Machine.{State, fresh}
+use Rattle.walk.specs.Calls.{Answer, refused, spent, handed, end, Call}
+use Rattle.listing.specs.Lists.{Side}
+use Rattle.listing.specs.Rules.{ReachedOn, callOn}
+use Rattle.listing.specs.Demand.{Demand, TwoLists}
+use Rattle.runs.specs.Paused.{Value, padded, paused, blankValue, gaugeValue, caseValue}
+use Rattle.runs.specs.declared.Outcome.{Outcome}
+use Rattle.runs.specs.declared.Outcome.the-variants.{HandedOut, Spent, End, Refused}
+use Rattle.runs.specs.declared.GaugeStep.{GaugeStep}
+use Rattle.runs.specs.declared.CaseStep.{CaseStep}
+
+-- the answer of a call: 01's answer, the moves, the chain by gauge rows, and the next paused value
+pub record Step : Type 0 where
+  pub answer : Answer
+  pub moves : ℕ
+  pub chain : Chain
+  pub next : Value
+
+-- ---- how the two structs read
+-- 01's answer for each outcome: a refusal by its number, a hand-out by its rows
+abbrev pub outcome : Outcome → List ℕ → Answer
+outcome HandedOut rows = handed rows
+outcome Spent rows = spent
+outcome End rows = end
+outcome (Refused x) rows = refused (number x)
+
+abbrev pub gaugeStep : GaugeStep → Step
+gaugeStep r = record { answer = outcome (r .outcome) (chainRows (r .chain)); moves = r .moves; chain = r .chain; next = gaugeValue (r .next) }
+
+abbrev pub caseStep : CaseStep → Step
+caseStep r = record { answer = outcome (r .outcome) (chainRows (r .chain)); moves = r .moves; chain = r .chain; next = caseValue (r .next) }
+
+-- ---- what a call answers
+abbrev pub blankChain : Chain
+blankChain = record { gauges = 0; rows = noRows }
+
+-- "A refusal yields its number and nothing else"
+abbrev pub refusal : ℕ → Step
+refusal n = record { answer = refused n; moves = 0; chain = blankChain; next = blankValue }
+
+-- what the rules give for a call on the table t: the chain stands by gauge rows where one is handed out, and is blank elsewhere
+abbrev pub byRules : Table → Answer → ℕ → State → Step
+byRules t (refused n) k s = refusal n
+byRules t spent k s = record { answer = spent; moves = k; chain = blankChain; next = paused t s }
+byRules t (handed x) k s = record { answer = handed x; moves = k; chain = record { gauges = t .gauges; rows = padded x }; next = paused t s }
+byRules t end k s = record { answer = end; moves = k; chain = blankChain; next = paused t s }
+
+abbrev pub told : Table → Call → Step
+told t c = byRules t (c .answer) (c .moves) (c .next)
+
+-- v is the paused value of the state s, and some number of moves from a fresh start leads to s
+pub record PausedAt (side : Table → Side) (v : Value) (s : State) : Type 0 where
+  pub reached : ReachedOn (side (v .table)) s
+  pub stands : v ≡ paused (v .table) s
+
+-- r is the answer of a call on the side of v's table, with the budget b: 10 and 11 for the table; then 15 for "a value that no number of
+-- moves, 0 included, from a fresh start on its table leads to"; then, with 18 in it, what rules 1 to 5 give
+pub record Called (side : Table → Side) (v : Value) (b : ℕ) (r : Step) : Type 0 where
+  pub table : 0 < tableRefusal (v .table) → r ≡ refusal (tableRefusal (v .table))
+  pub value : tableRefusal (v .table) ≡ 0 → ((s : State) → PausedAt side v s → ⊥) → r ≡ refusal 15
+  pub rules : tableRefusal (v .table) ≡ 0 → (s : State) → PausedAt side v s → r ≡ told (v .table) (callOn (side (v .table)) b s)
+
+-- ---- a list of calls
+-- the value that the next call gets: a refused call changes nothing
+abbrev pub kept : Answer → Value → Value → Value
+kept (refused n) v next = v
+kept spent v next = next
+kept (handed x) v next = next
+kept end v next = next
+
+abbrev pub Calls : (Table → Side) → Value → List ℕ → List Step → Type 0
+Calls side v [] [] = Unit {0}
+Calls side v [] (r ∷ rs) = ⊥
+Calls side v (b ∷ bs) [] = ⊥
+Calls side v (b ∷ bs) (r ∷ rs) = Called side v b r × Calls side (kept (r .answer) v (r .next)) bs rs
+
+-- demand 3 of a list of calls on the side of the table t, with budgets bs and answers rs
+pub record RunDemand (side : Table → Side) (t : Table) (bs : List ℕ) (rs : List Step) : Type 0 where
+  pub calls : List Call
+  pub answers : rs ≡ map (told t) calls
+  pub demand : Demand (side t) bs calls
+  pub lists : TwoLists t
+
+-- every list of calls from the fresh value of the table t, which 10 and 11 do not refuse
+abbrev pub KeepsDemand : (Table → Side) → Table → Type 0
+KeepsDemand side t = tableRefusal t ≡ 0 → (bs : List ℕ) (rs : List Step) → Calls side (paused t fresh) bs rs → RunDemand side t bs rs

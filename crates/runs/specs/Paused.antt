@@ -1,0 +1,72 @@
+-- Paused values (01: "A paused run is a value: the table, the gauges picked so far, and a phase"), read from the two structs alike, and the
+-- value of a state of rules 1 to 5 on a table. Picks stand by number from 1, in 64 places with zeros behind the last; a state of the
+-- theory has them by place from 0. A value is legal exactly when it is the paused value of a state that some number of moves reaches.
+use mathlib.Core.List.{List, [], _∷_, _++_, map}
+use Prim.Native.Nat.{ℕ, suc, _-_}
+use lib.ListN.{length, replicate}
+use Rattle.table.specs.Tables.{noRows, blankTable}
+use Rattle.table.specs.Answers.{Answer, verdict}
+use Rattle.table.specs.declared.Table.{Table}
+use Rattle.table.specs.declared.Gauge.{Gauge}
+use Rattle.table.specs.declared.Case.{Case}
+use Rattle.walk.specs.Machine.{Phase, Down, Handed, Back, Ended, State}
+use Rattle.runs.specs.declared.Phase.the-variants.{Down as gaugeDown, Handed as gaugeHanded, Back as gaugeBack, Ended as gaugeEnded}
+use Rattle.runs.specs.declared.Phase.{Phase as GaugePhase}
+use Rattle.runs.specs.declared.CasePhase.the-variants.{Down as caseDown, Handed as caseHanded, Back as caseBack, Ended as caseEnded}
+use Rattle.runs.specs.declared.CasePhase.{CasePhase}
+use Rattle.runs.specs.declared.GaugeRun.{GaugeRun}
+use Rattle.runs.specs.declared.CaseRun.{CaseRun}
+use Rattle.runs.specs.declared.GaugeStart.{GaugeStart}
+use Rattle.runs.specs.declared.CaseStart.{CaseStart}
+
+-- a paused value of either side
+pub record Value : Type 0 where
+  pub table : Table
+  pub picks : List ℕ
+  pub count : ℕ
+  pub phase : Phase
+
+-- 64 entries, zeros behind
+abbrev pub padded : List ℕ → List ℕ
+padded xs = xs ++ replicate (64 - length xs) 0
+
+-- the number of a place
+abbrev pub numbered : Phase → Phase
+numbered Down = Down
+numbered Handed = Handed
+numbered (Back i) = Back (suc i)
+numbered Ended = Ended
+
+-- the paused value of a table and a state
+abbrev pub paused : Table → State → Value
+paused t s = record { table = t; picks = padded (map suc (s .picks)); count = length (s .picks); phase = numbered (s .phase) }
+
+-- what stands beside a refusal
+abbrev pub blankValue : Value
+blankValue = record { table = blankTable; picks = noRows; count = 0; phase = Down }
+
+-- ---- how the two structs read
+abbrev pub gaugePhase : GaugePhase → Phase
+gaugePhase gaugeDown = Down
+gaugePhase gaugeHanded = Handed
+gaugePhase (gaugeBack g) = Back (g .0)
+gaugePhase gaugeEnded = Ended
+
+abbrev pub casePhase : CasePhase → Phase
+casePhase caseDown = Down
+casePhase caseHanded = Handed
+casePhase (caseBack c) = Back (c .0)
+casePhase caseEnded = Ended
+
+abbrev pub gaugeValue : GaugeRun → Value
+gaugeValue r = record { table = r .table; picks = r .picks; count = r .count; phase = gaugePhase (r .phase) }
+
+abbrev pub caseValue : CaseRun → Value
+caseValue r = record { table = r .table; picks = r .picks; count = r .count; phase = casePhase (r .phase) }
+
+-- how the fresh starts read: 01's number, 0 where nothing is refused, and the value
+abbrev pub gaugeStarted : GaugeStart → Answer Value
+gaugeStarted s = record { refusal = verdict (s .verdict); value = gaugeValue (s .run) }
+
+abbrev pub caseStarted : CaseStart → Answer Value
+caseStarted s = record { refusal = verdict (s .verdict); value = caseValue (s .run) }

@@ -1,0 +1,56 @@
+-- `text::line_at` meets its contract: the line at the loop's place is the line at the start.
+-- Assumes nothing.
+use Prim.Native.Nat.{_-_}
+use mathlib.Core.Path.{_≡_}
+use borrow.Author.Needs.{needs}
+use native.Mathlib.Omega.{arith}
+use lib.ListN.{length}
+use Rattle.text.specs.Lines.{spanAt}
+use Rattle.text.proofs.LineAt.{span-past, span-end, span-more, end-fits}
+use Rattle.text.proofs.line_at.Statement.{statement}
+use Rattle.text.proofs.line_at.Tie as tie
+
+abbrev Inv-loop : tie.InvT-loop
+Inv-loop file at i₀ i = spanAt file i ≡ spanAt file at
+
+abbrev μ-loop : tie.MeasureT-loop
+μ-loop file at i₀ i = length file - i
+
+loop-holds : tie.Need-loop-holds Inv-loop μ-loop
+loop-holds c = search needs
+
+end-at-requires : tie.Need-end-at-requires Inv-loop μ-loop
+end-at-requires c κs = search needs
+
+add-t7 : tie.Need-add-t7 Inv-loop μ-loop
+add-t7 c = omega (arith, end-fits _ _ _ (c .before .end-at .ensures) (c .before .before .loop-test .taken))
+
+returns : tie.Need-returns Inv-loop μ-loop
+returns c = search (needs, span-end)
+
+add-i : tie.Need-add-i Inv-loop μ-loop
+add-i c = search needs
+
+loop-less : tie.Need-loop-less Inv-loop μ-loop
+loop-less c = search needs
+
+loop-again : tie.Need-loop-again Inv-loop μ-loop
+loop-again c = search (needs, span-more)
+
+returns-2 : tie.Need-returns-2 Inv-loop μ-loop
+returns-2 c = search (needs, span-past)
+
+pub line-at-spec : {M : Type 1} → statement M
+line-at-spec =
+    tie.close
+    (tie.spec
+    Inv-loop
+    μ-loop
+    loop-holds
+    end-at-requires
+    add-t7
+    returns
+    add-i
+    loop-less
+    loop-again
+    returns-2)

@@ -1,0 +1,68 @@
+-- The file as the code writes it, part by part, and the answers of `write`: one law for each of its returns.
+use Prim.Native.Nat.{ℕ, _+_, _≤_, _<_}
+use mathlib.Core.Path.{_≡_, ap, sym, _∙_, subst}
+use mathlib.Core.List.{List, [], _++_, append-assoc}
+use native.Mathlib.Omega.{arith}
+use lib.ListN.{length, drop, length-append}
+use lib.Seq.{sets-eq}
+use borrow.Author.Tests.{ne-eqb, lt-ltb, le-ltb}
+use Rattle.table.specs.Tables.{tableRefusal}
+use Rattle.table.specs.Answers.{number, refused}
+use Rattle.table.specs.declared.Refusal.{Refusal}
+use Rattle.table.specs.declared.Refusal.the-variants.{BufferTooShort}
+use Rattle.table.specs.declared.Table.{Table}
+use Rattle.table.proofs.Answering.{number-pos, answer-refused, answer-given}
+use Rattle.writer.specs.Writing.{digits, pairs, writeFile, writeRefusal, writeAnswer, bufferAfter}
+use Rattle.writer.specs.Steps.{Wrote, pairsAt, rowsFrom, fileBytes, IsTotals}
+use Rattle.writer.specs.declared.Totals.{Totals}
+use Rattle.writer.proofs.Counting.{Small, counting-small}
+
+-- ---- the parts of the file
+pub file-length : (t : Table) (n : ℕ) → length (fileBytes t n)
+    ≡ 52 + length (digits (t .gauges)) + length (digits (t .cases)) + length (digits n) + length (rowsFrom (t .cases) (t .gauges) (t .rows) 0)
+file-length t n = simp length-append (omega arith)
+
+pub file-is : (t : Table) (s : Totals) → IsTotals (pairsAt (t .cases) (t .gauges) (t .rows) 0) s → fileBytes t (s .count) ≡ writeFile t
+unfolding writeFile
+file-is t s h = ap (λ (n : ℕ). fileBytes t n) (h .pairs) ∙ simp append-assoc
+
+pub totals-small : (t : Table) (s : Totals) → IsTotals (pairsAt (t .cases) (t .gauges) (t .rows) 0) s → t .cases ≤ 64 → t .gauges ≤ 64 → Small (s .count) (s .size)
+totals-small t s h c g =
+    counting-small (t .cases) (t .gauges) (t .rows) {ps = []} (record { pairs = omega (arith, h .pairs); bytes = omega (arith, h .bytes) }) c g
+
+pub size-is : (t : Table) (s : Totals) → IsTotals (pairsAt (t .cases) (t .gauges) (t .rows) 0) s → (a b d : ℕ)
+    → a ≡ length (digits (t .gauges)) → b ≡ length (digits (t .cases)) → d ≡ length (digits (s .count)) → 52 + a + b + d + s .size ≡ length (writeFile t)
+size-is t s h a b d p q r = omega (arith, file-length t (s .count), ap length (file-is t s h), h .bytes, p, q, r)
+
+pub wrote-is : (t : Table) (s : Totals) {l m : List ℕ} {r : ℕ} → IsTotals (pairsAt (t .cases) (t .gauges) (t .rows) 0) s
+    → Wrote l 0 (fileBytes t (s .count)) m r → Wrote l 0 (writeFile t) m r
+wrote-is t s {l} {m} {r} h w = subst (λ (v : List ℕ). Wrote l 0 v m r) (file-is t s h) w
+
+-- ---- the answers
+module _ (t : Table) (n : ℕ) where
+  pub table-refused : (x : Refusal) → number x ≡ tableRefusal t → writeRefusal t n ≡ number x
+  unfolding writeRefusal
+  table-refused x e = rw (← e, ne-eqb (number x) 0 (λ z. omega (arith, number-pos x)))
+
+  pub too-short : tableRefusal t ≡ 0 → n < length (writeFile t) → writeRefusal t n ≡ number BufferTooShort
+  unfolding writeRefusal
+  too-short e h = rw (e, lt-ltb n (length (writeFile t)) h)
+
+  pub long-enough : tableRefusal t ≡ 0 → length (writeFile t) ≤ n → writeRefusal t n ≡ 0
+  unfolding writeRefusal
+  long-enough e h = rw (e, le-ltb n (length (writeFile t)) h)
+
+-- a refusal leaves the buffer as it was
+pub write-refused : (t : Table) (out : List ℕ) (x : Refusal) → writeRefusal t (length out) ≡ number x
+    → (refused x 0 ≡ writeAnswer t (length out)) × (out ≡ bufferAfter t out)
+write-refused t out x e = (answer-refused x (writeRefusal t (length out)) (length (writeFile t)) 0 (sym e), sym (rw (e, ne-eqb (number x) 0 (λ z. omega (arith, number-pos x)))))
+
+-- the file, and behind it what was there
+pub write-done : (t : Table) (out m : List ℕ) (r : ℕ) → writeRefusal t (length out) ≡ 0 → length (writeFile t) ≤ length out → Wrote out 0 (writeFile t) m r
+    → (record { refusal = 0; value = r } ≡ writeAnswer t (length out)) × (m ≡ bufferAfter t out)
+write-done t out m r e h w =
+    let n : r ≡ length (writeFile t) = omega (arith, w .place) in
+    let z : 0 + length (writeFile t) ≡ length (writeFile t) = omega arith in (
+      rw n (answer-given (writeRefusal t (length out)) (length (writeFile t)) 0 e),
+      w .bytes ∙ sets-eq (writeFile t) out 0 (omega arith) ∙ ap (λ (k : ℕ). writeFile t ++ drop k out) z ∙ sym (rw e),
+    )

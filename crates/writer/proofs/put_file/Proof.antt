@@ -1,0 +1,51 @@
+-- `writer::put_file` meets its contract: the file is its banner's line, its size line and its pairs, one behind the other.
+use Prim.Native.Nat.{ℕ, _+_, _≤_}
+use mathlib.Core.List.{List, _++_}
+use native.Mathlib.Omega.{arith}
+use lib.ListN.{length}
+use Rattle.writer.specs.Steps.{sizeBytes, rowsFrom}
+use Rattle.writer.proofs.Stores.{front-room, rest-room, wrote-both}
+use borrow.Author.Needs.{needs}
+use Rattle.writer.proofs.put_file.Statement.{statement}
+use Rattle.writer.proofs.put_file.Tie as tie
+
+-- the file behind its banner
+abbrev rest : tie.Start → List ℕ
+rest s = sizeBytes (s .args .t .gauges) (s .args .t .cases) (s .args .count) ++ rowsFrom (s .args .t .cases) (s .args .t .gauges) (s .args .t .rows) 0
+
+-- there is room for it
+behind-banner : (b : tie.After-put-bytes)
+    → b .put-bytes .result + length (rest (b .before .before .before .before .before .before)) ≤ length (b .put-bytes .last .0)
+behind-banner b =
+    let s = b .before .before .before .before .before .before in
+    rest-room (b .put-bytes .ensures) (rest s) (omega (arith, s .pre .3))
+
+put-bytes-requires : tie.Need-put-bytes-requires
+put-bytes-requires c κs = search needs
+
+put-size-requires : tie.Need-put-size-requires
+put-size-requires c κs =
+    let b = c .before .before .before in
+    let s = b .before .before .before .before .before .before in
+    let t = s .args .t in
+    (s .pre .0, s .pre .1, s .pre .2, front-room _ _ (sizeBytes (t .gauges) (t .cases) (s .args .count)) (rowsFrom (t .cases) (t .gauges) (t .rows) 0) (behind-banner b))
+
+put-rows-requires : tie.Need-put-rows-requires
+put-rows-requires c κs =
+    let q = c .before .before .before in
+    let b = q .before .before .before .before in
+    let s = b .before .before .before .before .before .before in
+    (s .pre .0, s .pre .1, rest-room (q .put-size .ensures) _ (behind-banner b))
+
+same-length : tie.Need-same-length
+same-length c = search needs
+
+returns : tie.Need-returns
+returns c =
+    let r = c .before .before in
+    let q = r .before .before .before .before in
+    let b = q .before .before .before .before in
+    wrote-both (b .put-bytes .ensures) (wrote-both (q .put-size .ensures) (r .put-rows .ensures))
+
+pub put-file-spec : {M : Type 1} → statement M
+put-file-spec = tie.close (tie.spec put-bytes-requires put-size-requires put-rows-requires same-length returns)

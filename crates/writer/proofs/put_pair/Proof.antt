@@ -1,0 +1,27 @@
+-- `writer::put_pair` meets its contract: the line is two fields, one behind the other.
+use native.Mathlib.Omega.{arith}
+use Rattle.writer.specs.Steps.{fieldBytes}
+use Rattle.writer.proofs.Stores.{front-room, rest-room, wrote-both}
+use borrow.Author.Needs.{needs}
+use Rattle.writer.proofs.put_pair.Statement.{statement}
+use Rattle.writer.proofs.put_pair.Tie as tie
+
+put-field-requires : tie.Need-put-field-requires
+put-field-requires c κs = let s = c .before .before in (omega arith, front-room _ _ (fieldBytes (s .args .g) 32) (fieldBytes (s .args .c) 10) (s .pre .2))
+
+put-field-requires-2 : tie.Need-put-field-requires-2
+put-field-requires-2 c κs =
+    let p = c .before .before .before in
+    (omega arith, rest-room (p .put-field .ensures) _ (p .before .before .before .pre .2))
+
+same-length : tie.Need-same-length
+same-length c = search needs
+
+returns : tie.Need-returns
+returns c =
+    let q = c .before .before in
+    let p = q .before .before .before .before in
+    wrote-both (p .put-field .ensures) (q .put-field2 .ensures)
+
+pub put-pair-spec : {M : Type 1} → statement M
+put-pair-spec = tie.close (tie.spec put-field-requires put-field-requires-2 same-length returns)

@@ -1,0 +1,74 @@
+-- `writer::put_rows` meets its contract: at each row what is stored and what is still to be stored are the lines of the rows (`Writing`).
+use mathlib.Core.Path.{_≡_}
+use lib.ListN.{length}
+use Prim.Native.Nat.{_-_, _≤_}
+use native.Mathlib.Omega.{arith}
+use Rattle.writer.specs.Steps.{rowsFrom}
+use Rattle.writer.proofs.Stores.{Writing, writing-start, writing-step, writing-done}
+use Rattle.writer.proofs.PairLines.{rows-end, rows-next, rows-room}
+use borrow.Author.Needs.{needs}
+use Rattle.writer.proofs.put_rows.Statement.{statement}
+use Rattle.writer.proofs.put_rows.Tie as tie
+
+abbrev Inv-loop : tie.InvT-loop
+Inv-loop out₀ at gauges cases rows p₀ i₀ out p i =
+    (i ≤ gauges) × Writing out₀ at (rowsFrom cases gauges rows 0) out p (rowsFrom cases gauges rows i)
+
+abbrev μ-loop : tie.MeasureT-loop
+μ-loop out₀ at gauges cases rows p₀ i₀ out p i = gauges - i
+
+rows-length : (c : tie.Start Inv-loop μ-loop) → length (c .args .t3) ≡ 64
+rows-length c = search needs
+
+loop-holds : tie.Need-loop-holds Inv-loop μ-loop
+loop-holds c = (omega arith, writing-start)
+
+mul-row : tie.Need-mul-row Inv-loop μ-loop
+mul-row c = omega arith
+
+array-read-row : tie.Need-array-read-row Inv-loop μ-loop
+array-read-row c = omega arith
+
+add-put-row : tie.Need-add-put-row Inv-loop μ-loop
+add-put-row c = omega arith
+
+put-row-requires : tie.Need-put-row-requires Inv-loop μ-loop
+put-row-requires c κs =
+    let l = c .before .before in
+    let s = l .before .before in
+    (omega arith, omega arith, rows-room _ _ _ _ (l .loop .inv .1) (c .before .loop-test .taken) (omega (arith, rows-length s)) (s .pre .2))
+
+add-i : tie.Need-add-i Inv-loop μ-loop
+add-i c = omega arith
+
+loop-less : tie.Need-loop-less Inv-loop μ-loop
+loop-less c = omega arith
+
+loop-again : tie.Need-loop-again Inv-loop μ-loop
+loop-again c =
+    let p = c .before .before in
+    let l = p .before .before .before in
+    (omega arith, writing-step (l .loop .inv .1) (rows-next _ _ _ _ (p .before .before .loop-test .taken) (omega (arith, rows-length (l .before .before)))) (p .put-row .ensures))
+
+same-length : tie.Need-same-length Inv-loop μ-loop
+same-length c = c .before .loop .inv .1 .same
+
+returns : tie.Need-returns Inv-loop μ-loop
+returns c = writing-done (c .before .loop .inv .1) (rows-end _ _ _ _ (c .loop-test .left))
+
+pub put-rows-spec : {M : Type 1} → statement M
+put-rows-spec =
+    tie.close
+    (tie.spec
+    Inv-loop
+    μ-loop
+    loop-holds
+    mul-row
+    array-read-row
+    add-put-row
+    put-row-requires
+    add-i
+    loop-less
+    loop-again
+    same-length
+    returns)

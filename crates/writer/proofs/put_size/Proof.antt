@@ -1,0 +1,38 @@
+-- `writer::put_size` meets its contract: the line is three fields, one behind the other.
+use mathlib.Core.List.{_++_}
+use native.Mathlib.Omega.{arith}
+use Rattle.writer.specs.Steps.{fieldBytes}
+use Rattle.writer.proofs.Stores.{front-room, rest-room, wrote-both}
+use borrow.Author.Needs.{needs}
+use Rattle.writer.proofs.put_size.Statement.{statement}
+use Rattle.writer.proofs.put_size.Tie as tie
+
+put-field-requires : tie.Need-put-field-requires
+put-field-requires c κs =
+    let s = c .before .before in
+    (omega arith, front-room _ _ (fieldBytes (s .args .gauges) 32) (fieldBytes (s .args .cases) 32 ++ fieldBytes (s .args .count) 10) (s .pre .3))
+
+put-field-requires-2 : tie.Need-put-field-requires-2
+put-field-requires-2 c κs =
+    let p = c .before .before .before in
+    let s = p .before .before .before in
+    (omega arith, front-room _ _ (fieldBytes (s .args .cases) 32) (fieldBytes (s .args .count) 10) (rest-room (p .put-field .ensures) _ (s .pre .3)))
+
+put-field-requires-3 : tie.Need-put-field-requires-3
+put-field-requires-3 c κs =
+    let q = c .before .before .before in
+    let p = q .before .before .before .before in
+    (omega arith, rest-room (q .put-field2 .ensures) _ (rest-room (p .put-field .ensures) _ (p .before .before .before .pre .3)))
+
+same-length : tie.Need-same-length
+same-length c = search needs
+
+returns : tie.Need-returns
+returns c =
+    let r = c .before .before in
+    let q = r .before .before .before .before in
+    let p = q .before .before .before .before in
+    wrote-both (p .put-field .ensures) (wrote-both (q .put-field2 .ensures) (r .put-field3 .ensures))
+
+pub put-size-spec : {M : Type 1} → statement M
+put-size-spec = tie.close (tie.spec put-field-requires put-field-requires-2 put-field-requires-3 same-length returns)

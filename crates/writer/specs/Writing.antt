@@ -1,0 +1,80 @@
+-- The file of a table, and what writing it to a lent buffer does (01, "The file"): "The writer gives banner, size line, then pairs by
+-- gauge and then case: single spaces, no leading zeros, LF everywhere." "It fills the front of the lent buffer, reports the length,
+-- and touches no byte behind." LF is 10, a space is 32, and the digit 0 is 48.
+use Prim.Native.Nat.{ℕ, zero, suc, _+_, _/_, _%_}
+use mathlib.Core.List.{List, [], _∷_, _++_}
+use mathlib.Core.Bool.{true, false, cond}
+use lib.ListN.{length, drop}
+use lib.Dec.{ltb, eqb}
+use Rattle.table.specs.Tables.{tableRefusal, tableRows}
+use Rattle.table.specs.Answers.{Answer, answer, refused, number}
+use Rattle.table.specs.declared.Refusal.the-variants.{BufferTooShort}
+use Rattle.table.specs.declared.Table.{Table}
+use Rattle.reader.specs.Kinds.{banner}
+use Rattle.writer.specs.declared.Written.{Written}
+use Rattle.writer.specs.declared.Written.the-variants.{Length, Refused}
+
+-- how the code's answer reads: the length of the file, 0 beside a refusal
+abbrev pub written : Written → Answer ℕ
+written (Length n) = record { refusal = 0; value = n }
+written (Refused why) = refused why 0
+
+-- n in decimal, of at most k digits, with no leading zero (without the count: `digits-short` and `digits-long` in proofs/Decimals.antt)
+unfoldable pub decimal : ℕ → ℕ → List ℕ
+decimal zero n = []
+decimal (suc k) n = elim (ltb n 10) [ true ↦ (48 + n) ∷ [] | false ↦ decimal k (n / 10) ++ (48 + n % 10) ∷ [] ]
+
+-- every number of a file has at most 9 digits ("A field is 1 to 9 digits")
+abbrev pub digits : ℕ → List ℕ
+digits n = decimal 9 n
+
+-- a pair g:c
+pub record GaugeCase : Type 0 where
+  pub gauge : ℕ
+  pub case : ℕ
+
+-- the pairs of gauge g whose case is one of the n cases from c on; bit 0 of bits is case c
+unfoldable pub rowPairs : ℕ → ℕ → ℕ → ℕ → List GaugeCase
+rowPairs g zero c bits = []
+rowPairs g (suc n) c bits =
+    elim (eqb (bits % 2) 1) [
+      | true ↦ record { gauge = g; case = c } ∷ rowPairs g n (suc c) (bits / 2)
+      | false ↦ rowPairs g n (suc c) (bits / 2)
+    ]
+
+-- the pairs of the rows over cs cases, the first of which is gauge g's
+unfoldable pub pairsFrom : ℕ → ℕ → List ℕ → List GaugeCase
+pairsFrom cs g [] = []
+pairsFrom cs g (r ∷ rows) = rowPairs g cs 1 r ++ pairsFrom cs (suc g) rows
+
+-- the pairs of a table, "by gauge and then case"
+abbrev pub pairs : Table → List GaugeCase
+pairs t = pairsFrom (t .cases) 1 (tableRows t)
+
+-- the pair lines, each with its LF
+abbrev pub pairText : GaugeCase → List ℕ
+pairText p = digits (p .gauge) ++ 32 ∷ digits (p .case)
+
+abbrev pub pairLines : List GaugeCase → List ℕ
+pairLines [] = []
+pairLines (p ∷ ps) = pairText p ++ 10 ∷ pairLines ps
+
+-- the size line `G L N`
+abbrev pub sizeText : Table → List ℕ
+sizeText t = digits (t .gauges) ++ 32 ∷ (digits (t .cases) ++ 32 ∷ digits (length (pairs t)))
+
+-- the file of a table
+unfoldable pub writeFile : Table → List ℕ
+writeFile t = banner ++ 10 ∷ (sizeText t ++ 10 ∷ pairLines (pairs t))
+
+-- 01's number for writing a table to a buffer of n bytes, or 0: "Writer, after its table: 16 buffer shorter than the file"
+unfoldable pub writeRefusal : Table → ℕ → ℕ
+writeRefusal t n = cond (eqb (tableRefusal t) 0) (cond (ltb n (length (writeFile t))) (number BufferTooShort) 0) (tableRefusal t)
+
+-- the answer: the length of the file
+abbrev pub writeAnswer : Table → ℕ → Answer ℕ
+writeAnswer t n = answer (writeRefusal t n) (length (writeFile t)) 0
+
+-- the buffer afterwards: the file and what was behind it, or as it was
+abbrev pub bufferAfter : Table → List ℕ → List ℕ
+bufferAfter t out = cond (eqb (writeRefusal t (length out)) 0) (writeFile t ++ drop (length (writeFile t)) out) out
