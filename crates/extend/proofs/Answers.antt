@@ -14,7 +14,7 @@ use Rattle.sets.proofs.Order.{subset-is}
 use Rattle.sets.proofs.Masks.{below-lowest}
 use Rattle.table.specs.Pairs.{row}
 use Rattle.table.specs.Chains.{IsChain}
-use Rattle.table.specs.Tables.{Legal, tableRows, chainRows, chainRefusal}
+use Rattle.table.specs.Tables.{Legal, tableRows, chainRows, chainRefusal, padded, blankChain}
 use Rattle.table.specs.Answers.{number, Answer, refused}
 use Rattle.table.specs.declared.Table.{Table}
 use Rattle.table.specs.declared.Chain.{Chain}
@@ -30,7 +30,7 @@ use Rattle.judge.proofs.NestedTest.{chain-of-test, test-of-chain}
 use Rattle.listing.specs.Rules.{chainOf}
 use Rattle.listing.proofs.Growing.{grow, grow-first, first-unique}
 use Rattle.candidates.proofs.AfterPicks.{full, Rows}
-use Rattle.extend.specs.Extending.{blankChain, refusedBy, padded, FirstRows, Grown, Extends}
+use Rattle.extend.specs.Extending.{refusedBy, FirstRows, Grown, Extends}
 use Rattle.extend.proofs.Picking.{Picked, picked-start}
 
 -- ---- the rows of a legal table

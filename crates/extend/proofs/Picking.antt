@@ -11,6 +11,7 @@ use lib.Dec.{T}
 use lib.Bits.{bitAnd}
 use lib.ListN.{length, set, length-set, replicate, length-replicate, getD-replicate, replicate-append-replicate}
 use lib.Seq.{ext-getD, append-snoc, set-append-left, getD-set-same, getD-set-other}
+use Rattle.table.specs.Tables.{padded}
 use Rattle.sets.specs.Sets.{meet, isSubset}
 use Rattle.sets.specs.Lists.{allBelow}
 use Rattle.sets.proofs.Tests.{and-l, is-false}
@@ -24,30 +25,11 @@ use Rattle.listing.proofs.Candidates.{cand-of}
 use Rattle.listing.proofs.ChainRows.{row-none, row-chainOf, length-chainOf, chainOf-snoc}
 use Rattle.listing.proofs.Growing.{covers, fitting, growFrom, grow, grow-end, grow-more}
 use Rattle.candidates.specs.Finding.{remainderIn, candidateIn, First}
+use Rattle.table.proofs.Padding.{pad-set}
+use Rattle.candidates.proofs.ChainArrays.{chain-none}
 use Rattle.candidates.proofs.AfterPicks.{full, Rows, After, after-fresh, snoc-hit, snoc-miss, remains-unpicked, candidate-in, after-pick}
-use Rattle.extend.specs.Extending.{padded}
 use Rattle.extend.specs.Steps.{unionTo, fitsIn}
 use Rattle.extend.proofs.Turns.{union-subset}
-
--- ---- 64 rows from a table's
-padded-set : (x : List ℕ) (g v : ℕ) → g < length x → padded (set x g v) ≡ set (padded x) g v
-unfolding padded
-padded-set x g v h = rw (length-set x g v) (sym (set-append-left x (replicate (64 - length x) 0) g v h))
-
-padded-none : (r : List ℕ) → length r ≤ 64 → replicate 64 0 ≡ padded (chainOf r [])
-unfolding padded
-padded-none r h =
-    sym (replicate-append-replicate n (64 - n) 0 ∙ ap (λ (m : ℕ). replicate m 0) all)
-    ∙ ap (λ (x : List ℕ). x ++ replicate (64 - n) 0) (sym empty)
-  where
-    n : ℕ
-    n = length (chainOf r [])
-
-    all : n + (64 - n) ≡ 64
-    all = omega (arith, length-chainOf r [])
-
-    empty : chainOf r [] ≡ replicate n 0
-    empty = ext-getD 0 (chainOf r []) (replicate n 0) (sym (length-replicate n 0)) (λ i b. row-chainOf r [] i ∙ row-none r [] i ∙ sym (getD-replicate n i 0 0 b))
 
 -- ---- what the arrays hold after some turns
 pub record Picked (r s : List ℕ) (n : ℕ) (unpicked owed : List ℕ) (left : ℕ) (rows : List ℕ) (turns : ℕ) : Type 0 where
@@ -70,7 +52,7 @@ picked-start r s unpicked owed n left ok c z zo h ho e = record {
   picks = [];
   after = subst (After r [] unpicked) (sym e) (after-fresh r unpicked h);
   owes = ho;
-  built = padded-none r (ok .few);
+  built = chain-none r (ok .few);
   size = z;
   size-owed = zo;
   front = ap (growFrom r s []) (omega arith);
@@ -181,5 +163,5 @@ module _ (r s : List ℕ) (n : ℕ) (unpicked owed : List ℕ) (left : ℕ) (row
           build : set rows g (bitAnd (row unpicked g) left) ≡ padded (chainOf r (p ++ (g ∷ [])))
           build =
               ap₂ (λ (x : List ℕ) (v : ℕ). set x g v) (k .built) own
-              ∙ sym (padded-set (chainOf r p) g (remainder r p g) (omega (arith, length-chainOf r p, k .count)))
+              ∙ pad-set (chainOf r p) g (remainder r p g) (omega (arith, length-chainOf r p, k .count))
               ∙ ap padded (sym (chainOf-snoc r p g (rw new tt) (omega (arith, k .count))))

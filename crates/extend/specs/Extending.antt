@@ -2,13 +2,12 @@
 -- chain* is 01's "ladder"; the first one that contains a set of pairs is `FirstContaining` of crate `listing`, and there is exactly one for
 -- every chain of the table. So `Extends` leaves one answer to every table and every chain: `extends-unique` in proofs/Answers.antt.
 use mathlib.Core.Path.{_≡_}
-use mathlib.Core.List.{List, _++_}
-use Prim.Native.Nat.{ℕ, _-_}
-use lib.ListN.{length, replicate}
+use mathlib.Core.List.{List}
+use Prim.Native.Nat.{ℕ}
 use Rattle.table.specs.declared.Table.{Table}
 use Rattle.table.specs.declared.Chain.{Chain}
 use Rattle.table.specs.Chains.{IsChain}
-use Rattle.table.specs.Tables.{tableRows, chainRows, chainRefusal, noRows}
+use Rattle.table.specs.Tables.{tableRows, chainRows, chainRefusal, padded, blankChain}
 use Rattle.table.specs.Answers.{Answer, verdict}
 use Rattle.listing.specs.Growing.{FirstContaining}
 use Rattle.extend.specs.declared.Extended.{Extended}
@@ -18,15 +17,8 @@ abbrev pub extended : Extended → Answer Chain
 extended r = record { refusal = verdict (r .verdict); value = r .chain }
 
 -- "A refusal yields its number and nothing else": the chain beside it has no gauges and no pairs
-abbrev pub blankChain : Chain
-blankChain = record { gauges = 0; rows = noRows }
-
 abbrev pub refusedBy : ℕ → Answer Chain
 refusedBy n = record { refusal = n; value = blankChain }
-
--- "A table and a chain each hold their 64 rows as one value; rows past G are zero"
-unfoldable pub padded : List ℕ → List ℕ
-padded x = x ++ replicate (64 - length x) 0
 
 -- the 64 rows are those of the first maximal chain of t that contains s
 pub record FirstRows (t : Table) (s : Chain) (rows : List ℕ) : Type 0 where

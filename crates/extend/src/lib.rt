@@ -12,10 +12,10 @@ use table::Verdict;
 ghost use mathlib.Core.Path.{_≡_};
 ghost use Prim.Native.Nat.{_≤_, _<_};
 ghost use Rattle.table.specs.Chains.{IsChain};
-ghost use Rattle.table.specs.Tables.{chainRows, chainRefusal};
+ghost use Rattle.table.specs.Tables.{chainRows, chainRefusal, blankChain};
 ghost use Rattle.table.specs.Answers.{refused};
 ghost use Rattle.candidates.specs.Finding.{First};
-ghost use Rattle.extend.specs.Extending.{extended, blankChain, FirstRows, Extends};
+ghost use Rattle.extend.specs.Extending.{extended, FirstRows, Extends};
 ghost use Rattle.extend.specs.Steps.{unionTo, fitsIn};
 
 // A maximal chain, or a refusal with the blank chain. `extended` in specs/Extending.antt reads it.

@@ -6,7 +6,7 @@ use mathlib.Core.List.{List, map}
 use Prim.Native.Nat.{ℕ, zero, suc, _-_, _≤_, _<_}
 use native.Mathlib.Omega.{arith}
 use lib.ListN.{length, take}
-use Rattle.table.specs.Tables.{tableRefusal, blankTable}
+use Rattle.table.specs.Tables.{tableRefusal, blankTable, padded, blankChain}
 use Rattle.table.specs.Answers.{number, answer}
 use Rattle.table.specs.declared.Refusal.{Refusal}
 use Rattle.table.specs.declared.Chain.{Chain}
@@ -19,8 +19,8 @@ use Rattle.listing.specs.Lists.{Side}
 use Rattle.listing.specs.Picks.{candidates}
 use Rattle.listing.specs.Rules.{handOut, ReachedOn, callOn}
 use Rattle.listing.proofs.CandidateTree.{reached-fits}
-use Rattle.runs.specs.Paused.{Value, padded, numbered, paused, blankValue}
-use Rattle.runs.specs.Calling.{Step, blankChain, refusal, byRules, told, PausedAt, Called}
+use Rattle.runs.specs.Paused.{Value, numbered, paused, blankValue}
+use Rattle.runs.specs.Calling.{Step, refusal, byRules, told, PausedAt, Called}
 use Rattle.runs.specs.Working.{ComesOut, doneAnswer, StandsFor}
 use Rattle.runs.specs.declared.engine.Done.{Done}
 use Rattle.runs.proofs.Padding.{length-numbers, places-numbers, take-padded}

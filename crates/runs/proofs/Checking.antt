@@ -14,10 +14,11 @@ use lib.Dec.{T, not-T, eqb, leb, ltb}
 use lib.ListN.{length, getD, set, take, drop, length-set, getD-replicate, List·getD-eq-default}
 use lib.Seq.{take-suc, getD-take, take-take, append-snoc, length-take-le, take-all, take-append-le}
 use borrow.Author.Tests.{ltb-true, leb-true, leb-false, eqb-true, eqb-false}
+use Rattle.table.proofs.Padding.{pad-length, pad-getD, pad-ext, pad-set}
 use Rattle.sets.specs.Sets.{meet}
 use Rattle.sets.proofs.Tests.{is-true, is-false}
 use Rattle.table.specs.Pairs.{row}
-use Rattle.table.specs.Tables.{noRows}
+use Rattle.table.specs.Tables.{noRows, padded}
 use Rattle.table.proofs.Places.{row-past}
 use Rattle.walk.specs.Machine.{Phase, Down, Handed, Back, Ended, State, at}
 use Rattle.walk.specs.Fitting.{ValidFrom, Valid, Fits}
@@ -30,13 +31,14 @@ use Rattle.listing.proofs.CandidateTree.{candidate-tree}
 use Rattle.listing.proofs.ChainRows.{chainOf-snoc, length-chainOf, row-unpicked}
 use Rattle.listing.proofs.Unpicked.{un-nil}
 use Rattle.candidates.specs.Finding.{candidateIn, First}
+use Rattle.candidates.proofs.ChainArrays.{chain-none, chain-pick}
 use Rattle.candidates.proofs.AfterPicks.{full, Rows, After, after-fresh, after-pick, candidate-in, remains-unpicked}
-use Rattle.runs.specs.Paused.{padded, numbered}
+use Rattle.runs.specs.Paused.{numbered}
 use Rattle.runs.specs.Working.{Sized, modePhase, placed, Decides, Front, Replays, RestZero, PhaseIn, StandsFor}
 use Rattle.runs.specs.declared.engine.Mode.{Mode}
 use Rattle.runs.specs.declared.engine.Mode.the-variants.{Down as modeDown, Handed as modeHanded, Back as modeBack, Ended as modeEnded}
 use Rattle.runs.specs.declared.engine.Replayed.{Replayed}
-use Rattle.runs.proofs.Padding.{pad-length, pad-getD, pad-ext, pad-set, length-numbers, places-numbers, numbers-snoc, take-padded}
+use Rattle.runs.proofs.Padding.{length-numbers, places-numbers, numbers-snoc, take-padded}
 use Rattle.runs.proofs.Stepping.{side-length, side-rows}
 
 -- ---- a valid sequence, at each of its places
@@ -74,15 +76,6 @@ module _ (n : ℕ) (rows : List ℕ) (z : Sized n rows) where
       go (yes l) = sym (getD-take n rows i 0 l)
       go (no l) = z .rest i (omega arith) ∙ sym (row-past r i (omega (arith, side-length n rows z)))
 
-  chain-none : noRows ≡ padded (chainOf r [])
-  chain-none =
-      pad-ext noRows (chainOf r []) refl (omega (arith, length-chainOf r [], side-length n rows z, z .few)) (λ i.
-      zeros i (decLt i 64) ∙ sym (row-unpicked r [] i (un-nil i)))
-    where
-      zeros : (i : ℕ) → Dec (i < 64) → getD noRows i 0 ≡ 0
-      zeros i (yes l) = getD-replicate 64 i 0 0 l
-      zeros i (no l) = row-past noRows i (omega arith)
-
   pub front-none : (k : List ℕ) (left : ℕ) → left ≡ full → (c : List ℕ) → c ≡ noRows → Front r rows c k 0 left
   front-none k left e c d = record {
     picks = [];
@@ -90,7 +83,7 @@ module _ (n : ℕ) (rows : List ℕ) (z : Sized n rows) where
     valid = tt;
     after = subst (After r [] rows) (sym e) (after-fresh r rows row-side);
     size = z .size;
-    chained = d ∙ chain-none;
+    chained = d ∙ chain-none r (omega (arith, side-length n rows z, z .few));
   }
 
   module _ (u c k : List ℕ) (i left number g : ℕ) (f : Front r u c k i left) (l : i < length k) (en : number ≡ getD k i 0) (pos : number ≡ 0 → ⊥) (eg : g ≡ number - 1) where
@@ -103,9 +96,7 @@ module _ (n : ℕ) (rows : List ℕ) (z : Sized n rows) where
       valid = valid-snoc (candidates r) p g (f .valid) (mem-candidates r p g .1 cand);
       after = rw (eu, eo) (after-pick r p u left g fresh (omega (arith, f .size, cand .below, side-length n rows z, z .few)) (f .after));
       size = ap length eu ∙ length-set u g 0 ∙ f .size;
-      chained =
-          ec ∙ ap₂ (λ (a : List ℕ) (b : ℕ). set a g b) (f .chained) (remains-unpicked r p u left (side-rows n rows z) (f .after) g fresh)
-          ∙ pad-set (chainOf r p) g (remainder r p g) (omega (arith, length-chainOf r p, cand .below)) ∙ ap padded (sym (chainOf-snoc r p g (cand .fresh) (cand .below)));
+      chained = ec ∙ chain-pick r p c g (bitAnd (getD u g 0) left) cand (f .chained) (remains-unpicked r p u left (side-rows n rows z) (f .after) g fresh);
     }
       where
         p : List ℕ

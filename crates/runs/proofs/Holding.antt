@@ -12,6 +12,8 @@ use lib.Dec.{eqb}
 use lib.ListN.{length, getD, set, take, length-set, length-append}
 use lib.Seq.{set-set, set-getD, getD-append-seam, getD-set-same}
 use borrow.Author.Tests.{eq-eqb, ne-eqb}
+use Rattle.table.proofs.Padding.{pad-length, pad-getD, pad-set}
+use Rattle.table.specs.Tables.{padded}
 use Rattle.sets.specs.Sets.{meet, lowest}
 use Rattle.sets.proofs.Tests.{is-false}
 use Rattle.sets.proofs.Order.{meet-comm}
@@ -28,13 +30,14 @@ use Rattle.listing.proofs.Candidates.{Cand, mem-candidates}
 use Rattle.listing.proofs.CandidateTree.{candidate-tree}
 use Rattle.listing.proofs.Remainders.{remainder-left, common-snoc}
 use Rattle.listing.proofs.ChainRows.{chainOf-snoc, length-chainOf, row-unpicked}
+use Rattle.candidates.proofs.ChainArrays.{chain-pick}
 use Rattle.candidates.proofs.AfterPicks.{full, Rows, After, after-pick, after-unpick, remains-unpicked}
-use Rattle.runs.specs.Paused.{padded, numbered}
+use Rattle.runs.specs.Paused.{numbered}
 use Rattle.runs.specs.Working.{modePhase, placed, stateOf, HoldsAt, leftAfter, NumberAt, spotDown, Stepped}
 use Rattle.runs.specs.declared.engine.Mode.the-variants.{Down as modeDown, Handed as modeHanded, Back as modeBack, Ended as modeEnded}
 use Rattle.runs.specs.declared.engine.Spot.{Spot}
 use Rattle.runs.specs.declared.engine.Moved.the-variants.{On, Out, Over}
-use Rattle.runs.proofs.Padding.{pad-length, pad-getD, pad-set, pad-snoc, pad-unsnoc, length-numbers, places-numbers, numbers-snoc, take-padded}
+use Rattle.runs.proofs.Padding.{pad-snoc, pad-unsnoc, length-numbers, places-numbers, numbers-snoc, take-padded}
 
 pub placed-numbered : (f : Phase) → placed (numbered f) ≡ f
 placed-numbered Down = refl
@@ -122,9 +125,7 @@ module _ (r u c k : List ℕ) (ok : Rows r) where
     holds-pick = record {
       after = after-pick r (x .picks) u (s .left) g (is-false (isIn g (x .picks)) (cand .fresh)) (omega (arith, h .size, cand .below, ok .few)) (h .after);
       size = length-set u g 0 ∙ h .size;
-      chained =
-          ap₂ (λ (l : List ℕ) (y : ℕ). set l g y) (h .chained) own ∙ pad-set (chainOf r (x .picks)) g (remainder r (x .picks) g) (omega (arith, length-chainOf r (x .picks), cand .below))
-          ∙ ap padded (sym (chainOf-snoc r (x .picks) g (cand .fresh) (cand .below)));
+      chained = chain-pick r (x .picks) c g (bitAnd (row u g) (s .left)) cand (h .chained) own;
       picked =
           let e : g + 1 ≡ suc g = omega arith in
           ap₂ (λ (l : List ℕ) (i : ℕ). set l i (g + 1)) (h .picked) (h .counted ∙ sym (length-numbers (x .picks)))

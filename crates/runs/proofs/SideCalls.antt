@@ -4,13 +4,13 @@ use mathlib.Core.Path.{_≡_, refl, sym, ap, ap₂, _∙_, subst}
 use mathlib.Core.List.{List}
 use Prim.Native.Nat.{ℕ}
 use lib.ListN.{length, take}
-use Rattle.table.specs.Tables.{chainRows, tableRefusal}
+use Rattle.table.specs.Tables.{chainRows, tableRefusal, padded}
 use Rattle.table.specs.declared.Table.{Table}
 use Rattle.table.specs.declared.Chain.{Chain}
 use Rattle.walk.specs.Machine.{Phase, State}
 use Rattle.listing.specs.Lists.{Side}
 use Rattle.listing.specs.Rules.{chainOf, handOut}
-use Rattle.runs.specs.Paused.{Value, padded, paused}
+use Rattle.runs.specs.Paused.{Value, paused}
 use Rattle.runs.specs.Calling.{Step, outcome, refusal, Called}
 use Rattle.runs.specs.Working.{modePhase, doneOutcome, doneChain, CarriedBy, CarriesOn}
 use Rattle.runs.specs.declared.Outcome.{Outcome}

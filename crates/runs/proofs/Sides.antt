@@ -10,6 +10,7 @@ use lib.Dec.{T, not-T, ltb}
 use lib.ListN.{length, getD, take}
 use lib.Pow.{pow-mono}
 use borrow.Author.Tests.{lt-ltb}
+use Rattle.table.proofs.Padding.{pad-getD, pad-ext}
 use Rattle.sets.specs.Sets.{bit, _⊆_, lowest}
 use Rattle.sets.proofs.Tests.{is-false}
 use Rattle.sets.proofs.Order.{eq-of-bits, subset-is}
@@ -17,7 +18,7 @@ use Rattle.sets.proofs.Masks.{below-lowest}
 use Rattle.sets.proofs.Tabulated.{getD-tabulate}
 use Rattle.table.specs.Pairs.{row, Within}
 use Rattle.table.specs.Transposing.{column, transpose, Cases}
-use Rattle.table.specs.Tables.{Legal, tableRows, transposeTable}
+use Rattle.table.specs.Tables.{Legal, tableRows, transposeTable, padded, blankChain}
 use Rattle.table.specs.declared.Table.{Table}
 use Rattle.table.proofs.Places.{row-past}
 use Rattle.table.proofs.Transposition.{bit-none, bit-column, length-transpose, cases-transpose, cases-within}
@@ -28,12 +29,12 @@ use Rattle.listing.specs.Lists.{Side}
 use Rattle.listing.specs.Rules.{chainOf, handOut}
 use Rattle.listing.specs.Demand.{gaugeSideOf, caseSideOf}
 use Rattle.listing.proofs.ChainRows.{length-chainOf, chainOf-within}
-use Rattle.runs.specs.Paused.{Value, padded, numbered, paused}
-use Rattle.runs.specs.Calling.{Step, blankChain, outcome, byRules}
+use Rattle.runs.specs.Paused.{Value, numbered, paused}
+use Rattle.runs.specs.Calling.{Step, outcome, byRules}
 use Rattle.runs.specs.Working.{Sized, modePhase, doneAnswer, doneOutcome, doneChain, StandsFor}
 use Rattle.runs.specs.declared.engine.Done.{Done}
 use Rattle.runs.specs.declared.engine.Done.the-variants.{HandedOut, Spent, End}
-use Rattle.runs.proofs.Padding.{pad-getD, pad-ext, take-padded}
+use Rattle.runs.proofs.Padding.{take-padded}
 
 -- a legal table's rows are sized
 pub legal-sized : (t : Table) → Legal t → Sized (t .gauges) (t .rows)

@@ -10,6 +10,7 @@ use native.Mathlib.Omega.{arith}
 use lib.Bits.{bitAnd}
 use lib.ListN.{length, getD, set, take}
 use lib.Seq.{getD-take, length-take-le}
+use Rattle.table.specs.Tables.{padded}
 use Rattle.sets.specs.Sets.{_⊆_, lowest}
 use Rattle.sets.proofs.Order.{zero-sub}
 use Rattle.table.specs.Pairs.{row}
@@ -22,7 +23,7 @@ use Rattle.listing.specs.Rules.{chainOf}
 use Rattle.listing.proofs.Candidates.{Cand, cand-of}
 use Rattle.candidates.specs.Finding.{candidateIn, First}
 use Rattle.candidates.proofs.AfterPicks.{full, Rows, After, lowest-found, lowest-none, above-found, above-none, found-candidate}
-use Rattle.runs.specs.Paused.{padded, numbered}
+use Rattle.runs.specs.Paused.{numbered}
 use Rattle.runs.specs.Working.{Sized, modePhase, placed, stateOf, HoldsAt, Holds, TakesBack, NumberAt, leftAfter, spotDown, Stepped}
 use Rattle.runs.specs.declared.engine.Mode.{Mode}
 use Rattle.runs.specs.declared.engine.Mode.the-variants.{Down as modeDown, Handed as modeHanded, Back as modeBack, Ended as modeEnded}

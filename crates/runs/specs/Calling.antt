@@ -4,7 +4,7 @@
 use mathlib.Core.Path.{_≡_}
 use mathlib.Core.List.{List, [], _∷_, map}
 use Prim.Native.Nat.{ℕ, _<_}
-use Rattle.table.specs.Tables.{noRows, chainRows, tableRefusal}
+use Rattle.table.specs.Tables.{blankChain, chainRows, tableRefusal, padded}
 use Rattle.table.specs.Answers.{number}
 use Rattle.table.specs.declared.Table.{Table}
 use Rattle.table.specs.declared.Chain.{Chain}
@@ -13,7 +13,7 @@ use Rattle.walk.specs.Calls.{Answer, refused, spent, handed, end, Call}
 use Rattle.listing.specs.Lists.{Side}
 use Rattle.listing.specs.Rules.{ReachedOn, callOn}
 use Rattle.listing.specs.Demand.{Demand, TwoLists}
-use Rattle.runs.specs.Paused.{Value, padded, paused, blankValue, gaugeValue, caseValue}
+use Rattle.runs.specs.Paused.{Value, paused, blankValue, gaugeValue, caseValue}
 use Rattle.runs.specs.declared.Outcome.{Outcome}
 use Rattle.runs.specs.declared.Outcome.the-variants.{HandedOut, Spent, End, Refused}
 use Rattle.runs.specs.declared.GaugeStep.{GaugeStep}
@@ -41,9 +41,6 @@ abbrev pub caseStep : CaseStep → Step
 caseStep r = record { answer = outcome (r .outcome) (chainRows (r .chain)); moves = r .moves; chain = r .chain; next = caseValue (r .next) }
 
 -- ---- what a call answers
-abbrev pub blankChain : Chain
-blankChain = record { gauges = 0; rows = noRows }
-
 -- "A refusal yields its number and nothing else"
 abbrev pub refusal : ℕ → Step
 refusal n = record { answer = refused n; moves = 0; chain = blankChain; next = blankValue }

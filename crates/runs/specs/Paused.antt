@@ -1,10 +1,10 @@
 -- Paused values (01: "A paused run is a value: the table, the gauges picked so far, and a phase"), read from the two structs alike, and the
 -- value of a state of rules 1 to 5 on a table. Picks stand by number from 1, in 64 places with zeros behind the last; a state of the
 -- theory has them by place from 0. A value is legal exactly when it is the paused value of a state that some number of moves reaches.
-use mathlib.Core.List.{List, [], _∷_, _++_, map}
-use Prim.Native.Nat.{ℕ, suc, _-_}
-use lib.ListN.{length, replicate}
-use Rattle.table.specs.Tables.{noRows, blankTable}
+use mathlib.Core.List.{List, map}
+use Prim.Native.Nat.{ℕ, suc}
+use lib.ListN.{length}
+use Rattle.table.specs.Tables.{noRows, padded, blankTable}
 use Rattle.table.specs.Answers.{Answer, verdict}
 use Rattle.table.specs.declared.Table.{Table}
 use Rattle.table.specs.declared.Gauge.{Gauge}
@@ -25,10 +25,6 @@ pub record Value : Type 0 where
   pub picks : List ℕ
   pub count : ℕ
   pub phase : Phase
-
--- 64 entries, zeros behind
-abbrev pub padded : List ℕ → List ℕ
-padded xs = xs ++ replicate (64 - length xs) 0
 
 -- the number of a place
 abbrev pub numbered : Phase → Phase

@@ -6,6 +6,7 @@ use mathlib.Core.Bool.{Bool, true, false, cond}
 use Prim.Native.Nat.{ℕ, suc, _+_, _-_, _^_, _≤_, _<_}
 use lib.Dec.{eqb}
 use lib.ListN.{length, take, getD}
+use Rattle.table.specs.Tables.{padded, blankChain}
 use Rattle.sets.specs.Sets.{_⊆_, lowest}
 use Rattle.table.specs.Pairs.{row}
 use Rattle.walk.specs.Machine.{Phase, Down, Handed, Back, Ended, State, Move, gives, nothing, hands, ends}
@@ -16,8 +17,7 @@ use Rattle.listing.specs.Rules.{chainOf}
 use Rattle.candidates.specs.Finding.{candidateIn}
 use Rattle.candidates.proofs.AfterPicks.{After}
 use Rattle.table.specs.declared.Chain.{Chain}
-use Rattle.runs.specs.Paused.{padded, numbered}
-use Rattle.runs.specs.Calling.{blankChain}
+use Rattle.runs.specs.Paused.{numbered}
 use Rattle.runs.specs.declared.Outcome.{Outcome}
 use Rattle.runs.specs.declared.Outcome.the-variants.{HandedOut as outHanded, Spent as outSpent, End as outEnd}
 use Rattle.runs.specs.declared.engine.Mode.{Mode}

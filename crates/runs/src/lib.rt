@@ -14,12 +14,12 @@ use table::Refusal;
 use table::Table;
 use table::Verdict;
 ghost use mathlib.Core.Path.{_≡_};
-ghost use Rattle.table.specs.Tables.{tableRefusal, blankTable};
+ghost use Rattle.table.specs.Tables.{tableRefusal, blankTable, blankChain};
 ghost use Rattle.table.specs.Answers.{answer, number};
 ghost use Rattle.walk.specs.Machine.{fresh};
 ghost use Rattle.listing.specs.Demand.{gaugeSideOf, caseSideOf};
 ghost use Rattle.runs.specs.Paused.{gaugePhase, casePhase, gaugeValue, caseValue, gaugeStarted, caseStarted, paused, blankValue};
-ghost use Rattle.runs.specs.Calling.{Called, gaugeStep, caseStep, refusal, blankChain, KeepsDemand};
+ghost use Rattle.runs.specs.Calling.{Called, gaugeStep, caseStep, refusal, KeepsDemand};
 ghost use Rattle.runs.specs.Working.{modePhase, doneOutcome, doneChain};
 
 // The phase of a gauge run (01: "Down, Handed, Back from gauge g, or Ended").

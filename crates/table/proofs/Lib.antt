@@ -6,3 +6,4 @@ pub mod Legality
 pub mod Steps
 pub mod Answering
 pub mod Sides
+pub mod Padding

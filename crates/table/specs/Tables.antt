@@ -2,8 +2,8 @@
 -- 10 to 13). The tests are written out in 01's order; that they decide `Legal` and `Within` is proved in proofs/Legality.antt.
 use mathlib.Core.Path.{_≡_}
 use mathlib.Core.Bool.{Bool, true, false, _&&_, cond}
-use mathlib.Core.List.{List, [], _∷_}
-use Prim.Native.Nat.{ℕ, zero, suc, _^_, _≤_, _<_}
+use mathlib.Core.List.{List, [], _∷_, _++_}
+use Prim.Native.Nat.{ℕ, zero, suc, _-_, _^_, _≤_, _<_}
 use lib.Dec.{eqb, leb, ltb}
 use lib.ListN.{length, take, replicate}
 use Rattle.sets.specs.Sets.{isSubset}
@@ -64,7 +64,14 @@ chainRefusal t s =
 abbrev pub noRows : List ℕ
 noRows = replicate 64 0
 
+-- "A table and a chain each hold their 64 rows as one value; rows past G are zero": the 64 rows of a set of pairs
+abbrev pub padded : List ℕ → List ℕ
+padded x = x ++ replicate (64 - length x) 0
+
 -- what stands beside a refusal
+abbrev pub blankChain : Chain
+blankChain = record { gauges = 0; rows = noRows }
+
 abbrev pub blankTable : Table
 blankTable = record { gauges = 0; cases = 0; rows = noRows }
 

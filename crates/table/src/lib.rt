@@ -10,7 +10,7 @@ ghost use lib.Seq.{slice};
 ghost use Rattle.table.specs.Pairs.{Has};
 ghost use Rattle.table.specs.Transposing.{column as columnOf, transpose};
 ghost use Rattle.table.specs.Tables.{inRange, rowsFit, tableRefusal, rowsWithin, chainRefusal, makeTable, blankTable, transposeTable};
-ghost use Rattle.table.specs.Answers.{Answer, answer, refused, verdict, made};
+ghost use Rattle.table.specs.Answers.{number, answer, refused, verdict, made};
 ghost use Rattle.table.specs.Unions.{union};
 
 // A gauge's number, from 1. A gauge number never stands where a case number belongs (01): the two node classes of source 003.
@@ -196,6 +196,32 @@ pub fn refuse(why: Refusal) -> Made
     Made {
         verdict: Verdict::Refused(why),
         table: table,
+    }
+}
+
+// The number of a refusal in 01.
+pub fn refusal_number(why: Refusal) -> u64
+    ensures { λ r. ⌜ r ≡ number why ⌝ }
+{
+    match why {
+        Refusal::FileTooLong => 1,
+        Refusal::NotTheBanner => 2,
+        Refusal::LineTooLong => 3,
+        Refusal::SizeFields => 4,
+        Refusal::SizeRange => 5,
+        Refusal::PairFields => 6,
+        Refusal::PairRange => 7,
+        Refusal::PairRepeated => 8,
+        Refusal::PairCount => 9,
+        Refusal::TableShape => 10,
+        Refusal::TableRows => 11,
+        Refusal::ChainCount => 12,
+        Refusal::ChainPairs => 13,
+        Refusal::NotAChain => 14,
+        Refusal::NotReached => 15,
+        Refusal::BufferTooShort => 16,
+        Refusal::NoSuchComment => 17,
+        Refusal::BudgetTooLarge => 18,
     }
 }
 

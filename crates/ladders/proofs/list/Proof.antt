@@ -1,0 +1,72 @@
+-- `ladders::list` is safe: the block keeps its 65,536 bytes, and the blocks fall.
+use mathlib.Core.Path.{_≡_, sym, _∙_}
+use native.Mathlib.Omega.{arith}
+use borrow.Author.Needs.{needs}
+use lib.ListN.{length}
+use Rattle.ladders.proofs.list.Statement.{statement}
+use Rattle.ladders.proofs.list.Tie as tie
+
+abbrev Inv-loop : tie.InvT-loop
+Inv-loop run₀ space₀ cases blocks₀ run space blocks = length space ≡ 65536
+
+abbrev μ-loop : tie.MeasureT-loop
+μ-loop run₀ space₀ cases blocks₀ run space blocks = blocks
+
+start-gauges-requires : tie.Need-start-gauges-requires Inv-loop μ-loop
+start-gauges-requires c κs = search needs
+
+large-buffer-requires : tie.Need-large-buffer-requires Inv-loop μ-loop
+large-buffer-requires c κs = search needs
+
+loop-holds : tie.Need-loop-holds Inv-loop μ-loop
+loop-holds c = sym (c .large-buffer .ensures)
+
+slice-aggregate-fill : tie.Need-slice-aggregate-fill Inv-loop μ-loop
+slice-aggregate-fill c = sym (c .before .before .loop .inv)
+
+fill-requires : tie.Need-fill-requires Inv-loop μ-loop
+fill-requires c κs = search needs
+
+slice-aggregate-put : tie.Need-slice-aggregate-put Inv-loop μ-loop
+slice-aggregate-put c = sym (c .before .before .before .fill .kept .1 .1 .0 ∙ c .before .before .before .before .before .before .loop .inv)
+
+put-requires : tie.Need-put-requires Inv-loop μ-loop
+put-requires c κs = search needs
+
+returns : tie.Need-returns Inv-loop μ-loop
+returns c = search needs
+
+returns-2 : tie.Need-returns-2 Inv-loop μ-loop
+returns-2 c = search needs
+
+sub-blocks : tie.Need-sub-blocks Inv-loop μ-loop
+sub-blocks c = omega arith
+
+loop-less : tie.Need-loop-less Inv-loop μ-loop
+loop-less c = omega arith
+
+loop-again : tie.Need-loop-again Inv-loop μ-loop
+loop-again c = c .before .before .before .before .before .before .fill .kept .1 .1 .0 ∙ c .before .before .before .before .before .before .before .before .before .loop .inv
+
+returns-3 : tie.Need-returns-3 Inv-loop μ-loop
+returns-3 c = search needs
+
+pub list-spec : {M : Type 1} → statement M
+list-spec =
+    tie.close
+    (tie.spec
+    Inv-loop
+    μ-loop
+    start-gauges-requires
+    large-buffer-requires
+    loop-holds
+    slice-aggregate-fill
+    fill-requires
+    slice-aggregate-put
+    put-requires
+    returns
+    returns-2
+    sub-blocks
+    loop-less
+    loop-again
+    returns-3)
