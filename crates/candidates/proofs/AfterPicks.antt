@@ -2,9 +2,9 @@
 -- candidates among them are 01's: the lowest that a search finds is the head of the table's candidates.
 use mathlib.Core.Path.{_≡_, refl, sym, ap, ap₂, _∙_, subst, fun-ext}
 use mathlib.Core.Bool.{Bool, true, false, not, _&&_, _||_, cond}
-use mathlib.Core.Option.{Option, none as nothing, some}
+use mathlib.Core.Option.{some}
 use mathlib.Core.List.{List, [], _∷_, _++_, head?}
-use Prim.Native.Nat.{ℕ, zero, suc, _+_, _≤_, _<_, min}
+use Prim.Native.Nat.{ℕ, suc, _+_, _≤_, _<_, min}
 use native.Mathlib.Nat.{min-eq-left}
 use native.Mathlib.Decide.{ℕ-discrete, decLt}
 use native.Mathlib.Omega.{arith}
@@ -15,12 +15,11 @@ use borrow.Author.Tests.{lt-ltb, le-ltb, eqb-true, eq-eqb, ne-eqb}
 use Rattle.sets.specs.Sets.{meet, _⊆_, isSubset, isProperSubset, lowest}
 use Rattle.sets.specs.Lists.{allBelow}
 use Rattle.sets.proofs.Tests.{and-l, and-r, and-i}
-use Rattle.sets.proofs.Order.{meet-comm, is-subset, not-subset, subset-is, sub-refl, sub-zero, zero-sub}
+use Rattle.sets.proofs.Order.{meet-comm, is-subset, subset-is, sub-refl, sub-zero, zero-sub}
 use Rattle.table.specs.Pairs.{row}
-use Rattle.table.proofs.Places.{row-past}
 use Rattle.walk.specs.Machine.{above}
 use Rattle.listing.specs.PickSequence.{isIn}
-use Rattle.listing.specs.Picks.{common, remainder, rulesOut, candidate, select, candidates}
+use Rattle.listing.specs.Picks.{common, remainder, rulesOut, candidate, candidates}
 use Rattle.listing.proofs.Unpicked.{isIn-snoc}
 use Rattle.listing.proofs.Remainders.{remainder-left, remainder-past, common-snoc}
 use Rattle.listing.proofs.Selecting.{nil-select, head-select, above-select}

@@ -3,8 +3,7 @@
 // the set of left cases; proofs/AfterPicks.antt says that these are then 01's candidates. Any numbers are taken, and nothing is refused.
 use sets;
 ghost use mathlib.Core.Path.{_≡_};
-ghost use Prim.Native.Nat.{_≤_, _<_, min};
-ghost use Rattle.sets.specs.Sets.{isSubset};
+ghost use Prim.Native.Nat.{_<_, min};
 ghost use Rattle.candidates.specs.Finding.{blocks as blocksIn, candidateIn, First};
 
 // The places that there can be.

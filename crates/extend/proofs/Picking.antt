@@ -9,8 +9,8 @@ use native.Mathlib.Decide.{ℕ-discrete}
 use native.Mathlib.Omega.{arith}
 use lib.Dec.{T}
 use lib.Bits.{bitAnd}
-use lib.ListN.{length, set, length-set, replicate, length-replicate, getD-replicate, replicate-append-replicate}
-use lib.Seq.{ext-getD, append-snoc, set-append-left, getD-set-same, getD-set-other}
+use lib.ListN.{length, set, length-set, replicate}
+use lib.Seq.{append-snoc, getD-set-same, getD-set-other}
 use Rattle.table.specs.Tables.{padded}
 use Rattle.sets.specs.Sets.{meet, isSubset}
 use Rattle.sets.specs.Lists.{allBelow}
@@ -22,7 +22,7 @@ use Rattle.listing.specs.Picks.{candidate, remainder, select}
 use Rattle.listing.specs.Rules.{chainOf}
 use Rattle.listing.proofs.Selecting.{head-select, nil-select}
 use Rattle.listing.proofs.Candidates.{cand-of}
-use Rattle.listing.proofs.ChainRows.{row-none, row-chainOf, length-chainOf, chainOf-snoc}
+use Rattle.listing.proofs.ChainRows.{length-chainOf, chainOf-snoc}
 use Rattle.listing.proofs.Growing.{covers, fitting, growFrom, grow, grow-end, grow-more}
 use Rattle.candidates.specs.Finding.{remainderIn, candidateIn, First}
 use Rattle.table.proofs.Padding.{pad-set}

@@ -1,12 +1,12 @@
 -- K6 and K7 of 01 for the definitions, decided by the judges' tests. Crate `known` gathers all known tables.
-use mathlib.Core.Path.{_≡_, refl, sym, _∙_}
+use mathlib.Core.Path.{_≡_, refl, sym}
 use mathlib.Core.Bool.{true, false}
 use mathlib.Core.List.{List, [], _∷_}
 use Prim.Native.Nat.{ℕ}
 use native.Mathlib.Omega.{arith}
 use Rattle.sets.specs.Sets.{meet, isSubset, isProperSubset}
 use Rattle.sets.specs.Lists.{allBelow}
-use Rattle.table.specs.Pairs.{row, Within}
+use Rattle.table.specs.Pairs.{Within}
 use Rattle.table.specs.Chains.{IsChain, IsMaximal}
 use Rattle.table.proofs.Legality.{within-rows}
 use Rattle.table.proofs.Places.{sub-within}

@@ -1,15 +1,14 @@
 -- The test of nested rows decides `IsChain`.
-use mathlib.Core.Path.{_≡_, refl, sym, ap, _∙_, subst}
-use mathlib.Core.Logic.{_⊎_, inl, inr}
+use mathlib.Core.Path.{_≡_, refl, sym, subst}
+use mathlib.Core.Logic.{inl, inr}
 use mathlib.Core.Bool.{Bool, true, false, _||_}
 use mathlib.Core.List.{List}
-use Prim.Native.Nat.{ℕ, _≤_, _<_}
+use Prim.Native.Nat.{ℕ, _<_}
 use native.Mathlib.Decide.{decLt}
 use native.Mathlib.Omega.{arith}
 use lib.Dec.{T}
 use lib.ListN.{length}
 use Rattle.sets.specs.Sets.{_⊆_, isSubset}
-use Rattle.sets.specs.Lists.{allBelow}
 use Rattle.sets.proofs.Tests.{is-true}
 use Rattle.sets.proofs.Order.{subset-is, is-subset, zero-sub}
 use Rattle.sets.proofs.Tabulated.{all-at, all-of}

@@ -9,7 +9,7 @@ use lib.ListN.{length}
 use Rattle.sets.specs.Lists.{allBelow}
 use Rattle.table.specs.Pairs.{row}
 use Rattle.table.specs.Chains.{IsChain, IsMaximal}
-use Rattle.table.specs.Tables.{Legal, tableRows, chainRows, chainRefusal}
+use Rattle.table.specs.Tables.{tableRows, chainRows, chainRefusal}
 use Rattle.table.specs.Answers.{number}
 use Rattle.table.specs.declared.Table.{Table}
 use Rattle.table.specs.declared.Chain.{Chain}
@@ -17,7 +17,7 @@ use Rattle.table.specs.declared.Refusal.{Refusal}
 use Rattle.table.proofs.Answering.{number-pos}
 use Rattle.table.proofs.Legality.{ChainFacts, chain-facts, length-chainRows, row-chainRows, chain-within, row-tableRows}
 use Rattle.judge.specs.Judging.{Judged}
-use Rattle.judge.specs.Tests.{nested, nestedWith, allNested, narrowed, widest, allWidest}
+use Rattle.judge.specs.Tests.{nested, nestedWith, allNested, widest, allWidest}
 use Rattle.judge.specs.declared.Judgement.the-variants.{Yes, No, Refused}
 use Rattle.judge.proofs.NestedTest.{chain-of-test, test-of-chain}
 use Rattle.judge.proofs.WidestTest.{maximal-of-test, test-of-maximal}

@@ -3,20 +3,19 @@
 -- of a larger chain lies under each row that strictly contains it, since the table's row does not hold the least of these.
 use mathlib.Core.Path.{_≡_, refl, sym, ap, _∙_, subst}
 use mathlib.Core.Logic.{_⊎_, inl, inr}
-use mathlib.Core.Bool.{Bool, true, false, cond}
+use mathlib.Core.Bool.{Bool, true, false}
 use mathlib.Core.List.{List}
 use Prim.Native.Nat.{ℕ, zero, suc, _+_, _^_, _≤_, _<_}
 use native.Mathlib.Decide.{ℕ-discrete, decLt}
 use native.Mathlib.Omega.{arith}
-use lib.Dec.{T, eqb}
+use lib.Dec.{eqb}
 use lib.Count.{ones, ones-le}
 use lib.ListN.{length, set, length-set}
 use lib.Seq.{ext-getD, getD-set-same, getD-set-other}
 use borrow.Author.Tests.{eqb-true, eq-eqb}
 use Rattle.sets.specs.Sets.{meet, _⊆_, isProperSubset}
-use Rattle.sets.specs.Lists.{allBelow}
 use Rattle.sets.proofs.Tests.{is-true}
-use Rattle.sets.proofs.Order.{sub-refl, sub-trans, sub-antisym, sub-dec, meet-left, meet-right, meet-glb, zero-sub, ones-mono, ones-strict, proper-is, is-proper, not-proper}
+use Rattle.sets.proofs.Order.{sub-refl, sub-trans, sub-antisym, sub-dec, meet-left, meet-right, meet-glb, zero-sub, ones-mono, ones-strict, proper-is, not-proper}
 use Rattle.sets.proofs.Tabulated.{all-at, all-of}
 use Rattle.table.specs.Pairs.{row, Within}
 use Rattle.table.specs.Chains.{IsChain, IsMaximal}

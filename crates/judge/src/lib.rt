@@ -8,8 +8,6 @@ use table::Table;
 use table::Verdict;
 ghost use mathlib.Core.Path.{_≡_};
 ghost use Prim.Native.Nat.{_≤_, _<_};
-ghost use lib.ListN.{length};
-ghost use Rattle.table.specs.Pairs.{row as rowOf};
 ghost use Rattle.table.specs.Chains.{IsChain, IsMaximal};
 ghost use Rattle.table.specs.Tables.{tableRows, chainRows, chainRefusal};
 ghost use Rattle.judge.specs.Judging.{Judged};

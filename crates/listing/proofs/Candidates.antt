@@ -17,7 +17,7 @@ use Rattle.sets.proofs.Tabulated.{all-at, all-of}
 use Rattle.walk.specs.Fitting.{ValidFrom, Valid}
 use Rattle.listing.specs.PickSequence.{isIn}
 use Rattle.listing.specs.Picks.{remainder, rulesOut, candidate, candidates}
-use Rattle.sets.proofs.Tests.{and-l, and-r, and-i, eq→eqb}
+use Rattle.sets.proofs.Tests.{eq→eqb}
 use Rattle.listing.proofs.Unpicked.{Un}
 use Rattle.listing.proofs.Remainders.{remainder-past}
 use Rattle.listing.proofs.Selecting.{select-nil, nil-select, mem-select}

@@ -1,14 +1,14 @@
 -- Demand 3, for the calls that the rules make on any side and for every list of budgets (`demand3`), by the laws of crate `walk` at the
 -- candidates of the side's rows and by the list theorem. `demand3-by` takes any list of calls that equals those. `run-lists-all` says that a
 -- run called on long enough hands out its side's whole list.
-use mathlib.Core.Path.{_≡_, refl, sym, ap, _∙_, subst}
+use mathlib.Core.Path.{_≡_, refl, sym, ap, _∙_}
 use mathlib.Core.List.{List, map}
 use Prim.Native.Nat.{ℕ, _<_}
 use native.Mathlib.Omega.{arith}
 use lib.ListN.{length, length-map}
 use Rattle.walk.specs.Sequences.{All}
 use Rattle.walk.specs.Machine.{fresh}
-use Rattle.walk.specs.Calls.{Call, handouts}
+use Rattle.walk.specs.Calls.{handouts}
 use Rattle.walk.proofs.Calls.{calls-front, calls-complete, calls-start, calls-gap}
 use Rattle.walk.proofs.Ends.{Enough, calls-all}
 use Rattle.walk.proofs.Reports.{calls-only18, calls-whole, calls-spent}
@@ -32,9 +32,6 @@ demand3 s bs = record {
   start = calls-start (candidates (s .rows)) (handOut s) (length (s .rows)) (candidate-tree (s .rows)) bs;
   gap = λ sooner later c y e h. calls-gap (candidates (s .rows)) (handOut s) (length (s .rows)) (candidate-tree (s .rows)) bs sooner later c e;
 }
-
-pub demand3-by : (s : Side) (bs : List ℕ) (cs : List Call) → cs ≡ callsOn s bs → Demand s bs cs
-demand3-by s bs cs e = subst (Demand s bs) (sym e) (demand3 s bs)
 
 -- called on with enough moves, and once more than the list is long, a run hands out the whole list
 pub run-lists-all : (s : Side) (xs : List (List ℕ)) → SideList s xs → (bs : List ℕ) → All (Enough (length (s .rows))) bs → length xs < length bs → handouts (callsOn s bs) ≡ xs

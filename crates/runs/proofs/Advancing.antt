@@ -1,16 +1,15 @@
 -- The moves of a call, one after the other: the first m of b moves, and what the call comes to after a hand-out, an end, or the budget.
-use mathlib.Core.Path.{_≡_, refl, sym, ap, ap₂, _∙_, subst}
+use mathlib.Core.Path.{_≡_, ap, _∙_, subst}
 use mathlib.Core.List.{List}
-use Prim.Native.Nat.{ℕ, zero, suc, _+_, _-_, _≤_, _<_}
+use Prim.Native.Nat.{ℕ, suc, _+_, _-_, _≤_, _<_}
 use native.Mathlib.Omega.{arith}
 use lib.ListN.{take}
 use Rattle.walk.specs.Machine.{State, Move, gives, nothing, hands, ends, move}
-use Rattle.walk.specs.Calls.{Answer, spent, handed, end, Call, result, proceed, carry}
+use Rattle.walk.specs.Calls.{spent, Call, result, proceed, carry}
 use Rattle.listing.specs.Picks.{candidates}
 use Rattle.runs.specs.Working.{Ahead, ComesOut, stateOf, Holds, SteppedBy, Stepped, Advanced}
 use Rattle.runs.specs.declared.engine.Done.the-variants.{HandedOut, Spent, End}
 use Rattle.runs.specs.declared.engine.Spot.{Spot}
-use Rattle.runs.specs.declared.engine.Report.{Report}
 use Rattle.runs.specs.declared.engine.Moved.{Moved}
 use Rattle.runs.specs.declared.engine.Moved.the-variants.{On, Out, Over}
 

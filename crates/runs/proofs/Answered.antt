@@ -1,9 +1,8 @@
 -- From the core's words to the public ones: a value of which the core says that it stands for a state is the paused value of a reached
 -- state, and what the core says of a call is what `Called` asks, for either side.
-use mathlib.Core.Path.{_≡_, refl, sym, ap, ap₂, _∙_, subst}
-use mathlib.Core.Bool.{Bool, true, false}
+use mathlib.Core.Path.{_≡_, sym, ap, ap₂, _∙_}
 use mathlib.Core.List.{List, map}
-use Prim.Native.Nat.{ℕ, zero, suc, _-_, _≤_, _<_}
+use Prim.Native.Nat.{ℕ, suc, _-_, _≤_, _<_}
 use native.Mathlib.Omega.{arith}
 use lib.ListN.{length, take}
 use Rattle.table.specs.Tables.{tableRefusal, blankTable, padded, blankChain}
@@ -12,12 +11,12 @@ use Rattle.table.specs.declared.Refusal.{Refusal}
 use Rattle.table.specs.declared.Chain.{Chain}
 use Rattle.table.proofs.Answering.{answer-refused, answer-given}
 use Rattle.table.specs.declared.Table.{Table}
-use Rattle.walk.specs.Machine.{Phase, Down, Handed, Back, Ended, State, at, fresh}
-use Rattle.walk.specs.Calls.{Answer, refused, spent, handed, end, Call, result, mostBudget, carry, call}
+use Rattle.walk.specs.Machine.{Phase, State, at, fresh}
+use Rattle.walk.specs.Calls.{refused, mostBudget}
 use Rattle.walk.proofs.Calls.{call-above, call-within}
 use Rattle.listing.specs.Lists.{Side}
 use Rattle.listing.specs.Picks.{candidates}
-use Rattle.listing.specs.Rules.{handOut, ReachedOn, callOn}
+use Rattle.listing.specs.Rules.{handOut, callOn}
 use Rattle.listing.proofs.CandidateTree.{reached-fits}
 use Rattle.runs.specs.Paused.{Value, numbered, paused, blankValue}
 use Rattle.runs.specs.Calling.{Step, refusal, byRules, told, PausedAt, Called}

@@ -1,16 +1,14 @@
 -- A call on a value handed in, put together: which test failed, or the moves that were made, as `CarriesOn` says it.
-use mathlib.Core.Path.{_≡_, refl, sym, ap, _∙_, subst}
+use mathlib.Core.Path.{_≡_, sym, subst}
 use mathlib.Core.Bool.{Bool, true, false}
 use mathlib.Core.List.{List, map}
 use Prim.Native.Nat.{ℕ, suc, _≤_, _<_}
-use native.Mathlib.Omega.{arith}
 use lib.ListN.{length, take}
-use Rattle.table.specs.Tables.{noRows}
 use Rattle.walk.specs.Machine.{Phase, State, at}
 use Rattle.walk.specs.Calls.{mostBudget}
 use Rattle.walk.specs.Fitting.{Valid}
 use Rattle.listing.specs.Picks.{candidates}
-use Rattle.runs.specs.Working.{Sized, modePhase, placed, stateOf, HoldsAt, Holds, ComesOut, Advanced, Decides, RestZero, Front, Replays, PhaseIn, StandsFor, Went, CarriedBy, CarriesOn}
+use Rattle.runs.specs.Working.{Sized, modePhase, placed, stateOf, HoldsAt, Holds, ComesOut, Advanced, Decides, RestZero, Front, Replays, PhaseIn, StandsFor, CarriedBy, CarriesOn}
 use Rattle.runs.specs.declared.engine.Mode.{Mode}
 use Rattle.runs.specs.declared.engine.Spot.{Spot}
 use Rattle.runs.specs.declared.engine.Fate.{Fate}

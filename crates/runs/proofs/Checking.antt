@@ -2,7 +2,6 @@
 -- value of a state whose picks fit its phase (`StandsFor`).
 use mathlib.Core.Path.{_≡_, refl, sym, ap, ap₂, _∙_, subst}
 use mathlib.Core.Bool.{Bool, true, false, _&&_}
-use mathlib.Core.Logic.{_↔_}
 use mathlib.Core.List.{List, [], _∷_, _++_, map, append-nil, List·Memᴰ}
 use Prim.Native.Nat.{ℕ, zero, suc, _+_, _-_, _≤_, _<_, min}
 use native.Mathlib.Nat.{min-eq-left}
@@ -10,34 +9,30 @@ use native.Mathlib.Decide.{ℕ-discrete, decLt}
 use native.Mathlib.Numerals.{add-one}
 use native.Mathlib.Omega.{arith}
 use lib.Bits.{bitAnd}
-use lib.Dec.{T, not-T, eqb, leb, ltb}
-use lib.ListN.{length, getD, set, take, drop, length-set, getD-replicate, List·getD-eq-default}
-use lib.Seq.{take-suc, getD-take, take-take, append-snoc, length-take-le, take-all, take-append-le}
+use lib.Dec.{not-T, eqb, leb, ltb}
+use lib.ListN.{length, getD, set, take, length-set, List·getD-eq-default}
+use lib.Seq.{take-suc, getD-take, take-take, append-snoc, length-take-le}
 use borrow.Author.Tests.{ltb-true, leb-true, leb-false, eqb-true, eqb-false}
-use Rattle.table.proofs.Padding.{pad-length, pad-getD, pad-ext, pad-set}
+use Rattle.table.proofs.Padding.{pad-getD, pad-ext}
 use Rattle.sets.specs.Sets.{meet}
 use Rattle.sets.proofs.Tests.{is-true, is-false}
 use Rattle.table.specs.Pairs.{row}
-use Rattle.table.specs.Tables.{noRows, padded}
+use Rattle.table.specs.Tables.{noRows}
 use Rattle.table.proofs.Places.{row-past}
 use Rattle.walk.specs.Machine.{Phase, Down, Handed, Back, Ended, State, at}
 use Rattle.walk.specs.Fitting.{ValidFrom, Valid, Fits}
 use Rattle.walk.proofs.Trees.{valid-snoc}
 use Rattle.listing.specs.PickSequence.{isIn}
-use Rattle.listing.specs.Picks.{remainder, candidate, candidates}
-use Rattle.listing.specs.Rules.{chainOf}
+use Rattle.listing.specs.Picks.{candidate, candidates}
 use Rattle.listing.proofs.Candidates.{Cand, cand-of, of-cand, mem-candidates, no-candidate, none-candidate}
 use Rattle.listing.proofs.CandidateTree.{candidate-tree}
-use Rattle.listing.proofs.ChainRows.{chainOf-snoc, length-chainOf, row-unpicked}
-use Rattle.listing.proofs.Unpicked.{un-nil}
 use Rattle.candidates.specs.Finding.{candidateIn, First}
 use Rattle.candidates.proofs.ChainArrays.{chain-none, chain-pick}
-use Rattle.candidates.proofs.AfterPicks.{full, Rows, After, after-fresh, after-pick, candidate-in, remains-unpicked}
+use Rattle.candidates.proofs.AfterPicks.{full, After, after-fresh, after-pick, candidate-in, remains-unpicked}
 use Rattle.runs.specs.Paused.{numbered}
 use Rattle.runs.specs.Working.{Sized, modePhase, placed, Decides, Front, Replays, RestZero, PhaseIn, StandsFor}
 use Rattle.runs.specs.declared.engine.Mode.{Mode}
 use Rattle.runs.specs.declared.engine.Mode.the-variants.{Down as modeDown, Handed as modeHanded, Back as modeBack, Ended as modeEnded}
-use Rattle.runs.specs.declared.engine.Replayed.{Replayed}
 use Rattle.runs.proofs.Padding.{length-numbers, places-numbers, numbers-snoc, take-padded}
 use Rattle.runs.proofs.Stepping.{side-length, side-rows}
 

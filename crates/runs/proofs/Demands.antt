@@ -2,7 +2,7 @@
 -- for the same budgets, and of those crate `listing` proves the demand. One proof, for either side.
 use mathlib.Core.Path.{_≡_, refl, sym, ap, ap₂, _∙_, subst}
 use mathlib.Core.List.{List, [], _∷_, map}
-use Prim.Native.Nat.{ℕ, _≤_, _<_}
+use Prim.Native.Nat.{ℕ, _≤_}
 use native.Mathlib.Decide.{decLe}
 use native.Mathlib.Omega.{arith}
 use lib.ListN.{length}
@@ -11,7 +11,6 @@ use Rattle.table.specs.declared.Table.{Table}
 use Rattle.table.proofs.Legality.{legal-passes}
 use Rattle.walk.specs.Machine.{State, fresh}
 use Rattle.walk.specs.Calls.{Answer, refused, spent, handed, end, Call, mostBudget, callsFrom}
-use Rattle.walk.specs.Fitting.{Fits}
 use Rattle.walk.proofs.Calls.{call-above, call-law}
 use Rattle.walk.proofs.Reports.{call-only18}
 use Rattle.listing.specs.Lists.{Side}
@@ -21,7 +20,7 @@ use Rattle.listing.proofs.CandidateTree.{candidate-tree, reached-fits}
 use Rattle.listing.proofs.Demand.{demand3}
 use Rattle.listing.proofs.BothSides.{two-lists}
 use Rattle.runs.specs.Paused.{Value, paused}
-use Rattle.runs.specs.Calling.{Step, byRules, told, Called, kept, Calls, RunDemand}
+use Rattle.runs.specs.Calling.{Step, byRules, told, kept, Calls, RunDemand}
 
 module _ (side : Table → Side) (t : Table) (ok : tableRefusal t ≡ 0) where
   abbrev here : Side

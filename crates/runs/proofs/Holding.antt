@@ -1,31 +1,28 @@
 -- How a spot and its arrays stand for a state: the state is determined, a pick and a pick taken back keep it so, and the facts of the
 -- last pick that the code's indices need. The rows r are the side's; the code's own step by step use is in Stepping.antt.
 use mathlib.Core.Path.{_≡_, refl, sym, ap, ap₂, _∙_, subst}
-use mathlib.Core.Bool.{Bool, true, false}
-use mathlib.Core.Logic.{_⊎_, inl, inr}
+use mathlib.Core.Bool.{false}
 use mathlib.Core.List.{List, [], _∷_, _++_, map}
-use Prim.Native.Nat.{ℕ, zero, suc, _+_, _-_, _^_, _≤_, _<_}
-use native.Mathlib.Decide.{ℕ-discrete}
+use Prim.Native.Nat.{ℕ, suc, _+_, _-_, _^_, _<_}
 use native.Mathlib.Omega.{arith}
 use lib.Bits.{bitAnd}
 use lib.Dec.{eqb}
-use lib.ListN.{length, getD, set, take, length-set, length-append}
+use lib.ListN.{length, getD, set, take, length-set}
 use lib.Seq.{set-set, set-getD, getD-append-seam, getD-set-same}
-use borrow.Author.Tests.{eq-eqb, ne-eqb}
-use Rattle.table.proofs.Padding.{pad-length, pad-getD, pad-set}
+use borrow.Author.Tests.{ne-eqb}
+use Rattle.table.proofs.Padding.{pad-getD, pad-set}
 use Rattle.table.specs.Tables.{padded}
-use Rattle.sets.specs.Sets.{meet, lowest}
+use Rattle.sets.specs.Sets.{meet}
 use Rattle.sets.proofs.Tests.{is-false}
 use Rattle.sets.proofs.Order.{meet-comm}
 use Rattle.sets.proofs.Masks.{lowest-up}
 use Rattle.table.specs.Pairs.{row}
-use Rattle.walk.specs.Machine.{Phase, Down, Handed, Back, Ended, State, at, Move, gives, nothing, hands, ends, cutLast, takeBack}
-use Rattle.walk.specs.Fitting.{Valid, Fits}
-use Rattle.walk.proofs.Trees.{by-last, kid-fits, valid-up, valid-kid, valid-snoc, cut-snoc, length-snoc}
+use Rattle.walk.specs.Machine.{Phase, Down, Handed, Back, Ended, State, at, Move, gives, nothing, hands, ends}
+use Rattle.walk.specs.Fitting.{Valid}
+use Rattle.walk.proofs.Trees.{by-last, kid-fits, valid-up, valid-kid, valid-snoc, length-snoc}
 use Rattle.listing.specs.PickSequence.{isIn}
 use Rattle.listing.specs.Picks.{common, remainder, candidates}
 use Rattle.listing.specs.Rules.{chainOf}
-use Rattle.listing.proofs.Unpicked.{Un}
 use Rattle.listing.proofs.Candidates.{Cand, mem-candidates}
 use Rattle.listing.proofs.CandidateTree.{candidate-tree}
 use Rattle.listing.proofs.Remainders.{remainder-left, common-snoc}
@@ -33,8 +30,8 @@ use Rattle.listing.proofs.ChainRows.{chainOf-snoc, length-chainOf, row-unpicked
 use Rattle.candidates.proofs.ChainArrays.{chain-pick}
 use Rattle.candidates.proofs.AfterPicks.{full, Rows, After, after-pick, after-unpick, remains-unpicked}
 use Rattle.runs.specs.Paused.{numbered}
-use Rattle.runs.specs.Working.{modePhase, placed, stateOf, HoldsAt, leftAfter, NumberAt, spotDown, Stepped}
-use Rattle.runs.specs.declared.engine.Mode.the-variants.{Down as modeDown, Handed as modeHanded, Back as modeBack, Ended as modeEnded}
+use Rattle.runs.specs.Working.{placed, stateOf, HoldsAt, leftAfter, NumberAt, spotDown, Stepped}
+use Rattle.runs.specs.declared.engine.Mode.the-variants.{Back as modeBack}
 use Rattle.runs.specs.declared.engine.Spot.{Spot}
 use Rattle.runs.specs.declared.engine.Moved.the-variants.{On, Out, Over}
 use Rattle.runs.proofs.Padding.{pad-snoc, pad-unsnoc, length-numbers, places-numbers, numbers-snoc, take-padded}

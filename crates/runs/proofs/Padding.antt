@@ -1,12 +1,12 @@
 -- Picks in an array of 64: one more at the first zero, the last one cleared, and picks by number and by place. Laws of a list with zeros
 -- behind it are in crate `table`, proofs/Padding.antt.
-use mathlib.Core.Path.{_≡_, refl, sym, ap, ap₂, _∙_, subst}
+use mathlib.Core.Path.{_≡_, refl, sym, ap, ap₂, _∙_}
 use mathlib.Core.List.{List, [], _∷_, _++_, map}
-use Prim.Native.Nat.{ℕ, zero, suc, _+_, _-_, _≤_, _<_}
+use Prim.Native.Nat.{ℕ, suc, _+_, _-_, _<_}
 use native.Mathlib.Decide.{ℕ-discrete, decLt}
 use native.Mathlib.Omega.{arith}
-use lib.ListN.{length, getD, set, take, drop, replicate, length-append, length-set, length-replicate, getD-replicate, List·getD-append, List·getD-eq-default}
-use lib.Seq.{ext-getD, set-append-left, getD-append-add, getD-append-seam, getD-set-same, getD-set-other, take-append-seam}
+use lib.ListN.{length, getD, set, take, replicate, length-append, length-set, List·getD-append, List·getD-eq-default}
+use lib.Seq.{getD-append-seam, getD-set-same, getD-set-other, take-append-seam}
 use Rattle.table.specs.Tables.{padded}
 use Rattle.table.proofs.Padding.{pad-length, pad-getD, pad-ext}
 

@@ -1,6 +1,6 @@
 -- A run call of either side, put together from what the core says: which refusal, or the moves with the chain by gauge rows and the next
 -- value. The side's rows are the first n of the array R that the core worked on.
-use mathlib.Core.Path.{_≡_, refl, sym, ap, ap₂, _∙_, subst}
+use mathlib.Core.Path.{_≡_, ap, ap₂, _∙_, subst}
 use mathlib.Core.List.{List}
 use Prim.Native.Nat.{ℕ}
 use lib.ListN.{length, take}
@@ -10,7 +10,7 @@ use Rattle.table.specs.declared.Chain.{Chain}
 use Rattle.walk.specs.Machine.{Phase, State}
 use Rattle.listing.specs.Lists.{Side}
 use Rattle.listing.specs.Rules.{chainOf, handOut}
-use Rattle.runs.specs.Paused.{Value, paused}
+use Rattle.runs.specs.Paused.{Value}
 use Rattle.runs.specs.Calling.{Step, outcome, refusal, Called}
 use Rattle.runs.specs.Working.{modePhase, doneOutcome, doneChain, CarriedBy, CarriesOn}
 use Rattle.runs.specs.declared.Outcome.{Outcome}

@@ -1,24 +1,23 @@
 -- The two sides of a legal table as the core has them: the gauge side's rows are the table's own, the case side's those of the table
 -- with its sides exchanged, whose chains go back to gauge rows; and the answer of the core's moves as the public answer.
-use mathlib.Core.Path.{_≡_, refl, sym, ap, ap₂, _∙_, subst}
-use mathlib.Core.Bool.{Bool, true, false, not}
-use mathlib.Core.List.{List, map}
-use Prim.Native.Nat.{ℕ, suc, _+_, _-_, _^_, _≤_, _<_}
+use mathlib.Core.Path.{_≡_, sym, ap, _∙_}
+use mathlib.Core.List.{List}
+use Prim.Native.Nat.{ℕ, _-_, _^_, _≤_, _<_}
 use native.Mathlib.Decide.{decLt}
 use native.Mathlib.Omega.{arith}
-use lib.Dec.{T, not-T, ltb}
+use lib.Dec.{not-T}
 use lib.ListN.{length, getD, take}
 use lib.Pow.{pow-mono}
 use borrow.Author.Tests.{lt-ltb}
 use Rattle.table.proofs.Padding.{pad-getD, pad-ext}
-use Rattle.sets.specs.Sets.{bit, _⊆_, lowest}
+use Rattle.sets.specs.Sets.{bit, lowest}
 use Rattle.sets.proofs.Tests.{is-false}
 use Rattle.sets.proofs.Order.{eq-of-bits, subset-is}
 use Rattle.sets.proofs.Masks.{below-lowest}
 use Rattle.sets.proofs.Tabulated.{getD-tabulate}
-use Rattle.table.specs.Pairs.{row, Within}
+use Rattle.table.specs.Pairs.{row}
 use Rattle.table.specs.Transposing.{column, transpose, Cases}
-use Rattle.table.specs.Tables.{Legal, tableRows, transposeTable, padded, blankChain}
+use Rattle.table.specs.Tables.{Legal, tableRows, transposeTable, padded}
 use Rattle.table.specs.declared.Table.{Table}
 use Rattle.table.proofs.Places.{row-past}
 use Rattle.table.proofs.Transposition.{bit-none, bit-column, length-transpose, cases-transpose, cases-within}
@@ -29,9 +28,9 @@ use Rattle.listing.specs.Lists.{Side}
 use Rattle.listing.specs.Rules.{chainOf, handOut}
 use Rattle.listing.specs.Demand.{gaugeSideOf, caseSideOf}
 use Rattle.listing.proofs.ChainRows.{length-chainOf, chainOf-within}
-use Rattle.runs.specs.Paused.{Value, numbered, paused}
-use Rattle.runs.specs.Calling.{Step, outcome, byRules}
-use Rattle.runs.specs.Working.{Sized, modePhase, doneAnswer, doneOutcome, doneChain, StandsFor}
+use Rattle.runs.specs.Paused.{Value, paused}
+use Rattle.runs.specs.Calling.{outcome, byRules}
+use Rattle.runs.specs.Working.{Sized, doneAnswer, doneOutcome, doneChain, StandsFor}
 use Rattle.runs.specs.declared.engine.Done.{Done}
 use Rattle.runs.specs.declared.engine.Done.the-variants.{HandedOut, Spent, End}
 use Rattle.runs.proofs.Padding.{take-padded}

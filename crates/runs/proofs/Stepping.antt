@@ -1,30 +1,28 @@
 -- One move of the core, as its functions make it: what each answer of `step` and `take_back` says of the rules, from the facts that the
 -- code has where it answers.
 use mathlib.Core.Path.{_≡_, refl, sym, ap, ap₂, _∙_, subst}
-use mathlib.Core.Bool.{Bool, true, false}
-use mathlib.Core.Option.{some}
 use mathlib.Core.List.{List, [], _∷_, _++_, head?, map}
-use Prim.Native.Nat.{ℕ, zero, suc, _+_, _-_, _^_, _≤_, _<_, min}
+use Prim.Native.Nat.{ℕ, suc, _+_, _-_, _^_, _≤_, _<_, min}
 use native.Mathlib.Decide.{decLt}
 use native.Mathlib.Omega.{arith}
 use lib.Bits.{bitAnd}
 use lib.ListN.{length, getD, set, take}
 use lib.Seq.{getD-take, length-take-le}
 use Rattle.table.specs.Tables.{padded}
-use Rattle.sets.specs.Sets.{_⊆_, lowest}
+use Rattle.sets.specs.Sets.{_⊆_}
 use Rattle.sets.proofs.Order.{zero-sub}
 use Rattle.table.specs.Pairs.{row}
 use Rattle.table.proofs.Places.{row-past}
-use Rattle.walk.specs.Machine.{Phase, Down, Handed, Back, Ended, State, at, Move, gives, nothing, hands, ends, cutLast, takeBack, pick, down, back, above, move}
+use Rattle.walk.specs.Machine.{Phase, Down, Handed, Back, Ended, State, at, Move, gives, ends, cutLast, takeBack, pick, down, back, above, move}
 use Rattle.walk.specs.Fitting.{Valid, Fits}
 use Rattle.walk.proofs.Trees.{cut-snoc}
-use Rattle.listing.specs.Picks.{common, candidate, candidates}
+use Rattle.listing.specs.Picks.{common, candidates}
 use Rattle.listing.specs.Rules.{chainOf}
 use Rattle.listing.proofs.Candidates.{Cand, cand-of}
 use Rattle.candidates.specs.Finding.{candidateIn, First}
 use Rattle.candidates.proofs.AfterPicks.{full, Rows, After, lowest-found, lowest-none, above-found, above-none, found-candidate}
 use Rattle.runs.specs.Paused.{numbered}
-use Rattle.runs.specs.Working.{Sized, modePhase, placed, stateOf, HoldsAt, Holds, TakesBack, NumberAt, leftAfter, spotDown, Stepped}
+use Rattle.runs.specs.Working.{Sized, modePhase, placed, stateOf, Holds, TakesBack, NumberAt, leftAfter, spotDown, Stepped}
 use Rattle.runs.specs.declared.engine.Mode.{Mode}
 use Rattle.runs.specs.declared.engine.Mode.the-variants.{Down as modeDown, Handed as modeHanded, Back as modeBack, Ended as modeEnded}
 use Rattle.runs.specs.declared.engine.Spot.{Spot}

@@ -7,8 +7,6 @@ use lib.ListN.{length}
 use Rattle.table.specs.Tables.{noRows, padded, blankTable}
 use Rattle.table.specs.Answers.{Answer, verdict}
 use Rattle.table.specs.declared.Table.{Table}
-use Rattle.table.specs.declared.Gauge.{Gauge}
-use Rattle.table.specs.declared.Case.{Case}
 use Rattle.walk.specs.Machine.{Phase, Down, Handed, Back, Ended, State}
 use Rattle.runs.specs.declared.Phase.the-variants.{Down as gaugeDown, Handed as gaugeHanded, Back as gaugeBack, Ended as gaugeEnded}
 use Rattle.runs.specs.declared.Phase.{Phase as GaugePhase}

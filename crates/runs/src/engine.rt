@@ -3,7 +3,7 @@
 // where the left cases are found again when a pick is taken back, and the picks by number.
 use candidates;
 ghost use mathlib.Core.Path.{_≡_};
-ghost use Prim.Native.Nat.{ℕ, _+_, _-_, _≤_, _<_};
+ghost use Prim.Native.Nat.{_+_, _-_, _≤_, _<_};
 ghost use lib.ListN.{length, take, set, getD};
 ghost use lib.Bits.{bitAnd};
 ghost use Rattle.table.specs.Tables.{noRows};

@@ -1,11 +1,11 @@
 -- Reading answers: a refusal's number is never 0, and what an answer is where a check refused or passed.
-use mathlib.Core.Path.{_≡_, refl, sym, ap, _∙_}
-use mathlib.Core.Bool.{false, true}
+use mathlib.Core.Path.{_≡_, sym, ap, _∙_}
+use mathlib.Core.Bool.{false}
 use Prim.Native.Nat.{ℕ, _<_}
 use native.Mathlib.Omega.{arith}
 use lib.Dec.{eqb}
-use borrow.Author.Tests.{ne-eqb, eq-eqb}
-use Rattle.table.specs.Answers.{number, Answer, answer, refused, verdict}
+use borrow.Author.Tests.{ne-eqb}
+use Rattle.table.specs.Answers.{number, answer, refused, verdict}
 use Rattle.table.specs.declared.Refusal.{Refusal}
 use Rattle.table.specs.declared.Refusal.the-variants.{FileTooLong, NotTheBanner, LineTooLong, SizeFields, SizeRange, PairFields, PairRange, PairRepeated, PairCount, TableShape, TableRows, ChainCount, ChainPairs, NotAChain, NotReached, BufferTooShort, NoSuchComment, BudgetTooLarge}
 use Rattle.table.specs.declared.Verdict.{Verdict}

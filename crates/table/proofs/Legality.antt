@@ -1,18 +1,17 @@
 -- The checks 10 to 13 decide what they say: a table passes exactly when it is legal, a chain exactly when it is a set of pairs of its
 -- table; and the facts of a legal table that the other crates use. The code tests rows by their unions: `fit-by-unions`.
 use mathlib.Core.Path.{_≡_, refl, sym, ap, ap₂, _∙_, subst, subst₂}
-use mathlib.Core.Logic.{_⊎_, inl, inr, _↔_}
 use mathlib.Core.Bool.{Bool, true, false, _&&_, cond}
 use mathlib.Core.List.{List, [], _∷_}
-use Prim.Native.Nat.{ℕ, zero, suc, _+_, _-_, _^_, _≤_, _<_}
+use Prim.Native.Nat.{ℕ, zero, suc, _-_, _^_, _≤_, _<_}
 use native.Mathlib.Omega.{arith}
 use native.Mathlib.Decide.{decLt}
-use lib.Dec.{T, eqb, ltb, leb}
-use lib.ListN.{length, getD, take, drop}
+use lib.Dec.{eqb, ltb, leb}
+use lib.ListN.{length, take, drop}
 use lib.Seq.{take-nil, drop-nil, getD-take, length-take-le, slice, take-all}
 use lib.Pow.{pow-pos}
 use borrow.Author.Tests.{ltb-true, lt-ltb, leb-true, le-leb, eqb-true, eqb-false, eq-eqb, ne-eqb}
-use Rattle.sets.specs.Sets.{join, _⊆_, isSubset, lowest}
+use Rattle.sets.specs.Sets.{_⊆_, isSubset, lowest}
 use Rattle.sets.proofs.Order.{subset-is, is-subset, zero-sub, sub-zero}
 use Rattle.sets.proofs.Joins.{join-subset, join-empty}
 use Rattle.sets.proofs.Masks.{below-lowest}

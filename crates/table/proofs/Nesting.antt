@@ -1,18 +1,17 @@
 -- A chain is a set whose rows are nested (01, "Equally: any two rows of the set are nested"), and the maximal chain of a table
 -- without pairs. What decides maximality is in crate `judge`.
-use mathlib.Core.Path.{_≡_, refl, sym, ap, _∙_, subst}
+use mathlib.Core.Path.{_≡_, sym, _∙_}
 use mathlib.Core.Logic.{_⊎_, inl, inr, _↔_}
-use mathlib.Core.Bool.{Bool, true, false, not}
+use mathlib.Core.Bool.{not}
 use mathlib.Core.List.{List}
-use Prim.Native.Nat.{ℕ, suc, _<_}
+use Prim.Native.Nat.{ℕ, suc}
 use lib.Dec.{T, T-not}
-use lib.ListN.{length}
 use lib.Seq.{ext-getD}
 use Rattle.sets.specs.Sets.{bit, _⊆_}
-use Rattle.sets.proofs.Order.{Breaks, sub-or, sub-bit, sub-zero, zero-sub}
+use Rattle.sets.proofs.Order.{Breaks, sub-or, sub-bit, sub-zero}
 use Rattle.table.specs.Pairs.{row, Has, Within}
 use Rattle.table.specs.Chains.{IsChain, IsMaximal}
-use Rattle.table.proofs.Places.{CrossPlaces, chain-places, places-chain, within-sub, within-refl, place-has}
+use Rattle.table.proofs.Places.{chain-places, places-chain, within-refl, place-has}
 
 abbrev pub Nested : ℕ → ℕ → Type 0
 Nested a b = (a ⊆ b) ⊎ (b ⊆ a)

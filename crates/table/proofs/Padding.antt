@@ -1,5 +1,5 @@
 -- A set of pairs in its 64 rows: a list with zeros behind it has the list's entries, and zeros past them, and changes as the list does.
-use mathlib.Core.Path.{_≡_, refl, sym, ap, _∙_}
+use mathlib.Core.Path.{_≡_, sym, ap, _∙_}
 use mathlib.Core.List.{List, _++_}
 use Prim.Native.Nat.{ℕ, _+_, _-_, _≤_, _<_}
 use native.Mathlib.Decide.{decLt}

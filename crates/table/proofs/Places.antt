@@ -1,6 +1,6 @@
 -- From numbers to places: 01 numbers gauges and cases from 1, rows and bits are counted from 0. A pair of the numbers suc i, suc k is
 -- bit k of row i (`has-place`, `place-has`); the laws here say so of pairs, inclusion and chains, and the other files use places alone.
-use mathlib.Core.Path.{_≡_, refl, sym, ap, _∙_, subst}
+use mathlib.Core.Path.{_≡_, refl, subst}
 use mathlib.Core.Logic.{_⊎_, inl, inr, _↔_}
 use mathlib.Core.Bool.{Bool, true, false}
 use mathlib.Core.List.{List, [], _∷_}
@@ -9,8 +9,7 @@ use native.Mathlib.Nat.{not-suc-le-zero, le-of-suc-le-suc, zero-div}
 use native.Mathlib.Decide.{decLe}
 use native.Mathlib.Omega.{arith}
 use lib.Dec.{T}
-use lib.ListN.{length, getD, take}
-use lib.Seq.{getD-take}
+use lib.ListN.{length}
 use Rattle.sets.specs.Sets.{bit, _⊆_}
 use Rattle.sets.proofs.Tests.{is-true}
 use Rattle.sets.proofs.Order.{sub-bit, bits-sub}

@@ -1,13 +1,12 @@
 -- A legal table and the one with its sides exchanged: that is legal too, its rows are the columns of the first, and exchanging twice
 -- gives the table back. The code computes the square of 64 by 64; these laws cut it to the table's own shape.
-use mathlib.Core.Path.{_≡_, refl, sym, ap, _∙_, subst}
-use mathlib.Core.Bool.{Bool, true, false, not}
+use mathlib.Core.Path.{_≡_, sym, ap, _∙_, subst}
 use mathlib.Core.List.{List}
-use Prim.Native.Nat.{ℕ, suc, _+_, _-_, _^_, _≤_, _<_}
+use Prim.Native.Nat.{ℕ, _-_, _^_, _≤_, _<_}
 use native.Mathlib.Decide.{decLt}
 use native.Mathlib.Omega.{arith}
 use lib.Dec.{T, not-T}
-use lib.ListN.{length, getD, take}
+use lib.ListN.{length}
 use lib.Seq.{ext-getD, getD-take, length-take-le}
 use lib.Pow.{pow-pos}
 use Rattle.sets.specs.Sets.{bit}
@@ -15,7 +14,7 @@ use Rattle.sets.proofs.Tests.{is-false}
 use Rattle.sets.proofs.Order.{eq-of-bits}
 use Rattle.sets.proofs.Tabulated.{getD-tabulate}
 use Rattle.table.specs.Pairs.{row}
-use Rattle.table.specs.Transposing.{column, transpose, Cases}
+use Rattle.table.specs.Transposing.{column, transpose}
 use Rattle.table.specs.Tables.{Legal, tableRows, transposeTable}
 use Rattle.table.specs.declared.Table.{Table}
 use Rattle.table.proofs.Places.{row-past}

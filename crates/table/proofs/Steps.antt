@@ -1,14 +1,14 @@
 -- One turn of each loop of the table's functions, said of the definitions: what is still to come, after one more row.
-use mathlib.Core.Path.{_≡_, refl, sym, ap, _∙_, subst}
+use mathlib.Core.Path.{_≡_, sym, ap, _∙_}
 use mathlib.Core.Bool.{Bool, true, false, _&&_}
 use mathlib.Core.List.{List, [], _∷_}
-use Prim.Native.Nat.{ℕ, zero, suc, _+_, _-_, _*_, _/_, _%_, _^_, _≤_, _<_}
+use Prim.Native.Nat.{ℕ, suc, _+_, _-_, _*_, _/_, _%_, _^_, _≤_, _<_}
 use native.Mathlib.Numerals.{add-one}
 use native.Mathlib.Omega.{arith}
-use lib.ListN.{length, getD, take, drop, length-drop}
-use lib.Seq.{drop-cons, slice, slice-empty, slice-cons, drop-length, take-length}
+use lib.ListN.{length, drop, length-drop}
+use lib.Seq.{drop-cons, slice, slice-empty, slice-cons, drop-length}
 use native.Mathlib.Nat.{pow-suc}
-use lib.Pow.{pow-mono, pow-pos}
+use lib.Pow.{pow-mono}
 use lib.Bits.{bitOr}
 use Rattle.sets.specs.Sets.{join, isSubset}
 use Rattle.sets.proofs.Digits.{lt2}

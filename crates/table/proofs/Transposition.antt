@@ -1,10 +1,10 @@
 -- The two sides exchanged: the pairs of a transposed set (`has-transpose`), transposing twice, and chains and maximal chains, which
 -- transposing keeps both ways. Last, the square form that the code computes, 64 rows by 64 cases, against the shape of the table.
-use mathlib.Core.Path.{_≡_, refl, sym, ap, ap₂, _∙_, subst, subst₂}
+use mathlib.Core.Path.{_≡_, refl, sym, ap, _∙_, subst, subst₂}
 use mathlib.Core.Logic.{_⊎_, inl, inr, _↔_}
-use mathlib.Core.Bool.{Bool, true, false, not}
+use mathlib.Core.Bool.{false}
 use mathlib.Core.List.{List, [], _∷_}
-use Prim.Native.Nat.{ℕ, zero, suc, _+_, _*_, _/_, _%_, _^_, _≤_, _<_}
+use Prim.Native.Nat.{ℕ, zero, suc, _+_, _*_, _/_, _%_, _^_, _<_}
 use native.Mathlib.Nat.{div-eq-of-lt, zero-div, lt-of-lt-of-le}
 use native.Mathlib.Decide.{decLt}
 use native.Mathlib.Omega.{arith}
@@ -14,7 +14,6 @@ use lib.Pow.{pow-mono}
 use lib.ListN.{length}
 use lib.Seq.{ext-getD}
 use Rattle.sets.specs.Sets.{bit}
-use Rattle.sets.specs.Lists.{tabulate}
 use Rattle.sets.proofs.Tests.{is-false}
 use Rattle.sets.proofs.Digits.{bit-zero, bit-suc, lt2}
 use Rattle.sets.proofs.Order.{eq-of-bits}

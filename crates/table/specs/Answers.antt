@@ -1,6 +1,6 @@
 -- What an entry answers, in 01's words: the number of the refusal, 0 where nothing is refused, and the values beside it, which are
 -- blank on a refusal. Each answer of the code is read through a definition here, and no two answers read alike.
-use mathlib.Core.Bool.{Bool, cond}
+use mathlib.Core.Bool.{cond}
 use Prim.Native.Nat.{ℕ}
 use lib.Dec.{eqb}
 use Rattle.table.specs.declared.Refusal.{Refusal}

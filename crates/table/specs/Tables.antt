@@ -1,7 +1,7 @@
 -- Legal tables and the checks of a table and of a chain handed in (01, "A table has G gauges and L load cases .." and the refusals
 -- 10 to 13). The tests are written out in 01's order; that they decide `Legal` and `Within` is proved in proofs/Legality.antt.
 use mathlib.Core.Path.{_≡_}
-use mathlib.Core.Bool.{Bool, true, false, _&&_, cond}
+use mathlib.Core.Bool.{Bool, true, _&&_, cond}
 use mathlib.Core.List.{List, [], _∷_, _++_}
 use Prim.Native.Nat.{ℕ, zero, suc, _-_, _^_, _≤_, _<_}
 use lib.Dec.{eqb, leb, ltb}

@@ -8,7 +8,6 @@ use Rattle.table.specs.Tables.{Legal, tableRefusal}
 use Rattle.table.specs.Transposing.{transpose}
 use Rattle.table.proofs.Answering.{number-pos, verdict-refused, verdict-accepted}
 use Rattle.table.proofs.Legality.{legal-of}
-use Rattle.walk.specs.Machine.{Phase}
 use Rattle.listing.specs.Demand.{caseSideOf}
 use Rattle.runs.specs.Paused.{caseValue}
 use Rattle.runs.specs.Working.{Sized}

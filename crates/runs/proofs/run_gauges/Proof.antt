@@ -1,17 +1,12 @@
 -- `runs::run_gauges` meets its contract: the refusals by their numbers, and the core's moves at the gauge side (`call-moves`).
-use Prim.Native.Nat.{ℕ}
-use mathlib.Core.Path.{_≡_, refl, sym, ap, _∙_, subst}
-use mathlib.Core.List.{List}
+use mathlib.Core.Path.{_≡_, refl}
 use borrow.Author.Needs.{needs}
-use lib.ListN.{length, take}
+use lib.ListN.{length}
 use Rattle.table.specs.Tables.{Legal, tableRefusal}
-use Rattle.table.specs.Transposing.{transpose}
 use Rattle.table.proofs.Answering.{number-pos, verdict-refused, verdict-accepted}
 use Rattle.table.proofs.Legality.{legal-of}
-use Rattle.walk.specs.Machine.{Phase}
 use Rattle.listing.specs.Demand.{gaugeSideOf}
 use Rattle.runs.specs.Paused.{gaugeValue}
-use Rattle.runs.specs.Working.{Sized}
 use Rattle.runs.proofs.Answered.{called-refused}
 use Rattle.runs.proofs.Sides.{legal-sized, gauge-chain}
 use Rattle.runs.proofs.SideCalls.{call-unreached, call-large, call-moves, value-phase}

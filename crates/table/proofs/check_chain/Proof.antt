@@ -1,6 +1,5 @@
 -- `table::check_chain` meets its contract: each answer is 01's number by the tests that led to it.
 use borrow.Author.Needs.{needs}
-use mathlib.Core.Path.{_∙_}
 use borrow.Author.Tests.{not-true, not-false}
 use Rattle.table.proofs.Answering.{number-pos, verdict-refused, verdict-accepted}
 use Rattle.table.proofs.Legality.{chain-refused, no-count, no-pairs, chain-passes}

@@ -1,5 +1,4 @@
 -- `runs::engine::pick` meets its contract: the stores are the ones it names.
-use Prim.Native.Nat.{ℕ, _+_}
 use mathlib.Core.Path.{refl, ap}
 use native.Mathlib.Omega.{arith}
 use borrow.Author.Needs.{needs}

@@ -1,6 +1,6 @@
 -- `runs::engine::replay` meets its contract: the picks passed have been made again (`Front`), and one that cannot be was never made.
 use Prim.Native.Nat.{_≤_, _-_}
-use mathlib.Core.Path.{_≡_, refl, sym}
+use mathlib.Core.Path.{refl, sym}
 use native.Mathlib.Omega.{arith}
 use borrow.Author.Tests.{not-true, not-false}
 use borrow.Author.Needs.{needs}
