@@ -1,5 +1,5 @@
 -- The moves of a call, one after the other: the first m of b moves, and what the call comes to after a hand-out, an end, or the budget.
-use mathlib.Core.Path.{_≡_, ap, _∙_, subst}
+use mathlib.Core.Path.{sym, _≡_, ap, _∙_, subst}
 use mathlib.Core.List.{List}
 use Prim.Native.Nat.{ℕ, suc, _+_, _-_, _≤_, _<_}
 use native.Mathlib.Omega.{arith}
@@ -7,9 +7,10 @@ use lib.ListN.{take}
 use Rattle.walk.specs.Machine.{State, Move, gives, nothing, hands, ends, move}
 use Rattle.walk.specs.Calls.{spent, Call, result, proceed, carry}
 use Rattle.listing.specs.Picks.{candidates}
-use Rattle.runs.specs.Working.{Ahead, ComesOut, stateOf, Holds, SteppedBy, Stepped, Advanced}
+use Rattle.runs.specs.Working.{Ahead, ComesOut, stateOf, Holds, SteppedBy, Stepped, Advanced, reportOf}
 use Rattle.runs.specs.declared.engine.Done.the-variants.{HandedOut, Spent, End}
 use Rattle.runs.specs.declared.engine.Spot.{Spot}
+use Rattle.runs.specs.declared.engine.Report.{Report}
 use Rattle.runs.specs.declared.engine.Moved.{Moved}
 use Rattle.runs.specs.declared.engine.Moved.the-variants.{On, Out, Over}
 
@@ -63,16 +64,19 @@ module _ (n : ℕ) (rows u c k : List ℕ) (b m : ℕ) (x y : State) (a : Ahead 
       let w : SteppedBy n rows u c k (move (candidates (take n rows)) y) (On s) = subst (SteppedBy n rows u c k (move (candidates (take n rows)) y)) e (h .says) in
       (w .1, ahead-more (take n rows) (stateOf k s) a l (w .0))
 
-  pub turn-out : (s : Spot) (o : Moved) → o ≡ Out s → Stepped n rows u c k (move (candidates (take n rows)) y) o → Advanced n rows u c k b x (record { done = HandedOut; moves = m + 1; spot = s })
+  pub turn-out : (s : Spot) (o : Moved) → o ≡ Out s → Stepped n rows u c k (move (candidates (take n rows)) y) o → Advanced n rows u c k b x (reportOf HandedOut (m + 1) s)
   turn-out s o e h =
       let w : SteppedBy n rows u c k (move (candidates (take n rows)) y) (Out s) = subst (SteppedBy n rows u c k (move (candidates (take n rows)) y)) e (h .says) in
       record { comes = ahead-out (take n rows) (stateOf k s) a l (w .0); holds = w .1 }
 
-  pub turn-over : (s : Spot) (o : Moved) → o ≡ Over s → Stepped n rows u c k (move (candidates (take n rows)) y) o → Advanced n rows u c k b x (record { done = End; moves = m + 1; spot = s })
+  pub turn-over : (s : Spot) (o : Moved) → o ≡ Over s → Stepped n rows u c k (move (candidates (take n rows)) y) o → Advanced n rows u c k b x (reportOf End (m + 1) s)
   turn-over s o e h =
       let w : SteppedBy n rows u c k (move (candidates (take n rows)) y) (Over s) = subst (SteppedBy n rows u c k (move (candidates (take n rows)) y)) e (h .says) in
       record { comes = ahead-over (take n rows) (stateOf k s) a l (w .0); holds = w .1 }
 
 pub turn-spent : (n : ℕ) (rows u c k : List ℕ) (b m : ℕ) (x : State) (s : Spot) → Holds n rows u c k s → Ahead (take n rows) b m x (stateOf k s) → b ≤ m
-    → Advanced n rows u c k b x (record { done = Spent; moves = m; spot = s })
+    → Advanced n rows u c k b x (reportOf Spent m s)
 turn-spent n rows u c k b m x s h a l = record { comes = ahead-spent (take n rows) a l; holds = h }
+
+pub advanced-as : (n : ℕ) (rows u c k : List ℕ) (b : ℕ) (x : State) (r o : Report) → r ≡ o → Advanced n rows u c k b x o → Advanced n rows u c k b x r
+advanced-as n rows u c k b x r o e h = subst (Advanced n rows u c k b x) (sym e) h

@@ -8,7 +8,7 @@ use Rattle.walk.specs.Machine.{Phase, State, at}
 use Rattle.walk.specs.Calls.{mostBudget}
 use Rattle.walk.specs.Fitting.{Valid}
 use Rattle.listing.specs.Picks.{candidates}
-use Rattle.runs.specs.Working.{Sized, modePhase, placed, stateOf, HoldsAt, Holds, ComesOut, Advanced, Decides, RestZero, Front, Replays, PhaseIn, StandsFor, CarriedBy, CarriesOn}
+use Rattle.runs.specs.Working.{Sized, modePhase, placed, stateOf, HoldsAt, Holds, ComesOut, Advanced, Decides, RestZero, Front, Replays, PhaseIn, StandsFor, CarriedBy, CarriesOn, carriedOf}
 use Rattle.runs.specs.declared.engine.Mode.{Mode}
 use Rattle.runs.specs.declared.engine.Spot.{Spot}
 use Rattle.runs.specs.declared.engine.Fate.{Fate}
@@ -79,8 +79,8 @@ module _ (n : ℕ) (rows k : List ℕ) (count : ℕ) (m : Mode) (b : ℕ) (z : S
       may-advance = holds-own standing
 
       pub went-on : (u′ c′ k′ : List ℕ) (p : Report) → b ≤ mostBudget → Advanced n rows u′ c′ k′ b (stateOf k spot) p
-          → CarriesOn r k count f b c′ k′ (record { fate = Moves (p .done); moves = p .moves; count = p .spot .count; mode = p .spot .mode })
-      went-on u′ c′ k′ p l h = record {
+          → (o : Carried) → o ≡ carriedOf p → CarriesOn r k count f b c′ k′ o
+      went-on u′ c′ k′ p l h o e = subst (CarriesOn r k count f b c′ k′) (sym e) (record {
         says = record {
           from = from;
           legal = legal;
@@ -90,4 +90,4 @@ module _ (n : ℕ) (rows k : List ℕ) (count : ℕ) (m : Mode) (b : ℕ) (z : S
           chained = h .holds .chained;
           stands = record { picked = h .holds .picked; counted = h .holds .counted; phased = h .holds .phased; fits = h .holds .fits };
         };
-      }
+      })

@@ -1,6 +1,6 @@
 -- A run call of either side, put together from what the core says: which refusal, or the moves with the chain by gauge rows and the next
 -- value. The side's rows are the first n of the array R that the core worked on.
-use mathlib.Core.Path.{_≡_, ap, ap₂, _∙_, subst}
+use mathlib.Core.Path.{_≡_, refl, sym, ap, _∙_, subst}
 use mathlib.Core.List.{List}
 use Prim.Native.Nat.{ℕ}
 use lib.ListN.{length, take}
@@ -12,7 +12,7 @@ use Rattle.listing.specs.Lists.{Side}
 use Rattle.listing.specs.Rules.{chainOf, handOut}
 use Rattle.runs.specs.Paused.{Value}
 use Rattle.runs.specs.Calling.{Step, outcome, refusal, Called}
-use Rattle.runs.specs.Working.{modePhase, doneOutcome, doneChain, CarriedBy, CarriesOn}
+use Rattle.runs.specs.Working.{modePhase, doneOutcome, doneChain, CarriedBy, CarriesOn, carriedBy, carriedStep}
 use Rattle.runs.specs.declared.Outcome.{Outcome}
 use Rattle.runs.specs.declared.engine.Mode.{Mode}
 use Rattle.runs.specs.declared.engine.Done.{Done}
@@ -33,23 +33,31 @@ module _ (side : Table → Side) (v : Value) (b : ℕ) (ok : tableRefusal (v .ta
       (subst (λ (f : Phase). CarriedBy (side t .rows) (v .picks) (v .count) f b c′ k′ o (o .fate)) mode-is
       (subst (λ (r : List ℕ). CarriedBy r (v .picks) (v .count) (modePhase m) b c′ k′ o (o .fate)) rows-are (h .says)))
 
-  pub call-unreached : o .fate ≡ NotReached → (r : Step) → r ≡ refusal 15 → Called side v b r
-  call-unreached e = called-unreached side v b ok (says NotReached e)
-
-  pub call-large : o .fate ≡ TooLarge → (r : Step) → r ≡ refusal 18 → Called side v b r
-  call-large e = let w = says TooLarge e in called-large side v b ok (w .0) (w .1 .0) (w .1 .1)
-
-  pub call-moves : (done : Done) → o .fate ≡ Moves done → (rows : List ℕ)
+  -- what the core came to, whichever it was, is the answer of the call
+  pub call-answer : (rows : List ℕ)
       → ((y : State) → c′ ≡ padded (chainOf (side t .rows) (y .picks)) → (rows ≡ padded (handOut (side t) (y .picks))) × (length (handOut (side t) (y .picks)) ≡ t .gauges))
-      → (w : Value) → w ≡ record { table = t; picks = k′; count = o .count; phase = modePhase (o .mode) }
-      → (a : Outcome) (x : Chain) → a ≡ doneOutcome done → x ≡ doneChain (t .gauges) done rows
-      → Called side v b (record { answer = outcome a (chainRows x); moves = o .moves; chain = x; next = w })
-  call-moves done e rows chain w ew a x ea ex =
-      let g = says (Moves done) e in
-      let k = chain (g .to) (g .chained) in
-      called-moves side v b ok (g .from) (g .legal) (g .budget) done (o .moves) (g .to) (g .comes) (record { answer = outcome a (chainRows x); moves = o .moves; chain = x; next = w })
-      (ap₂ (λ (p : Outcome) (q : Chain). record { answer = outcome p (chainRows q); moves = o .moves; chain = q; next = w }) ea ex
-      ∙ by-moves t (side t) done (o .moves) (g .to) rows w (k .0) (k .1) (value-stands t (side t .rows) k′ (o .count) (modePhase (o .mode)) (g .to) (g .stands) w ew))
+      → (r : Step) → r ≡ carriedStep t o k′ rows → Called side v b r
+  call-answer rows chain r e = go (o .fate) refl
+    where
+      told-as : (x : Fate) → o .fate ≡ x → r ≡ carriedBy t x o k′ rows
+      told-as x d = e ∙ ap (λ (y : Fate). carriedBy t y o k′ rows) d
 
-pub value-phase : (t : Table) (k : List ℕ) (n : ℕ) (f g : Phase) → f ≡ g → _≡_ {A = Value} (record { table = t; picks = k; count = n; phase = f }) (record { table = t; picks = k; count = n; phase = g })
-value-phase t k n f g e = ap (λ (h : Phase). record { table = t; picks = k; count = n; phase = h }) e
+      go : (x : Fate) → o .fate ≡ x → Called side v b r
+      go NotReached d = called-unreached side v b ok (says NotReached d) r (told-as NotReached d)
+      go TooLarge d = let w = says TooLarge d in called-large side v b ok (w .0) (w .1 .0) (w .1 .1) r (told-as TooLarge d)
+      go (Moves done) d =
+          let g = says (Moves done) d in
+          let k = chain (g .to) (g .chained) in
+          called-moves side v b ok (g .from) (g .legal) (g .budget) done (o .moves) (g .to) (g .comes) r
+          (told-as (Moves done) d ∙ by-moves t (side t) done (o .moves) (g .to) rows (record { table = t; picks = k′; count = o .count; phase = modePhase (o .mode) }) (k .0) (k .1)
+          (value-stands t (side t .rows) k′ (o .count) (modePhase (o .mode)) (g .to) (g .stands) (record { table = t; picks = k′; count = o .count; phase = modePhase (o .mode) }) refl))
+
+-- ---- the answers of the thin functions
+module _ (t : Table) (o : Carried) (k rows : List ℕ) where
+  -- a call that the core did not take
+  pub answer-refused : (x : Fate) → o .fate ≡ x → (r : Step) → r ≡ carriedBy t x o k rows → r ≡ carriedStep t o k rows
+  answer-refused x e r d = d ∙ ap (λ (y : Fate). carriedBy t y o k rows) (sym e)
+
+  pub answer-moves : (done : Done) → o .fate ≡ Moves done → (a : Outcome) (c : Chain) (f : Phase) → a ≡ doneOutcome done → c ≡ doneChain (t .gauges) done rows → f ≡ modePhase (o .mode)
+      → record { answer = outcome a (chainRows c); moves = o .moves; chain = c; next = record { table = t; picks = k; count = o .count; phase = f } } ≡ carriedStep t o k rows
+  answer-moves done e a c f ea ec ef = answer-refused (Moves done) e (record { answer = outcome a (chainRows c); moves = o .moves; chain = c; next = record { table = t; picks = k; count = o .count; phase = f } }) (rw (ea, ec, ef))

@@ -6,7 +6,7 @@ use mathlib.Core.Bool.{Bool, true, false, cond}
 use Prim.Native.Nat.{ℕ, suc, _+_, _-_, _^_, _≤_, _<_}
 use lib.Dec.{eqb}
 use lib.ListN.{length, take, getD}
-use Rattle.table.specs.Tables.{padded, blankChain}
+use Rattle.table.specs.Tables.{padded, chainRows, blankChain}
 use Rattle.sets.specs.Sets.{_⊆_, lowest}
 use Rattle.table.specs.Pairs.{row}
 use Rattle.walk.specs.Machine.{Phase, Down, Handed, Back, Ended, State, Move, gives, nothing, hands, ends}
@@ -17,7 +17,9 @@ use Rattle.listing.specs.Rules.{chainOf}
 use Rattle.candidates.specs.Finding.{candidateIn}
 use Rattle.candidates.proofs.AfterPicks.{After}
 use Rattle.table.specs.declared.Chain.{Chain}
+use Rattle.table.specs.declared.Table.{Table}
 use Rattle.runs.specs.Paused.{numbered}
+use Rattle.runs.specs.Calling.{Step, outcome, refusal}
 use Rattle.runs.specs.declared.Outcome.{Outcome}
 use Rattle.runs.specs.declared.Outcome.the-variants.{HandedOut as outHanded, Spent as outSpent, End as outEnd}
 use Rattle.runs.specs.declared.engine.Mode.{Mode}
@@ -113,6 +115,9 @@ pub record Advanced (n : ℕ) (rows u c k : List ℕ) (b : ℕ) (x : State) (r :
   pub comes : ComesOut (take n rows) b x (r .done) (r .moves) (stateOf k (r .spot))
   pub holds : Holds n rows u c k (r .spot)
 
+abbrev pub reportOf : Done → ℕ → Spot → Report
+reportOf done moves spot = record { done = done; moves = moves; spot = spot }
+
 -- the first m of b moves from x led to y, and gave nothing
 pub record Ahead (r : List ℕ) (b m : ℕ) (x y : State) : Type 0 where
   pub most : m ≤ b
@@ -174,6 +179,9 @@ CarriedBy r k count f b c′ k′ o (Moves done) = Went r k count f b done c′ 
 pub record CarriesOn (r k : List ℕ) (count : ℕ) (f : Phase) (b : ℕ) (c′ k′ : List ℕ) (o : Carried) : Type 0 where
   pub says : CarriedBy r k count f b c′ k′ o (o .fate)
 
+abbrev pub carriedOf : Report → Carried
+carriedOf p = record { fate = Moves (p .done); moves = p .moves; count = p .spot .count; mode = p .spot .mode }
+
 -- ---- what the thin functions above the core translate
 abbrev pub doneOutcome : Done → Outcome
 doneOutcome HandedOut = outHanded
@@ -184,3 +192,17 @@ abbrev pub doneChain : ℕ → Done → List ℕ → Chain
 doneChain gauges HandedOut rows = record { gauges = gauges; rows = rows }
 doneChain gauges Spent rows = blankChain
 doneChain gauges End rows = blankChain
+
+-- the answer of what the core came to on the table t, with the picks k and the chain's rows that it left
+abbrev pub carriedBy : Table → Fate → Carried → List ℕ → List ℕ → Step
+carriedBy t NotReached o k rows = refusal 15
+carriedBy t TooLarge o k rows = refusal 18
+carriedBy t (Moves done) o k rows = record {
+  answer = outcome (doneOutcome done) (chainRows (doneChain (t .gauges) done rows));
+  moves = o .moves;
+  chain = doneChain (t .gauges) done rows;
+  next = record { table = t; picks = k; count = o .count; phase = modePhase (o .mode) };
+}
+
+abbrev pub carriedStep : Table → Carried → List ℕ → List ℕ → Step
+carriedStep t o k rows = carriedBy t (o .fate) o k rows

@@ -9,7 +9,7 @@ ghost use lib.Bits.{bitAnd};
 ghost use Rattle.table.specs.Tables.{noRows};
 ghost use Rattle.walk.specs.Machine.{move as moved, takeBack, cutLast};
 ghost use Rattle.listing.specs.Picks.{candidates as candidatesOf};
-ghost use Rattle.runs.specs.Working.{Sized, Holds, stateOf, modePhase, spotDown, Stepped, TakesBack, NumberAt, leftAfter, Advanced, Decides, RestZero, Replays, PhaseIn, CarriesOn};
+ghost use Rattle.runs.specs.Working.{Sized, Holds, stateOf, modePhase, spotDown, Stepped, TakesBack, NumberAt, leftAfter, Advanced, Decides, RestZero, Replays, PhaseIn, CarriesOn, reportOf, carriedOf};
 
 // "A run call has a budget from 0 to 1,000,000 moves" (01).
 const MOST_BUDGET: u64 = 1_000_000;
@@ -113,14 +113,21 @@ pub fn carry_on(
         mode: mode,
     };
     let report = advance(rows, n, unpicked, chain, picks, at, budget);
+    moved_on(report)
+}
+
+// The outcome of a call that made its moves.
+fn moved_on(report: Report) -> Carried
+    ensures { λ r. ⌜ r ≡ carriedOf report ⌝ }
+{
     let done = report.done;
     let spot = report.spot;
-    let mode_after = spot.mode;
+    let mode = spot.mode;
     Carried {
         fate: Fate::Moves(done),
         moves: report.moves,
         count: spot.count as u64,
-        mode: mode_after,
+        mode: mode,
     }
 }
 
@@ -242,23 +249,21 @@ fn advance(
                 moves += 1;
             }
             Moved::Out(next) => {
-                return Report {
-                    done: Done::HandedOut,
-                    moves: moves + 1,
-                    spot: next,
-                };
+                return reported(Done::HandedOut, moves + 1, next);
             }
             Moved::Over(next) => {
-                return Report {
-                    done: Done::End,
-                    moves: moves + 1,
-                    spot: next,
-                };
+                return reported(Done::End, moves + 1, next);
             }
         }
     }
+    reported(Done::Spent, moves, spot)
+}
+
+fn reported(done: Done, moves: u64, spot: Spot) -> Report
+    ensures { λ r. ⌜ r ≡ reportOf done moves spot ⌝ }
+{
     Report {
-        done: Done::Spent,
+        done: done,
         moves: moves,
         spot: spot,
     }

@@ -3,6 +3,7 @@
 // that another crate can call has a `requires`, and none is lent memory.
 mod engine;
 
+use engine::Carried;
 use engine::Done;
 use engine::Fate;
 use engine::Mode;
@@ -20,7 +21,7 @@ ghost use Rattle.walk.specs.Machine.{fresh};
 ghost use Rattle.listing.specs.Demand.{gaugeSideOf, caseSideOf};
 ghost use Rattle.runs.specs.Paused.{gaugePhase, casePhase, gaugeValue, caseValue, gaugeStarted, caseStarted, paused, blankValue};
 ghost use Rattle.runs.specs.Calling.{Called, gaugeStep, caseStep, refusal, KeepsDemand};
-ghost use Rattle.runs.specs.Working.{modePhase, doneOutcome, doneChain};
+ghost use Rattle.runs.specs.Working.{modePhase, doneOutcome, doneChain, carriedStep};
 
 // The phase of a gauge run (01: "Down, Handed, Back from gauge g, or Ended").
 pub enum Phase {
@@ -139,10 +140,10 @@ pub fn run_gauges(p: GaugeRun, budget: u64) -> GaugeStep
     let mut unpicked = t.rows;
     let mut chain = [0u64; 64];
     let mut picks = p.picks;
-    let count = p.count;
     let phase = p.phase;
     let mode = gauge_mode(phase);
     let n = t.gauges as usize;
+    let count = p.count;
     let made = engine::carry_on(
         &rows,
         n,
@@ -153,25 +154,7 @@ pub fn run_gauges(p: GaugeRun, budget: u64) -> GaugeStep
         mode,
         budget,
     );
-    let fate = made.fate;
-    let mode_after = made.mode;
-    let phase_after = gauge_phase(mode_after);
-    let next = GaugeRun {
-        table: t,
-        picks: picks,
-        count: made.count,
-        phase: phase_after,
-    };
-    match fate {
-        Fate::NotReached => gauge_refusal(Refusal::NotReached),
-        Fate::TooLarge => gauge_refusal(Refusal::BudgetTooLarge),
-        Fate::Moves(done) => GaugeStep {
-            outcome: outcome_of(done),
-            moves: made.moves,
-            chain: chain_of(t.gauges, done, chain),
-            next: next,
-        },
-    }
+    gauge_answer(t, made, picks, chain)
 }
 
 // A call of the case run with a budget of moves, on any paused value: 10, 11, 15 and 18 are refused.
@@ -188,10 +171,10 @@ pub fn run_cases(p: CaseRun, budget: u64) -> CaseStep
     let mut unpicked = rows;
     let mut chain = [0u64; 64];
     let mut picks = p.picks;
-    let count = p.count;
     let phase = p.phase;
     let mode = case_mode(phase);
     let n = t.cases as usize;
+    let count = p.count;
     let made = engine::carry_on(
         &rows,
         n,
@@ -202,14 +185,43 @@ pub fn run_cases(p: CaseRun, budget: u64) -> CaseStep
         mode,
         budget,
     );
+    case_answer(t, made, picks, table::transpose_rows(chain))
+}
+
+// The answer of what the core came to, with the picks and the chain by gauge rows that it left.
+fn gauge_answer(t: Table, made: Carried, picks: [u8; 64], rows: [u64; 64]) -> GaugeStep
+    ensures { λ r. ⌜ gaugeStep r ≡ carriedStep t made picks rows ⌝ }
+{
     let fate = made.fate;
-    let mode_after = made.mode;
-    let phase_after = case_phase(mode_after);
+    let mode = made.mode;
+    let next = GaugeRun {
+        table: t,
+        picks: picks,
+        count: made.count,
+        phase: gauge_phase(mode),
+    };
+    match fate {
+        Fate::NotReached => gauge_refusal(Refusal::NotReached),
+        Fate::TooLarge => gauge_refusal(Refusal::BudgetTooLarge),
+        Fate::Moves(done) => GaugeStep {
+            outcome: outcome_of(done),
+            moves: made.moves,
+            chain: chain_of(t.gauges, done, rows),
+            next: next,
+        },
+    }
+}
+
+fn case_answer(t: Table, made: Carried, picks: [u8; 64], rows: [u64; 64]) -> CaseStep
+    ensures { λ r. ⌜ caseStep r ≡ carriedStep t made picks rows ⌝ }
+{
+    let fate = made.fate;
+    let mode = made.mode;
     let next = CaseRun {
         table: t,
         picks: picks,
         count: made.count,
-        phase: phase_after,
+        phase: case_phase(mode),
     };
     match fate {
         Fate::NotReached => case_refusal(Refusal::NotReached),
@@ -217,7 +229,7 @@ pub fn run_cases(p: CaseRun, budget: u64) -> CaseStep
         Fate::Moves(done) => CaseStep {
             outcome: outcome_of(done),
             moves: made.moves,
-            chain: chain_of(t.gauges, done, table::transpose_rows(chain)),
+            chain: chain_of(t.gauges, done, rows),
             next: next,
         },
     }

@@ -1,19 +1,19 @@
--- `runs::run_cases` meets its contract: the refusals by their numbers, and the core's moves at the case side (`call-moves`).
+-- `runs::run_cases` meets its contract: a refused table by its number, and what the core came to at the case side (`call-answer`).
 use Prim.Native.Nat.{ℕ}
 use mathlib.Core.Path.{_≡_, refl, sym, ap, _∙_, subst}
 use mathlib.Core.List.{List}
 use borrow.Author.Needs.{needs}
 use lib.ListN.{length, take}
-use Rattle.table.specs.Tables.{Legal, tableRefusal}
 use Rattle.table.specs.Transposing.{transpose}
+use Rattle.table.specs.Tables.{Legal, tableRefusal}
 use Rattle.table.proofs.Answering.{number-pos, verdict-refused, verdict-accepted}
 use Rattle.table.proofs.Legality.{legal-of}
 use Rattle.listing.specs.Demand.{caseSideOf}
-use Rattle.runs.specs.Paused.{caseValue}
 use Rattle.runs.specs.Working.{Sized}
+use Rattle.runs.specs.Paused.{caseValue}
 use Rattle.runs.proofs.Answered.{called-refused}
 use Rattle.runs.proofs.Sides.{case-sized, case-rows, case-chain, turned}
-use Rattle.runs.proofs.SideCalls.{call-unreached, call-large, call-moves, value-phase}
+use Rattle.runs.proofs.SideCalls.{call-answer}
 use Rattle.runs.proofs.run_cases.Statement.{statement}
 use Rattle.runs.proofs.run_cases.Tie as tie
 
@@ -53,41 +53,14 @@ case-mode-requires c κs = search needs
 carry-on-requires : tie.Need-carry-on-requires
 carry-on-requires c κs = (sized (c .before .before .before .before .before .before .before .before) _ (c .before .before .before .before .before .before .transpose-rows .ensures), refl, refl, search needs)
 
-case-phase-requires : tie.Need-case-phase-requires
-case-phase-requires c κs = search needs
-
-enum-told-2 : tie.Need-enum-told-2
-enum-told-2 c = search needs
-
-case-refusal-requires-2 : tie.Need-case-refusal-requires-2
-case-refusal-requires-2 c κs = search needs
-
-enum-told-3 : tie.Need-enum-told-3
-enum-told-3 c = search needs
-
-case-refusal-requires-3 : tie.Need-case-refusal-requires-3
-case-refusal-requires-3 c κs = search needs
-
-enum-known-fate : tie.Need-enum-known-fate
-enum-known-fate c = search needs
-
-outcome-of-requires : tie.Need-outcome-of-requires
-outcome-of-requires c κs = search needs
-
 transpose-rows-requires-2 : tie.Need-transpose-rows-requires-2
 transpose-rows-requires-2 c κs = search needs
 
-chain-of-requires : tie.Need-chain-of-requires
-chain-of-requires c κs = search needs
+case-answer-requires : tie.Need-case-answer-requires
+case-answer-requires c κs = search needs
 
 returns-2 : tie.Need-returns-2
-returns-2 c = call-unreached caseSideOf (caseValue (c .before .before .before .before .before .before .before .before .before .before .before .before .before .before .before .before .before .args .p)) (c .before .before .before .before .before .before .before .before .before .before .before .before .before .before .before .before .before .args .budget) (passed (c .before .before .before .before .before .before .before .before .before .before .before .before .before)) (c .before .before .before .before .before .before .before .before .before .before .before .before .before .before .before .before .before .args .p .table .cases) (c .before .before .before .before .before .before .before .before .before .before .before .transpose-rows .result) (ap (take (c .before .before .before .before .before .before .before .before .before .before .before .before .before .before .before .before .before .args .p .table .cases)) (c .before .before .before .before .before .before .before .before .before .before .before .transpose-rows .ensures) ∙ case-rows _ (legal (c .before .before .before .before .before .before .before .before .before .before .before .before .before))) (c .before .before .before .before .before .before .before .before .before .case-mode .result) (c .before .before .before .before .before .before .before .before .before .case-mode .ensures) _ _ _ (c .before .before .before .before .carry-on .ensures) (c .before .enum-told2 .given .1) _ (c .case-refusal2 .ensures)
-
-returns-3 : tie.Need-returns-3
-returns-3 c = call-large caseSideOf (caseValue (c .before .before .before .before .before .before .before .before .before .before .before .before .before .before .before .before .before .args .p)) (c .before .before .before .before .before .before .before .before .before .before .before .before .before .before .before .before .before .args .budget) (passed (c .before .before .before .before .before .before .before .before .before .before .before .before .before)) (c .before .before .before .before .before .before .before .before .before .before .before .before .before .before .before .before .before .args .p .table .cases) (c .before .before .before .before .before .before .before .before .before .before .before .transpose-rows .result) (ap (take (c .before .before .before .before .before .before .before .before .before .before .before .before .before .before .before .before .before .args .p .table .cases)) (c .before .before .before .before .before .before .before .before .before .before .before .transpose-rows .ensures) ∙ case-rows _ (legal (c .before .before .before .before .before .before .before .before .before .before .before .before .before))) (c .before .before .before .before .before .before .before .before .before .case-mode .result) (c .before .before .before .before .before .before .before .before .before .case-mode .ensures) _ _ _ (c .before .before .before .before .carry-on .ensures) (c .before .enum-told3 .given .1) _ (c .case-refusal3 .ensures)
-
-returns-4 : tie.Need-returns-4
-returns-4 c = call-moves caseSideOf (caseValue (c .before .before .before .before .before .before .before .before .before .before .before .before .before .before .before .before .before .before .before .before .args .p)) (c .before .before .before .before .before .before .before .before .before .before .before .before .before .before .before .before .before .before .before .before .args .budget) (passed (c .before .before .before .before .before .before .before .before .before .before .before .before .before .before .before .before)) (c .before .before .before .before .before .before .before .before .before .before .before .before .before .before .before .before .before .before .before .before .args .p .table .cases) (c .before .before .before .before .before .before .before .before .before .before .before .before .before .before .transpose-rows .result) (ap (take (c .before .before .before .before .before .before .before .before .before .before .before .before .before .before .before .before .before .before .before .before .args .p .table .cases)) (c .before .before .before .before .before .before .before .before .before .before .before .before .before .before .transpose-rows .ensures) ∙ case-rows _ (legal (c .before .before .before .before .before .before .before .before .before .before .before .before .before .before .before .before))) (c .before .before .before .before .before .before .before .before .before .before .before .before .case-mode .result) (c .before .before .before .before .before .before .before .before .before .before .before .before .case-mode .ensures) _ _ _ (c .before .before .before .before .before .before .before .carry-on .ensures) _ (c .before .before .before .before .fate .given .1) _ (λ y e. turned _ y _ _ (case-chain _ (legal (c .before .before .before .before .before .before .before .before .before .before .before .before .before .before .before .before)) y _ e) (c .before .transpose-rows2 .ensures)) _ (value-phase _ _ _ _ _ (c .before .before .before .before .before .before .case-phase .ensures)) _ _ (c .before .before .outcome-of .ensures) (c .chain-of .ensures)
+returns-2 c = call-answer caseSideOf (caseValue (c .before .before .before .before .before .before .before .before .before .before .before .before .before .before .before .args .p)) (c .before .before .before .before .before .before .before .before .before .before .before .before .before .before .before .args .budget) (passed (c .before .before .before .before .before .before .before .before .before .before .before)) (c .before .before .before .before .before .before .before .before .before .before .before .before .before .before .before .args .p .table .cases) (c .before .before .before .before .before .before .before .before .before .transpose-rows .result) (ap (take (c .before .before .before .before .before .before .before .before .before .before .before .before .before .before .before .args .p .table .cases)) (c .before .before .before .before .before .before .before .before .before .transpose-rows .ensures) ∙ case-rows _ (legal (c .before .before .before .before .before .before .before .before .before .before .before))) (c .before .before .before .before .before .before .before .case-mode .result) (c .before .before .before .before .before .before .before .case-mode .ensures) _ _ _ (c .before .before .carry-on .ensures) _ (λ y e. turned _ y _ _ (case-chain _ (legal (c .before .before .before .before .before .before .before .before .before .before .before)) y _ e) (c .before .transpose-rows2 .ensures)) _ (c .case-answer .ensures)
 
 pub run-cases-spec : {M : Type 1} → statement M
 run-cases-spec =
@@ -101,15 +74,6 @@ run-cases-spec =
     transpose-rows-requires
     case-mode-requires
     carry-on-requires
-    case-phase-requires
-    enum-told-2
-    case-refusal-requires-2
-    enum-told-3
-    case-refusal-requires-3
-    enum-known-fate
-    outcome-of-requires
     transpose-rows-requires-2
-    chain-of-requires
-    returns-2
-    returns-3
-    returns-4)
+    case-answer-requires
+    returns-2)

@@ -4,7 +4,7 @@ use native.Mathlib.Omega.{arith}
 use borrow.Author.Needs.{needs}
 use lib.ListN.{take}
 use Rattle.runs.specs.Working.{Holds, stateOf, Ahead}
-use Rattle.runs.proofs.Advancing.{ahead-none, turn-on, turn-out, turn-over, turn-spent}
+use Rattle.runs.proofs.Advancing.{ahead-none, turn-on, turn-out, turn-over, turn-spent, advanced-as}
 use Rattle.runs.proofs.engine.advance.Statement.{statement}
 use Rattle.runs.proofs.engine.advance.Tie as tie
 
@@ -35,23 +35,32 @@ loop-again c = turn-on _ _ _ _ _ _ _ _ _ (c .before .before .before .before .bef
 enum-known-made-2 : tie.Need-enum-known-made-2 Inv-loop μ-loop
 enum-known-made-2 c = search needs
 
-add-t19 : tie.Need-add-t19 Inv-loop μ-loop
-add-t19 c = omega arith
+add-reported : tie.Need-add-reported Inv-loop μ-loop
+add-reported c = omega arith
+
+reported-requires : tie.Need-reported-requires Inv-loop μ-loop
+reported-requires c κs = search needs
 
 returns : tie.Need-returns Inv-loop μ-loop
-returns c = turn-out _ _ _ _ _ _ _ _ _ (c .before .before .before .before .before .before .before .before .loop .inv .1) (c .before .before .before .before .before .before .before .loop-test .taken) _ _ (c .before .made2 .given .1) (c .before .before .before .step .ensures)
+returns c = advanced-as _ _ _ _ _ _ _ _ _ (c .reported .ensures) (turn-out _ _ _ _ _ _ _ _ _ (c .before .before .before .before .before .before .before .before .before .loop .inv .1) (c .before .before .before .before .before .before .before .before .loop-test .taken) _ _ (c .before .before .made2 .given .1) (c .before .before .before .before .step .ensures))
 
 enum-known-made-3 : tie.Need-enum-known-made-3 Inv-loop μ-loop
 enum-known-made-3 c = search needs
 
-add-t21 : tie.Need-add-t21 Inv-loop μ-loop
-add-t21 c = omega arith
+add-reported-2 : tie.Need-add-reported-2 Inv-loop μ-loop
+add-reported-2 c = omega arith
+
+reported-requires-2 : tie.Need-reported-requires-2 Inv-loop μ-loop
+reported-requires-2 c κs = search needs
 
 returns-2 : tie.Need-returns-2 Inv-loop μ-loop
-returns-2 c = turn-over _ _ _ _ _ _ _ _ _ (c .before .before .before .before .before .before .before .before .loop .inv .1) (c .before .before .before .before .before .before .before .loop-test .taken) _ _ (c .before .made3 .given .1) (c .before .before .before .step .ensures)
+returns-2 c = advanced-as _ _ _ _ _ _ _ _ _ (c .reported2 .ensures) (turn-over _ _ _ _ _ _ _ _ _ (c .before .before .before .before .before .before .before .before .before .loop .inv .1) (c .before .before .before .before .before .before .before .before .loop-test .taken) _ _ (c .before .before .made3 .given .1) (c .before .before .before .before .step .ensures))
+
+reported-requires-3 : tie.Need-reported-requires-3 Inv-loop μ-loop
+reported-requires-3 c κs = search needs
 
 returns-3 : tie.Need-returns-3 Inv-loop μ-loop
-returns-3 c = turn-spent _ _ _ _ _ _ _ _ _ (c .before .loop .inv .0) (c .before .loop .inv .1) (c .loop-test .left)
+returns-3 c = advanced-as _ _ _ _ _ _ _ _ _ (c .reported3 .ensures) (turn-spent _ _ _ _ _ _ _ _ _ (c .before .before .loop .inv .0) (c .before .before .loop .inv .1) (c .before .loop-test .left))
 
 pub advance-spec : {M : Type 1} → statement M
 advance-spec =
@@ -66,9 +75,12 @@ advance-spec =
     loop-less
     loop-again
     enum-known-made-2
-    add-t19
+    add-reported
+    reported-requires
     returns
     enum-known-made-3
-    add-t21
+    add-reported-2
+    reported-requires-2
     returns-2
+    reported-requires-3
     returns-3)
