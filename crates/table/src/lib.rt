@@ -1,5 +1,5 @@
 // Response tables and chains as values: the types, the checks of a table and of a chain handed in (01, refusals 10 to 13), and the
-// table with its two sides exchanged. No function has a `requires`, and none is lent memory that it changes.
+// table with its two sides exchanged. No public function has a `requires`, and none is lent memory that it changes.
 use sets;
 ghost use mathlib.Core.Path.{_≡_};
 ghost use mathlib.Core.Logic.{_↔_};
