@@ -133,12 +133,12 @@ module _ (r p unpicked : List ℕ) (left : ℕ) (ok : Rows r) (o : After r p unp
       and-false false = refl
 
       empty : remainderIn unpicked left g ≡ 0
-          → (ltb g 64 && (not (eqb (remainderIn unpicked left g) 0) && allBelow (λ h. not (blocks (remainderIn unpicked left g) (remainderIn unpicked left h) (ltb h g))) (min n 64))) ≡ false
-      empty e = ap (λ (b : Bool). ltb g 64 && (not b && allBelow (λ h. not (blocks (remainderIn unpicked left g) (remainderIn unpicked left h) (ltb h g))) (min n 64))) (eq-eqb (remainderIn unpicked left g) 0 e) ∙ and-false (ltb g 64)
+          → (ltb g (min n 64) && (not (eqb (remainderIn unpicked left g) 0) && allBelow (λ h. not (blocks (remainderIn unpicked left g) (remainderIn unpicked left h) (ltb h g))) (min n 64))) ≡ false
+      empty e = ap (λ (b : Bool). ltb g (min n 64) && (not b && allBelow (λ h. not (blocks (remainderIn unpicked left g) (remainderIn unpicked left h) (ltb h g))) (min n 64))) (eq-eqb (remainderIn unpicked left g) 0 e) ∙ and-false (ltb g (min n 64))
 
       Goal : Type 0
       Goal =
-          (ltb g 64 && (not (eqb (remainderIn unpicked left g) 0) && allBelow (λ h. not (blocks (remainderIn unpicked left g) (remainderIn unpicked left h) (ltb h g))) (min n 64)))
+          (ltb g (min n 64) && (not (eqb (remainderIn unpicked left g) 0) && allBelow (λ h. not (blocks (remainderIn unpicked left g) (remainderIn unpicked left h) (ltb h g))) (min n 64)))
           ≡ (ltb g n && (not (isIn g p) && (not (eqb (remainder r p g) 0) && allBelow (λ h. not (rulesOut r p g h)) n)))
 
       inside : isIn g p ≡ false → g < n → Dec (remainder r p g ≡ 0) → Goal
@@ -147,7 +147,7 @@ module _ (r p unpicked : List ℕ) (left : ℕ) (ok : Rows r) (o : After r p unp
           ∙ sym (ap (λ (b : Bool). ltb g n && (not (isIn g p) && (not b && allBelow (λ h. not (rulesOut r p g h)) n))) (eq-eqb (remainder r p g) 0 z)
           ∙ ap (λ (b : Bool). ltb g n && b) (and-false (not (isIn g p))) ∙ and-false (ltb g n))
       inside e l (no z) =
-          rw (lt-ltb g 64 (omega (arith, ok .few)), lt-ltb g n l, e, remains-unpicked g e, min-eq-left (ok .few))
+          rw (min-eq-left (ok .few), lt-ltb g n l, e, remains-unpicked g e)
           (ap (λ (b : Bool). not (eqb (remainder r p g) 0) && b) (ap (λ (f : ℕ → Bool). allBelow f n) (fun-ext (λ h. agree g h z))))
 
       go : (b : Bool) → isIn g p ≡ b → Dec (g < n) → Goal

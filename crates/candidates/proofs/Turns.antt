@@ -3,7 +3,7 @@ use mathlib.Core.Path.{_≡_, refl, sym, ap, _∙_}
 use mathlib.Core.Bool.{Bool, true, false, not}
 use mathlib.Core.List.{List}
 use Prim.Native.Nat.{ℕ, _+_, _≤_, _<_, min}
-use native.Mathlib.Decide.{ℕ-discrete}
+use native.Mathlib.Decide.{ℕ-discrete, decLt}
 use native.Mathlib.Omega.{arith}
 use lib.Bits.{bitAnd}
 use lib.Dec.{ltb}
@@ -28,9 +28,9 @@ unfolding blocks
 blocks-same x y l t e d s = rw (← e, d, eq-eqb x y s)
 
 -- ---- a candidate
-pub past-places : (unpicked : List ℕ) (left n g : ℕ) → 64 ≤ g → false ≡ candidateIn unpicked left n g
+pub past-places : (unpicked : List ℕ) (left n g most : ℕ) → most ≡ min n 64 → most ≤ g → false ≡ candidateIn unpicked left n g
 unfolding candidateIn
-past-places unpicked left n g h = rw (le-ltb g 64 h)
+past-places unpicked left n g most e h = rw (le-ltb g (min n 64) (omega arith))
 
 -- the place i does not rule out g
 abbrev pub passes : List ℕ → ℕ → ℕ → ℕ → Bool
@@ -40,24 +40,24 @@ pub turn-passes : (unpicked : List ℕ) (left g i : ℕ) (t : Bool) → t ≡ bl
 unfolding meet
 turn-passes unpicked left g i t e d = ap not (sym d ∙ e)
 
-module _ (unpicked : List ℕ) (left n g : ℕ) (h : g < 64) where
+module _ (unpicked : List ℕ) (left n g most : ℕ) (m : most ≡ min n 64) (h : g < most) where
   abbrev own : ℕ
   own = bitAnd (row unpicked g) left
 
   pub empty-remainder : own ≡ 0 → false ≡ candidateIn unpicked left n g
   unfolding candidateIn meet
-  empty-remainder e = rw (lt-ltb g 64 h, eq-eqb own 0 e)
+  empty-remainder e = rw (lt-ltb g (min n 64) (omega arith), eq-eqb own 0 e)
 
   candidate-by : (own ≡ 0 → ⊥) → candidateIn unpicked left n g ≡ allBelow (passes unpicked left g) (min n 64)
   unfolding candidateIn meet
-  candidate-by e = rw (lt-ltb g 64 h, ne-eqb own 0 e)
+  candidate-by e = rw (lt-ltb g (min n 64) (omega arith), ne-eqb own 0 e)
 
-  pub blocked : (own ≡ 0 → ⊥) → (most i : ℕ) (t : Bool) → most ≡ min n 64 → i < most → t ≡ blocks own (bitAnd (row unpicked i) left) (ltb i g) → t ≡ true → false ≡ candidateIn unpicked left n g
+  pub blocked : (own ≡ 0 → ⊥) → (i : ℕ) (t : Bool) → i < most → t ≡ blocks own (bitAnd (row unpicked i) left) (ltb i g) → t ≡ true → false ≡ candidateIn unpicked left n g
   unfolding meet
-  blocked e most i t m l d s = all-fails (passes unpicked left g) (min n 64) i false (omega arith) (ap not (sym s ∙ d)) refl ∙ sym (candidate-by e)
+  blocked e i t l d s = all-fails (passes unpicked left g) (min n 64) i false (omega arith) (ap not (sym s ∙ d)) refl ∙ sym (candidate-by e)
 
-  pub unblocked : (own ≡ 0 → ⊥) → (most i : ℕ) → most ≡ min n 64 → allBelow (passes unpicked left g) i ≡ true → i ≡ most → true ≡ candidateIn unpicked left n g
-  unblocked e most i m a d = all-done (passes unpicked left g) i (min n 64) a (d ∙ m) ∙ sym (candidate-by e)
+  pub unblocked : (own ≡ 0 → ⊥) → (i : ℕ) → allBelow (passes unpicked left g) i ≡ true → i ≡ most → true ≡ candidateIn unpicked left n g
+  unblocked e i a d = all-done (passes unpicked left g) i (min n 64) a (d ∙ m) ∙ sym (candidate-by e)
 
 -- ---- the lowest
 pub first-found : (f : ℕ → Bool) (from n g : ℕ) (t : Bool) → from ≤ g → g < n → ((i : ℕ) → from ≤ i → i < g → f i ≡ false) → t ≡ f g → t ≡ true → First f from n g
@@ -72,3 +72,27 @@ below-next f from g t below e d i a b = go (ℕ-discrete i g)
     go : Dec (i ≡ g) → f i ≡ false
     go (yes x) = ap f x ∙ sym e ∙ d
     go (no x) = below i a (omega arith)
+
+-- one number only is the lowest, or none is
+pub lowest-unique : (f : ℕ → Bool) (from n r q : ℕ) → First f from n r → First f from n q → r ≡ q
+lowest-unique f from n r q a b = go (decLt r q) (decLt q r)
+  where
+    short : (x y : ℕ) → First f from n x → First f from n y → x < y → ⊥
+    short x y c d l = out (decLt x n)
+      where
+        out : Dec (x < n) → ⊥
+        out (yes h) = let e : true ≡ false = sym (c .found h .1) ∙ d .least x (c .found h .0) l in let z : _≡_ {A = ℕ} 0 1 = cc in omega arith
+        out (no h) = omega (arith, c .none (omega arith), d .none (omega arith))
+
+    go : Dec (r < q) → Dec (q < r) → r ≡ q
+    go (yes l) m = absurd (short r q a b l)
+    go (no l) (yes m) = absurd (short q r b a m)
+    go (no l) (no m) = omega arith
+
+-- a candidate of the first n places is one of them
+pub candidate-low : (unpicked : List ℕ) (left n g : ℕ) → candidateIn unpicked left n g ≡ true → g < n
+candidate-low unpicked left n g e = go (decLt g (min n 64))
+  where
+    go : Dec (g < min n 64) → g < n
+    go (yes l) = omega arith
+    go (no l) = let d : false ≡ true = past-places unpicked left n g (min n 64) refl (omega arith) ∙ e in let z : _≡_ {A = ℕ} 0 1 = cc in absurd (omega arith)

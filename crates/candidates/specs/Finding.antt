@@ -18,10 +18,10 @@ remainderIn unpicked left g = meet (row unpicked g) left
 unfoldable pub blocks : ℕ → ℕ → Bool → Bool
 blocks x y lower = isSubset x y && (not (eqb x y) || lower)
 
--- the gauge at place g is a candidate among the first n, of at most 64
+-- the gauge at place g is one of the first n, at most 64, and a candidate among them
 unfoldable pub candidateIn : List ℕ → ℕ → ℕ → ℕ → Bool
 candidateIn unpicked left n g =
-    ltb g 64
+    ltb g (min n 64)
     && (not (eqb (remainderIn unpicked left g) 0)
     && allBelow (λ h. not (blocks (remainderIn unpicked left g) (remainderIn unpicked left h) (ltb h g))) (min n 64))
 

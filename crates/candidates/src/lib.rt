@@ -9,18 +9,18 @@ ghost use Rattle.candidates.specs.Finding.{blocks as blocksIn, candidate
 // The places that there can be.
 const PLACES: usize = 64;
 
-// Whether the gauge at place `g` is a candidate, of the first `n` places.
+// Whether place `g` is one of the first `n`, and its gauge a candidate among them.
 pub fn is_candidate(unpicked: &[u64; 64], left: u64, n: usize, g: usize) -> bool
     ensures { λ r. ⌜ r ≡ candidateIn (now (unpicked .entry)) left n g ⌝ }
 {
-    if PLACES <= g {
+    let most = at_most_places(n);
+    if most <= g {
         return false;
     }
     let own = unpicked[g] & left;
     if own == 0 {
         return false;
     }
-    let most = at_most_places(n);
     let mut h = 0;
     while h < most {
         if blocks(own, unpicked[h] & left, h < g) {

@@ -20,7 +20,7 @@ use Rattle.table.specs.declared.Table.{Table}
 use Rattle.table.specs.declared.Chain.{Chain}
 use Rattle.table.specs.declared.Refusal.{Refusal}
 use Rattle.table.specs.declared.Refusal.the-variants.{NotAChain}
-use Rattle.table.proofs.Answering.{number-pos}
+use Rattle.table.proofs.Answering.{number-pos, verdict-injective}
 use Rattle.table.proofs.Legality.{ChainFacts, chain-facts, length-rows, row-tableRows, row-chainRows, chain-within}
 use Rattle.judge.specs.Judging.{judgement, Judged}
 use Rattle.judge.specs.Tests.{allNested}
@@ -30,7 +30,9 @@ use Rattle.judge.proofs.NestedTest.{chain-of-test, test-of-chain}
 use Rattle.listing.specs.Rules.{chainOf}
 use Rattle.listing.proofs.Growing.{grow, grow-first, first-unique}
 use Rattle.candidates.proofs.AfterPicks.{full, Rows}
-use Rattle.extend.specs.Extending.{refusedBy, FirstRows, Grown, Extends}
+use Rattle.table.specs.declared.Verdict.{Verdict}
+use Rattle.extend.specs.declared.Extended.{Extended}
+use Rattle.extend.specs.Extending.{extended, refusedBy, FirstRows, Grown, Extends}
 use Rattle.extend.proofs.Picking.{Picked, picked-start}
 
 -- ---- the rows of a legal table
@@ -125,3 +127,8 @@ extends-unique t s a b x y = go (ℕ-discrete (chainRefusal t s) 0) (allNested (
       where
         not-chain : ¬ IsChain (chainRows s)
         not-chain h = let w : true ≡ false = sym (test-of-chain (chainRows s) h) ∙ e in let v : _≡_ {A = ℕ} 0 1 = cc in omega arith
+
+-- no two answers read alike
+pub extended-injective : (r q : Extended) → extended r ≡ extended q → r ≡ q
+extended-injective r q e =
+    ap₂ (λ (v : Verdict) (c : Chain). record { verdict = v; chain = c }) (verdict-injective (r .verdict) (q .verdict) (ap (λ (a : Answer Chain). a .refusal) e)) (ap (λ (a : Answer Chain). a .value) e)

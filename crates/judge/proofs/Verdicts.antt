@@ -1,4 +1,5 @@
--- What each answer of the two judges says: a refusal, and a yes or a no by the tests that led to it.
+-- What each answer of the two judges says: a refusal, and a yes or a no by the tests that led to it; and that a judge has
+-- one answer (`judged-unique`).
 use mathlib.Core.Path.{_≡_, refl, sym, ap, ap₂, _∙_, subst, fun-ext}
 use mathlib.Core.Bool.{Bool, true, false}
 use mathlib.Core.List.{List}
@@ -10,14 +11,15 @@ use Rattle.sets.specs.Lists.{allBelow}
 use Rattle.table.specs.Pairs.{row}
 use Rattle.table.specs.Chains.{IsChain, IsMaximal}
 use Rattle.table.specs.Tables.{tableRows, chainRows, chainRefusal}
-use Rattle.table.specs.Answers.{number}
+use Rattle.table.specs.Answers.{number, Answer}
 use Rattle.table.specs.declared.Table.{Table}
 use Rattle.table.specs.declared.Chain.{Chain}
 use Rattle.table.specs.declared.Refusal.{Refusal}
-use Rattle.table.proofs.Answering.{number-pos}
+use Rattle.table.proofs.Answering.{number-pos, number-injective}
 use Rattle.table.proofs.Legality.{ChainFacts, chain-facts, length-chainRows, row-chainRows, chain-within, row-tableRows}
-use Rattle.judge.specs.Judging.{Judged}
+use Rattle.judge.specs.Judging.{judgement, Judged}
 use Rattle.judge.specs.Tests.{nested, nestedWith, allNested, widest, allWidest}
+use Rattle.judge.specs.declared.Judgement.{Judgement}
 use Rattle.judge.specs.declared.Judgement.the-variants.{Yes, No, Refused}
 use Rattle.judge.proofs.NestedTest.{chain-of-test, test-of-chain}
 use Rattle.judge.proofs.WidestTest.{maximal-of-test, test-of-maximal}
@@ -34,6 +36,24 @@ judged-yes n e p = record { refusal = sym e; yes = λ d. p; no = λ z d. let w :
 
 pub judged-no : {P : Type 0} (n : ℕ) → n ≡ 0 → ¬ P → Judged n P No
 judged-no n e p = record { refusal = sym e; yes = λ d. let w : _≡_ {A = ℕ} 0 1 = cc in absurd (omega arith); no = λ z d. p }
+
+-- a judge has one answer
+pub judged-unique : (n : ℕ) (P : Type 0) (r q : Judgement) → Judged n P r → Judged n P q → r ≡ q
+judged-unique n P Yes Yes a b = refl
+judged-unique n P Yes No a b = absurd (b .no (sym (a .refusal)) refl (a .yes refl))
+judged-unique n P Yes (Refused y) a b = absurd (omega (arith, a .refusal, b .refusal, number-pos y))
+judged-unique n P No Yes a b = absurd (a .no (sym (b .refusal)) refl (b .yes refl))
+judged-unique n P No No a b = refl
+judged-unique n P No (Refused y) a b = absurd (omega (arith, a .refusal, b .refusal, number-pos y))
+judged-unique n P (Refused x) Yes a b = absurd (omega (arith, a .refusal, b .refusal, number-pos x))
+judged-unique n P (Refused x) No a b = absurd (omega (arith, a .refusal, b .refusal, number-pos x))
+judged-unique n P (Refused x) (Refused y) a b = ap Refused (number-injective x y (a .refusal ∙ sym (b .refusal)))
+
+pub judgement-injective : (r q : Judgement) → judgement r ≡ judgement q → r ≡ q
+judgement-injective r q e = judged-unique (judgement r .refusal) (judgement r .value ≡ true) r q (judged r refl refl) (judged q (ap (λ (a : Answer Bool). a .refusal) (sym e)) (ap (λ (a : Answer Bool). a .value) (sym e)))
+  where
+    judged : (z : Judgement) → judgement z .refusal ≡ judgement r .refusal → judgement z .value ≡ judgement r .value → Judged (judgement r .refusal) (judgement r .value ≡ true) z
+    judged z n v = record { refusal = n; yes = λ d. sym v ∙ d; no = λ k d p. let w : false ≡ true = sym d ∙ v ∙ p in let x : _≡_ {A = ℕ} 0 1 = cc in omega arith }
 
 -- the tests look at rows one by one, so they are the same of the 64 rows and of the first G
 nested-same : (s z : List ℕ) (n : ℕ) → ((i : ℕ) → row s i ≡ row z i) → allNested s n ≡ allNested z n

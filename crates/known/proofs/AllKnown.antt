@@ -1,11 +1,11 @@
--- The known tables of 01, all in one theorem (`known-tables`). A table's gauge list is had from the list theorem of crate `listing`: the
+-- The known tables of 01, all in one theorem (`known-tables`), and the limits that they attain (`limits-attained`). A table's gauge list is had from the list theorem of crate `listing`: the
 -- chains of the leaves of the candidates, in order, are the gauge list of any table, and for a table written out they are computed. Pick
 -- sequences, numbers of pairs and moves are computed from their definitions. K6 and K7 are decided by the tests of crate `judge`, and K8 is
 -- what the greedy choice of crate `listing` gives.
 use mathlib.Core.Path.{_≡_, refl, subst}
 use mathlib.Core.Logic.{_≢_}
 use mathlib.Core.Bool.{Bool, true, false}
-use mathlib.Core.List.{List, [], _∷_, map}
+use mathlib.Core.List.{List, [], _∷_, map, List·Memᴰ, List·Memᴰ·head, List·Memᴰ·tail}
 use Prim.Native.Nat.{ℕ, suc, _-_, _≤_, _<_}
 use native.Mathlib.Omega.{arith}
 use lib.Dec.{T}
@@ -24,6 +24,7 @@ use Rattle.judge.specs.Tests.{nested, nestedWith, allNested}
 use Rattle.judge.proofs.NestedTest.{chain-of-test}
 use Rattle.judge.proofs.KnownChains.{k6-within, k6-no-chain, k7-within, k7-chain, k7-not-maximal}
 use Rattle.walk.specs.Machine.{fresh, Given, nothing, hands, ends, move, after}
+use Rattle.walk.specs.Calls.{call}
 use Rattle.walk.proofs.Sequences.{All-of}
 use Rattle.listing.specs.PickSequence.{isIn, score, best, takeFrom, pickSeq}
 use Rattle.listing.specs.Lists.{GaugeList}
@@ -31,13 +32,16 @@ use Rattle.listing.specs.Picks.{common, rulesOut, candidate, select, candidates
 use Rattle.listing.specs.Rules.{chainRow, chainOf}
 use Rattle.listing.proofs.Listed.{chainsInOrder, gauge-list}
 use Rattle.listing.proofs.Growing.{covers, fitting, growFrom, grow, grow-first}
-use Rattle.known.specs.KnownTables.{pairs, count, Entry, Lists, moveOf, k1, k2, k3, k4, k5, Known, K1, K2, K3, K4, K5, K6, K7, K8, K9, K10, Holds, knownTables, AllKnown}
+use Rattle.known.specs.KnownTables.{pairs, count, Entry, Shape, Lists, moveOf, k1, k2, k3, k4, k5, k10, Known, K1, K2, K3, K4, K5, K6, K7, K8, K9, K10, Holds, knownTables, AllKnown, Attained}
 
 -- ---- the gauge list of a table, from what is computed
-module _ (t : Table) (es : List Entry) where
-  lists : length (t .rows) ≡ 64 → tableRefusal t ≡ 0 → chainsInOrder (tableRows t) ≡ map (λ (e : Entry). e .set) es
-      → map (λ (e : Entry). map suc (pickSeq (e .set))) es ≡ map (λ (e : Entry). e .picks) es → map (λ (e : Entry). count (e .set)) es ≡ map (λ (e : Entry). e .size) es → Lists t es
-  lists n l e p c = record { legal = legal-of t n l; list = subst (GaugeList (tableRows t)) e (gauge-list (tableRows t)); picks = p; sizes = c }
+module _ (t : Table) (g l : ℕ) where
+  shape : length (t .rows) ≡ 64 → tableRefusal t ≡ 0 → t .gauges ≡ g → t .cases ≡ l → Shape t g l
+  shape n z a b = record { legal = legal-of t n z; gauges = a; cases = b }
+
+  lists : (es : List Entry) → Shape t g l → chainsInOrder (tableRows t) ≡ map (λ (e : Entry). e .set) es
+      → map (λ (e : Entry). map suc (pickSeq (e .set))) es ≡ map (λ (e : Entry). e .picks) es → map (λ (e : Entry). count (e .set)) es ≡ map (λ (e : Entry). e .size) es → Lists t g l es
+  lists es h e p c = record { shape = h; list = subst (GaugeList t) e (gauge-list (tableRows t)); picks = p; sizes = c }
 
 -- ---- 3:2 is a chain of K2
 k8 : List ℕ
@@ -72,16 +76,43 @@ none-ends t n h k l b =
 -- ---- all of them
 holds : (k : Known) → Holds k
 unfolding tableRefusal rowsFit candidates select candidate rulesOut common isIn isProperSubset isSubset meet allBelow chainOf chainRow tabulate pickSeq takeFrom best score ones onesIn grow growFrom fitting covers k8 goesOn
-holds K1 = lists k1 _ refl refl refl refl refl
-holds K2 = lists k2 _ refl refl refl refl refl
-holds K3 = lists k3 _ refl refl refl refl refl
-holds K4 = lists k4 _ refl refl refl refl refl
-holds K5 = (lists k5 _ refl refl refl refl refl, refl, refl)
+holds K1 = lists k1 _ _ _ (shape k1 _ _ refl refl refl refl) refl refl refl
+holds K2 = lists k2 _ _ _ (shape k2 _ _ refl refl refl refl) refl refl refl
+holds K3 = lists k3 _ _ _ (shape k3 _ _ refl refl refl refl) refl refl refl
+holds K4 = lists k4 _ _ _ (shape k4 _ _ refl refl refl refl) refl refl refl
+holds K5 = (lists k5 _ _ _ (shape k5 _ _ refl refl refl refl) refl refl refl, refl, refl)
 holds K6 = record { within = k6-within; no-chain = k6-no-chain }
 holds K7 = record { within = k7-within; chain = k7-chain; not-maximal = k7-not-maximal }
 holds K8 = record { within = k8-within; chain = k8-chain; first = grow-first (tableRows k2) k8 k8-within k8-chain }
 holds K9 = record { last = refl; sooner = none-ends k2 24 tt }
-holds K10 = (refl, refl, refl, refl)
+holds K10 = (shape k10 _ _ refl refl refl refl, refl, refl, refl, refl)
+
+listed : (k : Known) → List·Memᴰ k knownTables
+listed K1 = List·Memᴰ·head refl
+listed K2 = List·Memᴰ·tail (List·Memᴰ·head refl)
+listed K3 = List·Memᴰ·tail (List·Memᴰ·tail (List·Memᴰ·head refl))
+listed K4 = List·Memᴰ·tail (List·Memᴰ·tail (List·Memᴰ·tail (List·Memᴰ·head refl)))
+listed K5 = List·Memᴰ·tail (List·Memᴰ·tail (List·Memᴰ·tail (List·Memᴰ·tail (List·Memᴰ·head refl))))
+listed K6 = List·Memᴰ·tail (List·Memᴰ·tail (List·Memᴰ·tail (List·Memᴰ·tail (List·Memᴰ·tail (List·Memᴰ·head refl)))))
+listed K7 = List·Memᴰ·tail (List·Memᴰ·tail (List·Memᴰ·tail (List·Memᴰ·tail (List·Memᴰ·tail (List·Memᴰ·tail (List·Memᴰ·head refl))))))
+listed K8 = List·Memᴰ·tail (List·Memᴰ·tail (List·Memᴰ·tail (List·Memᴰ·tail (List·Memᴰ·tail (List·Memᴰ·tail (List·Memᴰ·tail (List·Memᴰ·head refl)))))))
+listed K9 = List·Memᴰ·tail (List·Memᴰ·tail (List·Memᴰ·tail (List·Memᴰ·tail (List·Memᴰ·tail (List·Memᴰ·tail (List·Memᴰ·tail (List·Memᴰ·tail (List·Memᴰ·head refl))))))))
+listed K10 = List·Memᴰ·tail (List·Memᴰ·tail (List·Memᴰ·tail (List·Memᴰ·tail (List·Memᴰ·tail (List·Memᴰ·tail (List·Memᴰ·tail (List·Memᴰ·tail (List·Memᴰ·tail (List·Memᴰ·head refl)))))))))
 
 pub known-tables : AllKnown
-known-tables = All-of Holds knownTables (λ k m. holds k)
+known-tables = record { complete = listed; holds = All-of Holds knownTables (λ k m. holds k) }
+
+-- ---- the limits
+pub limits-attained : Attained
+unfolding candidates select candidate rulesOut common isIn isProperSubset isSubset meet allBelow chainOf chainRow tabulate call
+limits-attained = record {
+  start = refl;
+  first = _;
+  later = _;
+  parts = refl;
+  handed-out = (_, refl);
+  gap = refl;
+  list = _;
+  listed = gauge-list (tableRows k2);
+  many = refl;
+}

@@ -1,23 +1,25 @@
 -- The known tables (01, "Known tables": K1 to K10), as statements about the definitions: `GaugeList`, `pickSeq`, `IsChain`, `IsMaximal` and
 -- `FirstContaining`, and rules 1 to 5 from a fresh start. Sets are written as in 01, rows in braces: {2,3} is 2 ∷ 3 ∷ []. A set of pairs
 -- is written by its rows too: 1:2, 1:3, 3:2 in three rows is {2,3} {} {2}. *Maximal chain* is 01's "ladder". The one list is `knownTables`,
--- the one theorem `AllKnown`, at the end; it is proved in proofs/AllKnown.antt.
+-- the one theorem `AllKnown`, at the end, with the limits of demand 3 that K2 and K3 attain; both are proved in proofs/AllKnown.antt.
 use mathlib.Core.Path.{_≡_}
 use mathlib.Core.Logic.{_≢_}
-use mathlib.Core.List.{List, [], _∷_, _++_, map}
-use Prim.Native.Nat.{ℕ, suc, _+_, _-_, _^_, _≤_, _<_}
+use mathlib.Core.List.{List, [], _∷_, _++_, map, List·Memᴰ}
+use Prim.Native.Nat.{ℕ, suc, _+_, _-_, _*_, _^_, _≤_, _<_, min}
 use lib.Count.{ones}
 use lib.ListN.{length, replicate}
 use Rattle.table.specs.declared.Table.{Table}
 use Rattle.table.specs.Pairs.{Within}
 use Rattle.table.specs.Chains.{IsChain, IsMaximal}
 use Rattle.table.specs.Tables.{Legal, tableRows}
-use Rattle.walk.specs.Sequences.{All}
+use Rattle.walk.specs.Sequences.{All, factorial}
 use Rattle.walk.specs.Machine.{Down, Handed, Back, Ended, at, fresh, nothing, hands, ends, Move, gives, move, after}
+use Rattle.walk.specs.Calls.{Call, handed, movesUntil, isHandOut, isHandOutOrEnd}
 use Rattle.listing.specs.PickSequence.{pickSeq}
-use Rattle.listing.specs.Lists.{GaugeList}
+use Rattle.listing.specs.Lists.{gaugeSide, GaugeList}
 use Rattle.listing.specs.Growing.{FirstContaining}
 use Rattle.listing.specs.Picks.{candidates}
+use Rattle.listing.specs.Rules.{callsOn}
 
 -- ---- sets and tables written out
 -- a set of cases by its case numbers: case c is place c - 1
@@ -48,10 +50,16 @@ pub record Entry : Type 0 where
 abbrev pub entry : List (List ℕ) → List ℕ → ℕ → Entry
 entry rows picks size = record { set = pairs rows; picks = picks; size = size }
 
--- the gauge list of the table t is these and no others, in this order; a pick sequence holds row indices, one less than gauge numbers
-pub record Lists (t : Table) (es : List Entry) : Type 0 where
+-- a table that 01 takes, with g gauges and l cases
+pub record Shape (t : Table) (g l : ℕ) : Type 0 where
   pub legal : Legal t
-  pub list : GaugeList (tableRows t) (map (λ (e : Entry). e .set) es)
+  pub gauges : t .gauges ≡ g
+  pub cases : t .cases ≡ l
+
+-- the gauge list of the table t is these and no others, in this order; a pick sequence holds row indices, one less than gauge numbers
+pub record Lists (t : Table) (g l : ℕ) (es : List Entry) : Type 0 where
+  pub shape : Shape t g l
+  pub list : GaugeList t (map (λ (e : Entry). e .set) es)
   pub picks : map (λ (e : Entry). map suc (pickSeq (e .set))) es ≡ map (λ (e : Entry). e .picks) es
   pub sizes : map (λ (e : Entry). count (e .set)) es ≡ map (λ (e : Entry). e .size) es
 
@@ -121,10 +129,10 @@ pub data Known : Type 0 where
 
 abbrev pub Holds : Known → Type 0
 -- "ladders 1:1, then 2:2"
-Holds K1 = Lists k1 (entry ((1 ∷ []) ∷ [] ∷ []) (1 ∷ []) 1 ∷ entry ([] ∷ (2 ∷ []) ∷ []) (2 ∷ []) 1 ∷ [])
+Holds K1 = Lists k1 2 2 (entry ((1 ∷ []) ∷ [] ∷ []) (1 ∷ []) 1 ∷ entry ([] ∷ (2 ∷ []) ∷ []) (2 ∷ []) 1 ∷ [])
 -- "six ladders, picks (1,2) (1,3) (2,1) (2,3) (3,1) (3,2), three pairs each"
 Holds K2 =
-    Lists k2
+    Lists k2 3 3
     (entry ((2 ∷ 3 ∷ []) ∷ (3 ∷ []) ∷ [] ∷ []) (1 ∷ 2 ∷ []) 3
     ∷ entry ((2 ∷ 3 ∷ []) ∷ [] ∷ (2 ∷ []) ∷ []) (1 ∷ 3 ∷ []) 3
     ∷ entry ((3 ∷ []) ∷ (1 ∷ 3 ∷ []) ∷ [] ∷ []) (2 ∷ 1 ∷ []) 3
@@ -134,14 +142,14 @@ Holds K2 =
     ∷ [])
 -- "two ladders, picks (1,2,3) with five pairs and (3,1,2) with four"
 Holds K3 =
-    Lists k3
+    Lists k3 3 3
     (entry ((1 ∷ 2 ∷ []) ∷ (1 ∷ 2 ∷ []) ∷ (2 ∷ []) ∷ []) (1 ∷ 2 ∷ 3 ∷ []) 5
     ∷ entry ((2 ∷ []) ∷ (2 ∷ []) ∷ (2 ∷ 3 ∷ []) ∷ []) (3 ∷ 1 ∷ 2 ∷ []) 4
     ∷ [])
 -- "one ladder, all four pairs"
-Holds K4 = Lists k4 (entry ((1 ∷ 2 ∷ []) ∷ (1 ∷ 2 ∷ []) ∷ []) (1 ∷ 2 ∷ []) 4 ∷ [])
+Holds K4 = Lists k4 2 2 (entry ((1 ∷ 2 ∷ []) ∷ (1 ∷ 2 ∷ []) ∷ []) (1 ∷ 2 ∷ []) 4 ∷ [])
 -- "one empty ladder; move 1 hands out, move 2 ends"
-Holds K5 = Lists k5 (entry ([] ∷ [] ∷ []) [] 0 ∷ []) × (moveOf k5 1 .given ≡ hands []) × (moveOf k5 2 .given ≡ ends)
+Holds K5 = Lists k5 2 3 (entry ([] ∷ [] ∷ []) [] 0 ∷ []) × (moveOf k5 1 .given ≡ hands []) × (moveOf k5 2 .given ≡ ends)
 -- "1:2, 2:3, 3:1 in K2: not a chain"
 Holds K6 = NoChain k2 (pairs ((2 ∷ []) ∷ (3 ∷ []) ∷ (1 ∷ []) ∷ []))
 -- "1:2, 1:3 in K2: a chain, no ladder"
@@ -152,12 +160,28 @@ Holds K8 = Grows k2 (pairs ([] ∷ [] ∷ (2 ∷ []) ∷ [])) (pairs ((2 ∷ 3 �
 Holds K9 = FirstEnd k2 25
 -- "pick, hand out, take back, end"; gauge 1 is row index 0
 Holds K10 =
-    (moveOf k10 1 ≡ gives nothing (at (0 ∷ []) Down)) × (moveOf k10 2 ≡ gives (hands (0 ∷ [])) (at (0 ∷ []) Handed))
+    Shape k10 1 1 × (moveOf k10 1 ≡ gives nothing (at (0 ∷ []) Down)) × (moveOf k10 2 ≡ gives (hands (0 ∷ [])) (at (0 ∷ []) Handed))
     × (moveOf k10 3 ≡ gives nothing (at [] (Back 0))) × (moveOf k10 4 ≡ gives ends (at [] Ended))
 
 abbrev pub knownTables : List Known
 knownTables = K1 ∷ K2 ∷ K3 ∷ K4 ∷ K5 ∷ K6 ∷ K7 ∷ K8 ∷ K9 ∷ K10 ∷ []
 
--- each of them holds
-abbrev pub AllKnown : Type 0
-AllKnown = All Holds knownTables
+-- all ten are in it, and each of them holds
+pub record AllKnown : Type 0 where
+  pub complete : (k : Known) → List·Memᴰ k knownTables
+  pub holds : All Holds knownTables
+
+-- ---- the limits of demand 3 are attained, whatever the budgets, a refused one among them
+pub record Attained : Type 0 where
+  -- K3 needs G + 1 moves to its first hand-out
+  pub start : movesUntil isHandOut (callsOn (gaugeSide k3) (1 ∷ 1 ∷ 2000000 ∷ 1 ∷ 1 ∷ [])) ≡ k3 .gauges + 1
+  -- and 2 G + 1 from there to the next
+  pub first : Call
+  pub later : List Call
+  pub parts : callsOn (gaugeSide k3) (4 ∷ 3 ∷ 2000000 ∷ 0 ∷ 1 ∷ 3 ∷ []) ≡ first ∷ later
+  pub handed-out : (y : List ℕ) × (first .answer ≡ handed y)
+  pub gap : movesUntil isHandOutOrEnd later ≡ 2 * k3 .gauges + 1
+  -- K2 has (min G L)! maximal chains
+  pub list : List (List ℕ)
+  pub listed : GaugeList k2 list
+  pub many : length list ≡ factorial (min (k2 .gauges) (k2 .cases))

@@ -1,8 +1,8 @@
--- The two sides of one table: what the case list says of the table itself (its members, its order, each once), and that the two lists
--- have the same members, at most (min G L)! of them (`two-lists`, for a legal table). All by transposing back.
+-- The two sides of one table. A side is fair where its own rows' maximal chains are the table's, each seen through the side and given back; the
+-- gauge side and the case side of a legal table are (`gauge-fair`, `case-fair`). The list of a fair side exists (`side-list`), and every list
+-- of a legal table has at most (min G L)! members (`list-few`).
 use mathlib.Core.Path.{_≡_, refl, sym, ap, _∙_, subst}
-use mathlib.Core.Logic.{_↔_, _≢_}
-use mathlib.Core.List.{List, [], _∷_, map, List·Memᴰ, Memᴰ·cast, Memᴰ·map, Memᴰ·of-map}
+use mathlib.Core.List.{List, [], _∷_, map, map-map, List·Memᴰ, Memᴰ·cast, Memᴰ·map, Memᴰ·of-map}
 use Prim.Native.Nat.{ℕ, _≤_, min}
 use native.Mathlib.Nat.{min-eq-left, min-eq-right}
 use native.Mathlib.Decide.{decLe}
@@ -15,13 +15,42 @@ use Rattle.table.specs.Tables.{Legal, tableRows}
 use Rattle.table.proofs.Transposition.{length-transpose, cases-transpose, cases-within, transpose-twice, maximal-transpose}
 use Rattle.table.proofs.Legality.{length-rows, legal-cases}
 use Rattle.walk.specs.Sequences.{All, Sorted, factorial}
-use Rattle.walk.proofs.Sequences.{All-of, Sorted-map, distinct-length}
+use Rattle.walk.proofs.Sequences.{All-of}
 use Rattle.listing.specs.PickSequence.{Precedes}
-use Rattle.listing.specs.Lists.{GaugeList, Side, caseSide, CaseList}
-use Rattle.listing.specs.Rules.{handOut}
-use Rattle.listing.specs.Demand.{TwoLists}
-use Rattle.listing.proofs.Listed.{picksInOrder, chainsInOrder, gauge-list, gauge-list-few, gauge-list-distinct, side-list}
+use Rattle.listing.specs.Lists.{SideList, Side, gaugeSide, caseSide}
+use Rattle.listing.specs.Rules.{chainOf, handOut}
+use Rattle.listing.proofs.Listed.{picksInOrder, chainsInOrder, listed, list-unique, lists-length, gauge-list, leaves-few}
 
+pub record Fair (t : Table) (s : Side) : Type 0 where
+  pub counted : length (s .rows) ≡ s .count
+  pub over : (x : List ℕ) → IsMaximal (tableRows t) x → IsMaximal (s .rows) (s .key x) × (s .back (s .key x) ≡ x)
+  pub home : (y : List ℕ) → IsMaximal (s .rows) y → IsMaximal (tableRows t) (s .back y) × (s .key (s .back y) ≡ y)
+
+pub gauge-fair : (t : Table) → Legal t → Fair t (gaugeSide t)
+gauge-fair t l = record { counted = length-rows t l; over = λ x m. (m, refl); home = λ y m. (m, refl) }
+
+-- a maximal chain of one side, transposed, is one of the other side, and transposing it back gives it again
+module _ (w n : ℕ) (r : List ℕ) (h : Cases w r) (e : length r ≡ n) where
+  exchanged-over : (x : List ℕ) → IsMaximal r x → IsMaximal (transpose w r) (transpose w x) × (transpose n (transpose w x) ≡ x)
+  exchanged-over x m = (maximal-transpose w r x h m, transpose-twice n w x (m .within .size ∙ e) (cases-within w r x h (m .within)))
+
+  other : Cases n (transpose w r)
+  other = subst (λ (k : ℕ). Cases k (transpose w r)) e (cases-transpose w r h)
+
+  exchanged-home : (y : List ℕ) → IsMaximal (transpose w r) y → IsMaximal r (transpose n y) × (transpose w (transpose n y) ≡ y)
+  exchanged-home y m = (
+    subst (λ (z : List ℕ). IsMaximal z (transpose n y)) (transpose-twice n w r e h) (maximal-transpose n (transpose w r) y other m),
+    transpose-twice w n y (m .within .size ∙ length-transpose w r) (cases-within n (transpose w r) y other (m .within)),
+  )
+
+pub case-fair : (t : Table) → Legal t → Fair t (caseSide t)
+case-fair t l = record {
+  counted = length-transpose (t .cases) (tableRows t);
+  over = exchanged-over (t .cases) (t .gauges) (tableRows t) (legal-cases t l) (length-rows t l);
+  home = exchanged-home (t .cases) (t .gauges) (tableRows t) (legal-cases t l) (length-rows t l);
+}
+
+-- ---- the list of a side
 -- a list that ascends, mapped by f, ascends by what u takes back
 sorted-back : (q : List ℕ → List ℕ → Type 0) (f u : List ℕ → List ℕ) (l : List (List ℕ)) → All (λ (a : List ℕ). u (f a) ≡ a) l → Sorted q l → Sorted (λ (x y : List ℕ). q (u x) (u y)) (map f l)
 sorted-back q f u [] h s = tt
@@ -31,6 +60,35 @@ sorted-back q f u (a ∷ l) h s = (after l h.1 s.0, sorted-back q f u l h.1 s.1)
     after [] k t = tt
     after (b ∷ m) k t = (rw (h.0, k.0) t.0, after m k.1 t.1)
 
+module _ (t : Table) (s : Side) (f : Fair t s) where
+  -- the sets that the side's run hands out for the leaves, in order
+  abbrev pub sideList : List (List ℕ)
+  sideList = map (handOut s) (picksInOrder (s .rows))
+
+  pub side-list : SideList (tableRows t) (s .key) sideList
+  side-list = subst (SideList (tableRows t) (s .key)) (map-map (s .back) (chainOf (s .rows)) (picksInOrder (s .rows))) (listed (map (s .back) own) (λ x. (into x, onto x)) ascends)
+    where
+      own : List (List ℕ)
+      own = chainsInOrder (s .rows)
+
+      own-maximal : (y : List ℕ) → List·Memᴰ y own → IsMaximal (s .rows) y
+      own-maximal y m = gauge-list (s .rows) .members y .0 m
+
+      into : (x : List ℕ) → List·Memᴰ x (map (s .back) own) → IsMaximal (tableRows t) x
+      into x m = let z = Memᴰ·of-map (s .back) own m in subst (IsMaximal (tableRows t)) (z .2) (f .home (z .0) (own-maximal (z .0) (z .1)) .0)
+
+      onto : (x : List ℕ) → IsMaximal (tableRows t) x → List·Memᴰ x (map (s .back) own)
+      onto x m = Memᴰ·cast (sym (f .over x m .1)) (Memᴰ·map (s .back) (gauge-list (s .rows) .members (s .key x) .1 (f .over x m .0)))
+
+      ascends : Sorted (λ (x y : List ℕ). Precedes (s .key x) (s .key y)) (map (s .back) own)
+      ascends = sorted-back Precedes (s .back) (s .key) own (All-of (λ (y : List ℕ). s .key (s .back y) ≡ y) own (λ y m. f .home y (own-maximal y m) .1)) (gauge-list (s .rows) .ascends)
+
+  -- no list of the table is longer than there are orders of what the side can pick
+  few-by : {key : List ℕ → List ℕ} (xs : List (List ℕ)) → SideList (tableRows t) key xs → length xs ≤ factorial (s .count)
+  few-by xs a =
+      let n : length xs ≡ length (picksInOrder (s .rows)) = lists-length xs sideList a side-list ∙ length-map (picksInOrder (s .rows)) (handOut s) in
+      subst (λ (k : ℕ). length xs ≤ factorial k) (f .counted) (rw n (leaves-few (s .rows)))
+
 min-factorial : (k a b : ℕ) → k ≤ factorial a → k ≤ factorial b → k ≤ factorial (min a b)
 min-factorial k a b h l = go (decLe a b)
   where
@@ -38,76 +96,5 @@ min-factorial k a b h l = go (decLe a b)
     go (yes e) = rw (min-eq-left e) h
     go (no e) = let d : b ≤ a = omega arith in rw (min-eq-right d) l
 
-module _ (w : ℕ) (r : List ℕ) (h : Cases w r) where
-  -- a maximal chain of one side, transposed, is one of the other side, and transposing it back gives it again
-  over : (x : List ℕ) → IsMaximal r x → IsMaximal (transpose w r) (transpose w x) × (transpose (length r) (transpose w x) ≡ x)
-  over x m = (maximal-transpose w r x h m, transpose-twice (length r) w x (m .within .size) (cases-within w r x h (m .within)))
-
-  back : (y : List ℕ) → IsMaximal (transpose w r) y → IsMaximal r (transpose (length r) y) × (transpose w (transpose (length r) y) ≡ y)
-  back y m = (
-    subst (λ (z : List ℕ). IsMaximal z (transpose (length r) y)) (transpose-twice (length r) w r refl h) (maximal-transpose (length r) (transpose w r) y (cases-transpose w r h) m),
-    transpose-twice w (length r) y (m .within .size ∙ length-transpose w r) (cases-within (length r) (transpose w r) y (cases-transpose w r h) (m .within)),
-  )
-
-  module _ (xs : List (List ℕ)) (l : CaseList w r xs) where
-    -- the members of the case list are the table's maximal chains
-    pub case-list-members : (x : List ℕ) → List·Memᴰ x xs ↔ IsMaximal r x
-    case-list-members x = (λ m. into (rw (l .given-back) at m), λ m. rw (l .given-back) (onto m))
-      where
-        into : List·Memᴰ x (map (transpose (length r)) (l .own)) → IsMaximal r x
-        into m = let k = Memᴰ·of-map (transpose (length r)) (l .own) m in subst (IsMaximal r) (k .2) (back (k .0) (l .listed .members (k .0) .0 (k .1)) .0)
-
-        onto : IsMaximal r x → List·Memᴰ x (map (transpose (length r)) (l .own))
-        onto m = Memᴰ·cast (sym (over x m .1)) (Memᴰ·map (transpose (length r)) (l .listed .members (transpose w x) .1 (over x m .0)))
-
-    returns : All (λ (y : List ℕ). transpose w (transpose (length r) y) ≡ y) (l .own)
-    returns = All-of (λ (y : List ℕ). transpose w (transpose (length r) y) ≡ y) (l .own) (λ y m. back y (l .listed .members y .0 m) .1)
-
-    -- it ascends by the pick sequences of the exchanged sets, "likewise by cases"
-    pub case-list-ascends : Sorted (λ (x y : List ℕ). Precedes (transpose w x) (transpose w y)) xs
-    case-list-ascends = rw (l .given-back) (sorted-back Precedes (transpose (length r)) (transpose w) (l .own) returns (l .listed .ascends))
-
-    -- each once
-    pub case-list-distinct : Sorted (λ (x y : List ℕ). x ≢ y) xs
-    case-list-distinct =
-        rw (l .given-back) (Sorted-map (λ x y k e. k (ap (transpose w) e)) (map (transpose (length r)) (l .own))
-        (sorted-back (λ (x y : List ℕ). x ≢ y) (transpose (length r)) (transpose w) (l .own) returns (gauge-list-distinct (transpose w r) (l .own) (l .listed))))
-
-    module _ (gs : List (List ℕ)) (g : GaugeList r gs) where
-      same-members : (x : List ℕ) → List·Memᴰ x gs ↔ List·Memᴰ x xs
-      same-members x = (λ m. case-list-members x .1 (g .members x .0 m), λ m. g .members x .1 (case-list-members x .0 m))
-
-      same-length : length gs ≡ length xs
-      same-length = omega (arith, distinct-length gs xs (gauge-list-distinct r gs g) (λ x m. same-members x .0 m), distinct-length xs gs case-list-distinct (λ x m. same-members x .1 m))
-
-      few : length gs ≤ factorial (min (length r) w)
-      few = min-factorial (length gs) (length r) w (gauge-list-few r gs g)
-          (rw (same-length, l .given-back, length-map (l .own) (transpose (length r)), ← length-transpose w r) (gauge-list-few (transpose w r) (l .own) (l .listed)))
-
-pub two-lists : (t : Table) → Legal t → TwoLists t
-two-lists t k = record {
-  gauge-list = chainsInOrder (tableRows t);
-  case-list = map (handOut side) (picksInOrder (side .rows));
-  by-gauges = gauges;
-  by-cases = cases;
-  same = same-members (t .cases) (tableRows t) h (map (handOut side) (picksInOrder (side .rows))) cases (chainsInOrder (tableRows t)) gauges;
-  few-gauges = bound;
-  few-cases = rw (← same-length (t .cases) (tableRows t) h (map (handOut side) (picksInOrder (side .rows))) cases (chainsInOrder (tableRows t)) gauges) bound;
-}
-  where
-    side : Side
-    side = caseSide (t .cases) (tableRows t)
-
-    h : Cases (t .cases) (tableRows t)
-    h = legal-cases t k
-
-    gauges : GaugeList (tableRows t) (chainsInOrder (tableRows t))
-    gauges = gauge-list (tableRows t)
-
-    cases : CaseList (t .cases) (tableRows t) (map (handOut side) (picksInOrder (side .rows)))
-    cases = side-list side
-
-    bound : length (chainsInOrder (tableRows t)) ≤ factorial (min (t .gauges) (t .cases))
-    bound =
-        subst (λ (m : ℕ). length (chainsInOrder (tableRows t)) ≤ factorial (min m (t .cases))) (length-rows t k)
-        (few (t .cases) (tableRows t) h (map (handOut side) (picksInOrder (side .rows))) cases (chainsInOrder (tableRows t)) gauges)
+pub list-few : (t : Table) → Legal t → {key : List ℕ → List ℕ} (xs : List (List ℕ)) → SideList (tableRows t) key xs → length xs ≤ factorial (min (t .gauges) (t .cases))
+list-few t l xs a = min-factorial (length xs) (t .gauges) (t .cases) (few-by t (gaugeSide t) (gauge-fair t l) xs a) (few-by t (caseSide t) (case-fair t l) xs a)

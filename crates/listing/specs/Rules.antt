@@ -7,8 +7,8 @@ use lib.Dec.{eqb}
 use lib.ListN.{length}
 use Rattle.sets.specs.Lists.{tabulate}
 use Rattle.table.specs.Pairs.{row}
-use Rattle.walk.specs.Machine.{State, Reached}
-use Rattle.walk.specs.Calls.{Call, call, calls}
+use Rattle.walk.specs.Machine.{State, fresh, Reached}
+use Rattle.walk.specs.Calls.{Call, call, calls, stateAfter}
 use Rattle.listing.specs.Picks.{common, candidates}
 use Rattle.listing.specs.Lists.{Side}
 
@@ -36,3 +36,7 @@ callOn s b x = call (candidates (s .rows)) (handOut s) b x
 -- "a list of run calls of one side. It starts from the value of a fresh start"
 abbrev pub callsOn : Side → List ℕ → List Call
 callsOn s bs = calls (candidates (s .rows)) (handOut s) bs
+
+-- the state that these calls leave
+abbrev pub leftOn : Side → List ℕ → State
+leftOn s bs = stateAfter (candidates (s .rows)) (handOut s) bs fresh

@@ -2,7 +2,7 @@
 -- reader's; the part that is shown. For users: a comment that is found lies in the file (`comment-inside`) and is not empty
 -- (`comment-some`), so that the empty part tells a refusal.
 use Prim.Native.Nat.{ℕ, suc, _+_, _-_, _≤_, _<_}
-use mathlib.Core.Path.{_≡_, refl, ap, sym, _∙_}
+use mathlib.Core.Path.{_≡_, refl, ap, ap₂, sym, _∙_}
 use mathlib.Core.List.{List, [], _∷_}
 use mathlib.Core.Bool.{Bool, true, false, cond}
 use native.Mathlib.Omega.{arith}
@@ -12,6 +12,7 @@ use lib.ListN.{length, take, drop, length-drop, length-take, drop-of-length-le}
 use lib.Seq.{drop-nil}
 use lib.Dec.{eqb, ltb}
 use borrow.Author.Tests.{ne-eqb, eq-eqb, eqb-false, lt-ltb, le-ltb}
+use denote.Ref.{RefT, ptr, now}
 use Rattle.table.specs.Answers.{Answer, number, refused, verdict, made}
 use Rattle.table.specs.declared.Refusal.{Refusal}
 use Rattle.table.specs.declared.Table.{Table}
@@ -19,10 +20,10 @@ use Rattle.table.specs.declared.Made.{Made}
 use Rattle.table.specs.declared.Verdict.the-variants.{Accepted, Refused}
 use Rattle.text.specs.Lines.{Line, lines, spanAt, atCRLF, extend}
 use Rattle.text.proofs.LineAt.{inside, lines-at}
-use Rattle.table.proofs.Answering.{number-pos}
+use Rattle.table.proofs.Answering.{number-pos, number-injective}
 use Rattle.reader.specs.Kinds.{isComment}
 use Rattle.reader.specs.Reading.{readFile}
-use Rattle.reader.specs.Comments.{Part, noPart, found, noComment, commentFrom, commentLines, commentAt}
+use Rattle.reader.specs.Comments.{Part, Shows, noPart, found, noComment, commentFrom, commentLines, commentAt}
 use Rattle.reader.specs.declared.Found.{Found}
 use Rattle.reader.specs.declared.Found.the-variants.{At, Refused as FoundRefused}
 use Rattle.text.specs.declared.Span.{Span}
@@ -205,3 +206,15 @@ module _ (f : List ℕ) (k : ℕ) (x : Found) (p : found x ≡ commentAt f k) wh
   part-inside {start} {len} e =
       let q : start + len ≡ commentAt f k .value .start + commentAt f k .value .len = ap (λ (a : Part). a .start + a .len) (part-is e) in
       omega (arith, comment-inside f k)
+
+-- ---- one answer
+-- no two answers read alike
+pub found-injective : (r q : Found) → found r ≡ found q → r ≡ q
+found-injective (At a n) (At b m) e = ap₂ At (ap (λ (x : Answer Part). x .value .start) e) (ap (λ (x : Answer Part). x .value .len) e)
+found-injective (At a n) (FoundRefused y) e = absurd (omega (arith, ap (λ (x : Answer Part). x .refusal) e, number-pos y))
+found-injective (FoundRefused x) (At b m) e = absurd (omega (arith, ap (λ (y : Answer Part). y .refusal) e, number-pos x))
+found-injective (FoundRefused x) (FoundRefused y) e = ap FoundRefused (number-injective x y (ap (λ (z : Answer Part). z .refusal) e))
+
+-- two slices that show one part are the same memory
+pub shows-unique : (file r q : RefT (List ℕ)) (p : Part) → Shows file r p → Shows file q p → (ptr r .0 ≡ ptr q .0) × (ptr r .1 ≡ ptr q .1) × (now r ≡ now q)
+shows-unique file r q p a b = (a .block ∙ sym (b .block), a .offset ∙ sym (b .offset), a .bytes ∙ sym (b .bytes))

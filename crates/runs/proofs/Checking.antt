@@ -273,7 +273,7 @@ module _ (u : List ℕ) (left n count : ℕ) (m : Mode) where
 -- a candidate is one of the 64 places
 pub candidate-place : (u : List ℕ) (left n g : ℕ) (t : Bool) → t ≡ candidateIn u left n g → t ≡ true → g < 64
 unfolding candidateIn
-candidate-place u left n g t e d = ltb-true g 64 (both-left (ltb g 64) _ (sym e ∙ d))
+candidate-place u left n g t e d = omega (arith, ltb-true g (min n 64) (both-left (ltb g (min n 64)) _ (sym e ∙ d)))
   where
     both-left : (a b : Bool) → (a && b) ≡ true → a ≡ true
     both-left true b y = refl

@@ -9,3 +9,4 @@ pub mod Answered
 pub mod Sides
 pub mod Demands
 pub mod SideCalls
+pub mod Readings

@@ -1,6 +1,6 @@
 -- The two sides of a legal table as the core has them: the gauge side's rows are the table's own, the case side's those of the table
 -- with its sides exchanged, whose chains go back to gauge rows; and the answer of the core's moves as the public answer.
-use mathlib.Core.Path.{_≡_, sym, ap, _∙_}
+use mathlib.Core.Path.{_≡_, sym, ap, _∙_, subst}
 use mathlib.Core.List.{List}
 use Prim.Native.Nat.{ℕ, _-_, _^_, _≤_, _<_}
 use native.Mathlib.Decide.{decLt}
@@ -24,9 +24,8 @@ use Rattle.table.proofs.Transposition.{bit-none, bit-column, length-transpose, 
 use Rattle.table.proofs.Legality.{length-rows, legal-cases}
 use Rattle.table.proofs.Sides.{rows-exchanged, exchanged-legal}
 use Rattle.walk.specs.Machine.{Phase, State}
-use Rattle.listing.specs.Lists.{Side}
+use Rattle.listing.specs.Lists.{Side, gaugeSide, caseSide}
 use Rattle.listing.specs.Rules.{chainOf, handOut}
-use Rattle.listing.specs.Demand.{gaugeSideOf, caseSideOf}
 use Rattle.listing.proofs.ChainRows.{length-chainOf, chainOf-within}
 use Rattle.runs.specs.Paused.{Value, paused}
 use Rattle.runs.specs.Calling.{outcome, byRules}
@@ -78,30 +77,27 @@ value-stands t r k count f y h v e = e ∙ rw (h .picked, h .counted, h .phased)
 
 -- ---- the gauge side
 module _ (t : Table) (l : Legal t) where
-  pub gauge-chain : (y : State) (rows : List ℕ) → rows ≡ padded (chainOf (tableRows t) (y .picks)) → (rows ≡ padded (handOut (gaugeSideOf t) (y .picks))) × (length (handOut (gaugeSideOf t) (y .picks)) ≡ t .gauges)
+  pub gauge-chain : (y : State) (rows : List ℕ) → rows ≡ padded (chainOf (tableRows t) (y .picks)) → (rows ≡ padded (handOut (gaugeSide t) (y .picks))) × (length (handOut (gaugeSide t) (y .picks)) ≡ t .gauges)
   gauge-chain y rows e = (e, length-chainOf (tableRows t) (y .picks) ∙ length-rows t l)
 
   -- ---- the case side
   pub case-sized : Sized (t .cases) (transpose 64 (t .rows))
   case-sized = legal-sized (transposeTable t) (exchanged-legal t l)
 
-  pub case-rows : take (t .cases) (transpose 64 (t .rows)) ≡ caseSideOf t .rows
+  pub case-rows : take (t .cases) (transpose 64 (t .rows)) ≡ caseSide t .rows
   case-rows = rows-exchanged t l
 
-  pub case-chain : (y : State) (rows : List ℕ) → rows ≡ padded (chainOf (caseSideOf t .rows) (y .picks))
-      → (transpose 64 rows ≡ padded (handOut (caseSideOf t) (y .picks))) × (length (handOut (caseSideOf t) (y .picks)) ≡ t .gauges)
+  pub case-chain : (y : State) (rows : List ℕ) → rows ≡ padded (chainOf (caseSide t .rows) (y .picks))
+      → (transpose 64 rows ≡ padded (handOut (caseSide t) (y .picks))) × (length (handOut (caseSide t) (y .picks)) ≡ t .gauges)
   case-chain y rows e = (
-    ap (transpose 64) e ∙ transpose-padded (length (tableRows t)) x (omega (arith, length-rows t l, l .gauges-high)) inside,
-    length-transpose (length (tableRows t)) x ∙ length-rows t l,
+    ap (transpose 64) e ∙ transpose-padded (t .gauges) (chainOf (caseSide t .rows) (y .picks)) (l .gauges-high) inside,
+    length-transpose (t .gauges) (chainOf (caseSide t .rows) (y .picks)),
   )
     where
-      x : List ℕ
-      x = chainOf (caseSideOf t .rows) (y .picks)
-
-      inside : Cases (length (tableRows t)) (chainOf (caseSideOf t .rows) (y .picks))
-      inside = cases-within (length (tableRows t)) (caseSideOf t .rows) (chainOf (caseSideOf t .rows) (y .picks)) (cases-transpose (t .cases) (tableRows t) (legal-cases t l)) (chainOf-within (caseSideOf t .rows) (y .picks))
+      inside : Cases (t .gauges) (chainOf (caseSide t .rows) (y .picks))
+      inside = cases-within (t .gauges) (caseSide t .rows) (chainOf (caseSide t .rows) (y .picks)) (subst (λ (n : ℕ). Cases n (caseSide t .rows)) (length-rows t l) (cases-transpose (t .cases) (tableRows t) (legal-cases t l))) (chainOf-within (caseSide t .rows) (y .picks))
 
 -- the case side's rows by gauge, as the code turned them
-pub turned : (t : Table) (y : State) (rows back : List ℕ) → (transpose 64 rows ≡ padded (handOut (caseSideOf t) (y .picks))) × (length (handOut (caseSideOf t) (y .picks)) ≡ t .gauges) → back ≡ transpose 64 rows
-    → (back ≡ padded (handOut (caseSideOf t) (y .picks))) × (length (handOut (caseSideOf t) (y .picks)) ≡ t .gauges)
+pub turned : (t : Table) (y : State) (rows back : List ℕ) → (transpose 64 rows ≡ padded (handOut (caseSide t) (y .picks))) × (length (handOut (caseSide t) (y .picks)) ≡ t .gauges) → back ≡ transpose 64 rows
+    → (back ≡ padded (handOut (caseSide t) (y .picks))) × (length (handOut (caseSide t) (y .picks)) ≡ t .gauges)
 turned t y rows back h e = (e ∙ h .0, h .1)

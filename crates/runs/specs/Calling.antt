@@ -1,18 +1,19 @@
 -- Run calls (01, "A run call has a budget ..", refusals 10, 11, 15 and 18) and demand 3 for them. A call's answer, of either side, reads as a
 -- `Step`; `Called` says what it is for every paused value and budget; `Calls` says it of a list of calls, each from the value that the
--- last unrefused call returned; and `KeepsDemand`, which each fresh start promises, is demand 3 of crate `listing` for every such list.
+-- last unrefused call returned; and `KeepsDemand`, which each fresh start promises, is demand 3 of crate `listing` for every such list. Each run
+-- call promises it too (`CarriesDemand`), and the fresh starts promise that the two runs share one set (`SharesSet`).
 use mathlib.Core.Path.{_≡_}
-use mathlib.Core.List.{List, [], _∷_, map}
+use mathlib.Core.List.{List, [], _∷_, _++_, map, List·Memᴰ}
 use Prim.Native.Nat.{ℕ, _<_}
 use Rattle.table.specs.Tables.{blankChain, chainRows, tableRefusal, padded}
 use Rattle.table.specs.Answers.{number}
 use Rattle.table.specs.declared.Table.{Table}
 use Rattle.table.specs.declared.Chain.{Chain}
 use Rattle.walk.specs.Machine.{State, fresh}
-use Rattle.walk.specs.Calls.{Answer, refused, spent, handed, end, Call}
-use Rattle.listing.specs.Lists.{Side}
-use Rattle.listing.specs.Rules.{ReachedOn, callOn}
-use Rattle.listing.specs.Demand.{Demand, TwoLists}
+use Rattle.walk.specs.Calls.{Answer, refused, spent, handed, end, Call, answered}
+use Rattle.listing.specs.Lists.{Side, gaugeSide, caseSide}
+use Rattle.listing.specs.Rules.{ReachedOn, callOn, leftOn}
+use Rattle.listing.specs.Demand.{Demand, OneSet}
 use Rattle.runs.specs.Paused.{Value, paused, blankValue, gaugeValue, caseValue}
 use Rattle.runs.specs.declared.Outcome.{Outcome}
 use Rattle.runs.specs.declared.Outcome.the-variants.{HandedOut, Spent, End, Refused}
@@ -81,13 +82,40 @@ Calls side v [] (r ∷ rs) = ⊥
 Calls side v (b ∷ bs) [] = ⊥
 Calls side v (b ∷ bs) (r ∷ rs) = Called side v b r × Calls side (kept (r .answer) v (r .next)) bs rs
 
--- demand 3 of a list of calls on the side of the table t, with budgets bs and answers rs
-pub record RunDemand (side : Table → Side) (t : Table) (bs : List ℕ) (rs : List Step) : Type 0 where
+-- the value that a list of calls leaves: the one last returned, or v where every call was refused
+abbrev pub left : Value → List Step → Value
+left v [] = v
+left v (r ∷ rs) = left (kept (r .answer) v (r .next)) rs
+
+-- demand 3 of a list of calls on the side of the table t from the value v, with budgets bs and answers rs
+pub record RunDemand (side : Table → Side) (t : Table) (v : Value) (bs : List ℕ) (rs : List Step) : Type 0 where
   pub calls : List Call
   pub answers : rs ≡ map (told t) calls
-  pub demand : Demand (side t) bs calls
-  pub lists : TwoLists t
+  pub demand : Demand t (side t) bs calls
+  -- "and after the list the value last returned"
+  pub last : left v rs ≡ paused t (leftOn (side t) bs)
 
--- every list of calls from the fresh value of the table t, which 10 and 11 do not refuse
-abbrev pub KeepsDemand : (Table → Side) → Table → Type 0
-KeepsDemand side t = tableRefusal t ≡ 0 → (bs : List ℕ) (rs : List Step) → Calls side (paused t fresh) bs rs → RunDemand side t bs rs
+-- every list of calls from v, the value of a fresh start on the table t, which 10 and 11 do not refuse
+abbrev pub KeepsDemand : (Table → Side) → Table → Value → Type 0
+KeepsDemand side t v = tableRefusal t ≡ 0 → (bs : List ℕ) (rs : List Step) → Calls side v bs rs → RunDemand side t v bs rs
+
+-- every list of calls from a fresh start that leaves v, with the call added that has the budget b and the answer r
+abbrev pub CarriesDemand : (Table → Side) → Value → ℕ → Step → Type 0
+CarriesDemand side v b r =
+    tableRefusal (v .table) ≡ 0 → (bs : List ℕ) (rs : List Step) → Calls side (paused (v .table) fresh) bs rs → left (paused (v .table) fresh) rs ≡ v
+    → RunDemand side (v .table) (paused (v .table) fresh) (bs ++ (b ∷ [])) (rs ++ (r ∷ []))
+
+-- ---- the two runs
+-- the sets that the answers hand out, in turn
+abbrev pub sets : List Step → List (List ℕ)
+sets [] = []
+sets (r ∷ rs) = answered (r .answer) (sets rs)
+
+-- a call has answered end
+abbrev pub Ends : List Step → Type 0
+Ends rs = (r : Step) × List·Memᴰ r rs × (r .answer ≡ end)
+
+-- the gauge run from v and the case run from w, each called on to its end, share one set
+abbrev pub SharesSet : Table → Value → Value → Type 0
+SharesSet t v w =
+    tableRefusal t ≡ 0 → (bs cs : List ℕ) (rs qs : List Step) → Calls gaugeSide v bs rs → Calls caseSide w cs qs → Ends rs → Ends qs → OneSet t (sets rs) (sets qs)

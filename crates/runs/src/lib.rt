@@ -18,9 +18,9 @@ ghost use mathlib.Core.Path.{_≡_};
 ghost use Rattle.table.specs.Tables.{tableRefusal, blankTable, blankChain};
 ghost use Rattle.table.specs.Answers.{answer, number};
 ghost use Rattle.walk.specs.Machine.{fresh};
-ghost use Rattle.listing.specs.Demand.{gaugeSideOf, caseSideOf};
+ghost use Rattle.listing.specs.Lists.{gaugeSide, caseSide};
 ghost use Rattle.runs.specs.Paused.{gaugePhase, casePhase, gaugeValue, caseValue, gaugeStarted, caseStarted, paused, blankValue};
-ghost use Rattle.runs.specs.Calling.{Called, gaugeStep, caseStep, refusal, KeepsDemand};
+ghost use Rattle.runs.specs.Calling.{Called, gaugeStep, caseStep, refusal, KeepsDemand, CarriesDemand, SharesSet};
 ghost use Rattle.runs.specs.Working.{modePhase, doneOutcome, doneChain, carriedStep};
 
 // The phase of a gauge run (01: "Down, Handed, Back from gauge g, or Ended").
@@ -91,10 +91,11 @@ pub struct CaseStart {
     pub run: CaseRun,
 }
 
-// A fresh gauge run of `t`: 10 and 11 are refused. Every list of run calls from it keeps demand 3.
+// A fresh gauge run of `t`: 10 and 11 are refused. Every list of run calls from it keeps demand 3, and shares its set with the case run.
 pub fn start_gauges(t: Table) -> GaugeStart
     ensures { λ r. ⌜ gaugeStarted r ≡ answer (tableRefusal t) (paused t fresh) blankValue ⌝ }
-    ensures demand { λ r. ⌜ KeepsDemand gaugeSideOf t ⌝ }
+    ensures demand { λ r. ⌜ KeepsDemand gaugeSide t (gaugeValue (r .run)) ⌝ }
+    ensures shared { λ r. ⌜ SharesSet t (gaugeValue (r .run)) (paused t fresh) ⌝ }
 {
     let checked = table::check_table(t);
     if let Verdict::Refused(why) = checked {
@@ -109,10 +110,11 @@ pub fn start_gauges(t: Table) -> GaugeStart
     }
 }
 
-// A fresh case run of `t`: 10 and 11 are refused. Every list of run calls from it keeps demand 3.
+// A fresh case run of `t`: 10 and 11 are refused. Every list of run calls from it keeps demand 3, and shares its set with the gauge run.
 pub fn start_cases(t: Table) -> CaseStart
     ensures { λ r. ⌜ caseStarted r ≡ answer (tableRefusal t) (paused t fresh) blankValue ⌝ }
-    ensures demand { λ r. ⌜ KeepsDemand caseSideOf t ⌝ }
+    ensures demand { λ r. ⌜ KeepsDemand caseSide t (caseValue (r .run)) ⌝ }
+    ensures shared { λ r. ⌜ SharesSet t (paused t fresh) (caseValue (r .run)) ⌝ }
 {
     let checked = table::check_table(t);
     if let Verdict::Refused(why) = checked {
@@ -127,9 +129,11 @@ pub fn start_cases(t: Table) -> CaseStart
     }
 }
 
-// A call of the gauge run with a budget of moves, on any paused value: 10, 11, 15 and 18 are refused.
+// A call of the gauge run with a budget of moves, on any paused value: 10, 11, 15 and 18 are refused. Added to the calls that led to the
+// value, it keeps demand 3.
 pub fn run_gauges(p: GaugeRun, budget: u64) -> GaugeStep
-    ensures { λ r. ⌜ Called gaugeSideOf (gaugeValue p) budget (gaugeStep r) ⌝ }
+    ensures { λ r. ⌜ Called gaugeSide (gaugeValue p) budget (gaugeStep r) ⌝ }
+    ensures demand { λ r. ⌜ CarriesDemand gaugeSide (gaugeValue p) budget (gaugeStep r) ⌝ }
 {
     let t = p.table;
     let checked = table::check_table(t);
@@ -157,9 +161,11 @@ pub fn run_gauges(p: GaugeRun, budget: u64) -> GaugeStep
     gauge_answer(t, made, picks, chain)
 }
 
-// A call of the case run with a budget of moves, on any paused value: 10, 11, 15 and 18 are refused.
+// A call of the case run with a budget of moves, on any paused value: 10, 11, 15 and 18 are refused. Added to the calls that led to the
+// value, it keeps demand 3.
 pub fn run_cases(p: CaseRun, budget: u64) -> CaseStep
-    ensures { λ r. ⌜ Called caseSideOf (caseValue p) budget (caseStep r) ⌝ }
+    ensures { λ r. ⌜ Called caseSide (caseValue p) budget (caseStep r) ⌝ }
+    ensures demand { λ r. ⌜ CarriesDemand caseSide (caseValue p) budget (caseStep r) ⌝ }
 {
     let t = p.table;
     let checked = table::check_table(t);

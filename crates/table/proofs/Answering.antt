@@ -1,13 +1,17 @@
--- Reading answers: a refusal's number is never 0, and what an answer is where a check refused or passed.
-use mathlib.Core.Path.{_≡_, sym, ap, _∙_}
+-- Reading answers: a refusal's number is never 0, what an answer is where a check refused or passed, and that no two answers read alike.
+use mathlib.Core.Path.{_≡_, refl, sym, ap, ap₂, _∙_}
+use mathlib.Core.List.{[], _∷_}
 use mathlib.Core.Bool.{false}
-use Prim.Native.Nat.{ℕ, _<_}
+use Prim.Native.Nat.{ℕ, _-_, _<_}
 use native.Mathlib.Omega.{arith}
 use lib.Dec.{eqb}
+use lib.ListN.{getD}
 use borrow.Author.Tests.{ne-eqb}
-use Rattle.table.specs.Answers.{number, answer, refused, verdict}
+use Rattle.table.specs.Answers.{number, Answer, answer, refused, verdict, made}
 use Rattle.table.specs.declared.Refusal.{Refusal}
 use Rattle.table.specs.declared.Refusal.the-variants.{FileTooLong, NotTheBanner, LineTooLong, SizeFields, SizeRange, PairFields, PairRange, PairRepeated, PairCount, TableShape, TableRows, ChainCount, ChainPairs, NotAChain, NotReached, BufferTooShort, NoSuchComment, BudgetTooLarge}
+use Rattle.table.specs.declared.Table.{Table}
+use Rattle.table.specs.declared.Made.{Made}
 use Rattle.table.specs.declared.Verdict.{Verdict}
 use Rattle.table.specs.declared.Verdict.the-variants.{Accepted, Refused}
 
@@ -46,3 +50,42 @@ answer-refused x n value blank e =
 
 pub answer-given : {A : Type 0} (n : ℕ) (value blank : A) → n ≡ 0 → record { refusal = 0; value = value } ≡ answer n value blank
 answer-given n value blank e = rw e
+
+-- ---- no two answers read alike
+-- the refusal of a number
+pub named : ℕ → Refusal
+named n = getD (FileTooLong ∷ NotTheBanner ∷ LineTooLong ∷ SizeFields ∷ SizeRange ∷ PairFields ∷ PairRange ∷ PairRepeated ∷ PairCount ∷ TableShape ∷ TableRows ∷ ChainCount ∷ ChainPairs ∷ NotAChain ∷ NotReached ∷ BufferTooShort ∷ NoSuchComment ∷ BudgetTooLarge ∷ []) (n - 1) BudgetTooLarge
+
+pub named-number : (x : Refusal) → named (number x) ≡ x
+unfolding named
+named-number FileTooLong = refl
+named-number NotTheBanner = refl
+named-number LineTooLong = refl
+named-number SizeFields = refl
+named-number SizeRange = refl
+named-number PairFields = refl
+named-number PairRange = refl
+named-number PairRepeated = refl
+named-number PairCount = refl
+named-number TableShape = refl
+named-number TableRows = refl
+named-number ChainCount = refl
+named-number ChainPairs = refl
+named-number NotAChain = refl
+named-number NotReached = refl
+named-number BufferTooShort = refl
+named-number NoSuchComment = refl
+named-number BudgetTooLarge = refl
+
+pub number-injective : (x y : Refusal) → number x ≡ number y → x ≡ y
+number-injective x y e = sym (named-number x) ∙ ap named e ∙ named-number y
+
+pub verdict-injective : (v w : Verdict) → verdict v ≡ verdict w → v ≡ w
+verdict-injective Accepted Accepted e = refl
+verdict-injective Accepted (Refused y) e = absurd (omega (arith, number-pos y))
+verdict-injective (Refused x) Accepted e = absurd (omega (arith, number-pos x))
+verdict-injective (Refused x) (Refused y) e = ap Refused (number-injective x y e)
+
+pub made-injective : (m n : Made) → made m ≡ made n → m ≡ n
+made-injective m n e =
+    ap₂ (λ (v : Verdict) (t : Table). record { verdict = v; table = t }) (verdict-injective (m .verdict) (n .verdict) (ap (λ (a : Answer Table). a .refusal) e)) (ap (λ (a : Answer Table). a .value) e)

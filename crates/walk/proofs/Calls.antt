@@ -4,6 +4,7 @@
 use mathlib.Core.Path.{_≡_, refl, ap, sym, _∙_}
 use mathlib.Core.Logic.{_⊎_, inl, inr}
 use mathlib.Core.Bool.{Bool, true, false, cond}
+use mathlib.Core.Option.{Option, none, some}
 use mathlib.Core.List.{List, [], _∷_, _++_, head?, append-nil, map, List·Memᴰ, List·Memᴰ·head, List·Memᴰ·cases-cons, List·Memᴰ·not-nil}
 use Prim.Native.Nat.{ℕ, zero, suc, _+_, _-_, _*_, _≤_, _<_}
 use native.Mathlib.Nat.{sub-zero}
@@ -12,7 +13,7 @@ use lib.Dec.{ltb}
 use lib.ListN.{length}
 use borrow.Author.Tests.{lt-ltb, le-ltb}
 use Rattle.walk.specs.Machine.{cutLast, Phase, Down, Handed, Back, Ended, State, Given, nothing, hands, ends, at, fresh, takeBack, down, back, above, step, move}
-use Rattle.walk.specs.Calls.{Answer, refused, spent, handed, end, Call, result, mostBudget, answered, handouts, onward, movesToNext, proceed, carry, call, callsFrom, calls}
+use Rattle.walk.specs.Calls.{Answer, refused, spent, handed, end, Call, result, mostBudget, answered, handouts, movesUntil, isHandOut, isHandOutOrEnd, proceed, carry, call, callsFrom, calls, stateAfter}
 use Rattle.walk.specs.Fitting.{Fits}
 use Rattle.walk.proofs.Trees.{by-last, cut-snoc, length-snoc, Tree, leaves, kid-fits}
 use Rattle.walk.proofs.Progress.{rest, listed, move-rest, move-fits}
@@ -125,11 +126,6 @@ module _ (kids : List ℕ → List ℕ) (out : List ℕ → List ℕ) where
   unfolding call
   call-within b s l = rw (le-ltb mostBudget b l)
 
-  -- the state after these calls
-  abbrev final : List ℕ → State → State
-  final [] s = s
-  final (b ∷ bs) s = final bs (call kids out b s .next)
-
   module _ (n : ℕ) where
     -- the sets still to be handed out
     abbrev pub ahead : State → List (List ℕ)
@@ -140,6 +136,31 @@ module _ (kids : List ℕ → List ℕ) (out : List ℕ → List ℕ) where
       pub keeps : answered (c .answer) (ahead (c .next)) ≡ ahead s
       pub paid : Paid (c .answer) (c .moves) (cost n (c .next .picks) (c .next .phase)) (cost n (s .picks) (s .phase))
       pub closed : Closed (c .answer) (c .next)
+
+-- no end, and Down again where no hand-out came
+abbrev StaysDown : Answer → State → Type 0
+StaysDown (refused j) s = (p : List ℕ) × (s ≡ at p Down)
+StaysDown spent s = (p : List ℕ) × (s ≡ at p Down)
+StaysDown (handed x) s = Unit {0}
+StaysDown end s = ⊥
+
+module _ (kids : List ℕ → List ℕ) (out : List ℕ → List ℕ) where
+  carry-down : (b : ℕ) (p : List ℕ) → StaysDown (carry kids out b (at p Down) .answer) (carry kids out b (at p Down) .next)
+  carry-down zero p = (p, refl)
+  carry-down (suc b) p = go (head? (kids p)) (λ q. carry-down b q)
+    where
+      go : (o : Option ℕ) → ((q : List ℕ) → StaysDown (carry kids out b (at q Down) .answer) (carry kids out b (at q Down) .next))
+          → StaysDown (proceed kids out (carry kids out b) (down p o .given) (down p o .next) .answer) (proceed kids out (carry kids out b) (down p o .given) (down p o .next) .next)
+      go (some g) on = on (p ++ (g ∷ []))
+      go none on = tt
+
+  call-down : (b : ℕ) (p : List ℕ) → StaysDown (call kids out b (at p Down) .answer) (call kids out b (at p Down) .next)
+  unfolding call
+  call-down b p = go (ltb mostBudget b)
+    where
+      go : (x : Bool) → StaysDown (cond x (result (refused 18) 0 (at p Down)) (carry kids out b (at p Down)) .answer) (cond x (result (refused 18) 0 (at p Down)) (carry kids out b (at p Down)) .next)
+      go true = (p, refl)
+      go false = carry-down b p
 
 paid-one : (a : Answer) (k c d d′ : ℕ) → suc d′ ≤ d → Paid a k c d′ → Paid a (suc k) c d
 paid-one (refused j) k c d d′ l h = omega arith
@@ -174,7 +195,7 @@ module _ (kids : List ℕ → List ℕ) (out : List ℕ → List ℕ) (n : ℕ) 
       go false = carry-law b s h
 
   -- ---- a list of calls: what it hands out, and what is then still to come
-  calls-keep : (bs : List ℕ) (s : State) → Fits kids (s .picks) (s .phase) → handouts (callsFrom kids out bs s) ++ ahead kids out n (final kids out bs s) ≡ ahead kids out n s
+  calls-keep : (bs : List ℕ) (s : State) → Fits kids (s .picks) (s .phase) → handouts (callsFrom kids out bs s) ++ ahead kids out n (stateAfter kids out bs s) ≡ ahead kids out n s
   calls-keep [] s h = refl
   calls-keep (b ∷ bs) s h =
       let l = call-law b s h in
@@ -185,9 +206,9 @@ module _ (kids : List ℕ → List ℕ) (out : List ℕ → List ℕ) (n : ℕ) 
 
   -- the sets handed out are a front of those of the leaves
   pub calls-front : (bs : List ℕ) → (l : List (List ℕ)) × (handouts (calls kids out bs) ++ l ≡ map out (leaves kids n []))
-  calls-front bs = (ahead kids out n (final kids out bs fresh), calls-keep bs fresh tt ∙ ahead-fresh)
+  calls-front bs = (ahead kids out n (stateAfter kids out bs fresh), calls-keep bs fresh tt ∙ ahead-fresh)
 
-  stays-ended : (bs : List ℕ) → final kids out bs (at [] Ended) ≡ at [] Ended
+  stays-ended : (bs : List ℕ) → stateAfter kids out bs (at [] Ended) ≡ at [] Ended
   unfolding call
   stays-ended [] = refl
   stays-ended (b ∷ bs) = rw (again (ltb mostBudget b) b) (stays-ended bs)
@@ -197,12 +218,12 @@ module _ (kids : List ℕ → List ℕ) (out : List ℕ → List ℕ) (n : ℕ) 
       again false zero = refl
       again false (suc b) = refl
 
-  end-final : (bs : List ℕ) (s : State) → Fits kids (s .picks) (s .phase) → (c : Call) → List·Memᴰ c (callsFrom kids out bs s) → c .answer ≡ end → final kids out bs s ≡ at [] Ended
-  end-final [] s h c m e = absurd (List·Memᴰ·not-nil m)
-  end-final (b ∷ bs) s h c m e = go (λ k. end-final bs (call kids out b s .next) (call-law b s h .fits) c k e) (List·Memᴰ·cases-cons m)
+  end-after : (bs : List ℕ) (s : State) → Fits kids (s .picks) (s .phase) → (c : Call) → List·Memᴰ c (callsFrom kids out bs s) → c .answer ≡ end → stateAfter kids out bs s ≡ at [] Ended
+  end-after [] s h c m e = absurd (List·Memᴰ·not-nil m)
+  end-after (b ∷ bs) s h c m e = go (λ k. end-after bs (call kids out b s .next) (call-law b s h .fits) c k e) (List·Memᴰ·cases-cons m)
     where
-      go : (List·Memᴰ c (callsFrom kids out bs (call kids out b s .next)) → final kids out bs (call kids out b s .next) ≡ at [] Ended)
-          → (c ≡ call kids out b s) ⊎ List·Memᴰ c (callsFrom kids out bs (call kids out b s .next)) → final kids out bs (call kids out b s .next) ≡ at [] Ended
+      go : (List·Memᴰ c (callsFrom kids out bs (call kids out b s .next)) → stateAfter kids out bs (call kids out b s .next) ≡ at [] Ended)
+          → (c ≡ call kids out b s) ⊎ List·Memᴰ c (callsFrom kids out bs (call kids out b s .next)) → stateAfter kids out bs (call kids out b s .next) ≡ at [] Ended
       go on (inl q) =
           let a : call kids out b s .answer ≡ end = sym (ap (λ (x : Call). x .answer) q) ∙ e in
           let z : call kids out b s .next ≡ at [] Ended = rw a at (call-law b s h .closed) in
@@ -212,26 +233,38 @@ module _ (kids : List ℕ → List ℕ) (out : List ℕ → List ℕ) (n : ℕ) 
   -- and once a call has answered `end`, they are all of them
   pub calls-complete : (bs : List ℕ) (c : Call) → List·Memᴰ c (calls kids out bs) → c .answer ≡ end → handouts (calls kids out bs) ≡ map out (leaves kids n [])
   calls-complete bs c m e =
-      let k : handouts (calls kids out bs) ++ [] ≡ map out (leaves kids n []) = rw (end-final bs fresh tt c m e) at (calls-keep bs fresh tt ∙ ahead-fresh) in
+      let k : handouts (calls kids out bs) ++ [] ≡ map out (leaves kids n []) = rw (end-after bs fresh tt c m e) at (calls-keep bs fresh tt ∙ ahead-fresh) in
       rw append-nil at k
 
   -- ---- the moves to the next hand-out or end
-  moves-cost : (bs : List ℕ) (s : State) → Fits kids (s .picks) (s .phase) → movesToNext (callsFrom kids out bs s) ≤ cost n (s .picks) (s .phase)
+  moves-cost : (bs : List ℕ) (s : State) → Fits kids (s .picks) (s .phase) → movesUntil isHandOutOrEnd (callsFrom kids out bs s) ≤ cost n (s .picks) (s .phase)
   moves-cost [] s h = omega arith
   moves-cost (b ∷ bs) s h =
       let l = call-law b s h in
       go (call kids out b s .answer) (call kids out b s .moves) _ _ _ (l .paid) (moves-cost bs (call kids out b s .next) (l .fits))
     where
-      go : (a : Answer) (k c d more : ℕ) → Paid a k c d → more ≤ c → onward a k more ≤ d
+      go : (a : Answer) (k c d more : ℕ) → Paid a k c d → more ≤ c → k + cond (isHandOutOrEnd a) 0 more ≤ d
       go (refused j) k c d more p m = omega arith
       go spent k c d more p m = omega arith
-      go (handed x) k c d more p m = p
-      go end k c d more p m = p
+      go (handed x) k c d more p m = omega arith
+      go end k c d more p m = omega arith
 
-  pub calls-start : (bs : List ℕ) → movesToNext (calls kids out bs) ≤ n + 1
-  calls-start bs = omega (arith, moves-cost bs fresh tt)
+  -- from the start no end comes before the first hand-out
+  start-same : (bs : List ℕ) (p : List ℕ) → movesUntil isHandOut (callsFrom kids out bs (at p Down)) ≡ movesUntil isHandOutOrEnd (callsFrom kids out bs (at p Down))
+  start-same [] p = refl
+  start-same (b ∷ bs) p = go (call kids out b (at p Down) .answer) (call kids out b (at p Down) .next) (call-down kids out b p) (start-same bs)
+    where
+      go : (a : Answer) (s : State) → StaysDown a s → ((q : List ℕ) → movesUntil isHandOut (callsFrom kids out bs (at q Down)) ≡ movesUntil isHandOutOrEnd (callsFrom kids out bs (at q Down)))
+          → call kids out b (at p Down) .moves + cond (isHandOut a) 0 (movesUntil isHandOut (callsFrom kids out bs s)) ≡ call kids out b (at p Down) .moves + cond (isHandOutOrEnd a) 0 (movesUntil isHandOutOrEnd (callsFrom kids out bs s))
+      go (refused j) s d on = rw (d .1) (ap (λ (m : ℕ). call kids out b (at p Down) .moves + m) (on (d .0)))
+      go spent s d on = rw (d .1) (ap (λ (m : ℕ). call kids out b (at p Down) .moves + m) (on (d .0)))
+      go (handed x) s d on = refl
+      go end s d on = absurd d
 
-  gap-from : (bs : List ℕ) (s : State) → Fits kids (s .picks) (s .phase) → (sooner later : List Call) (c : Call) → callsFrom kids out bs s ≡ sooner ++ (c ∷ later) → movesToNext later ≤ 2 * n + 1
+  pub calls-start : (bs : List ℕ) → movesUntil isHandOut (calls kids out bs) ≤ n + 1
+  calls-start bs = rw (start-same bs []) (omega (arith, moves-cost bs fresh tt))
+
+  gap-from : (bs : List ℕ) (s : State) → Fits kids (s .picks) (s .phase) → (sooner later : List Call) (c : Call) → callsFrom kids out bs s ≡ sooner ++ (c ∷ later) → movesUntil isHandOutOrEnd later ≤ 2 * n + 1
   gap-from [] s h [] later c e = let z : _≡_ {A = ℕ} 0 1 = cc in absurd (omega arith)
   gap-from [] s h (d ∷ ds) later c e = let z : _≡_ {A = ℕ} 0 1 = cc in absurd (omega arith)
   gap-from (b ∷ bs) s h [] later c e =
@@ -241,5 +274,5 @@ module _ (kids : List ℕ → List ℕ) (out : List ℕ → List ℕ) (n : ℕ) 
   gap-from (b ∷ bs) s h (d ∷ ds) later c e =
       gap-from bs (call kids out b s .next) (call-law b s h .fits) ds later c (cc)
 
-  pub calls-gap : (bs : List ℕ) (sooner later : List Call) (c : Call) → calls kids out bs ≡ sooner ++ (c ∷ later) → movesToNext later ≤ 2 * n + 1
+  pub calls-gap : (bs : List ℕ) (sooner later : List Call) (c : Call) → calls kids out bs ≡ sooner ++ (c ∷ later) → movesUntil isHandOutOrEnd later ≤ 2 * n + 1
   calls-gap bs = gap-from bs fresh tt

@@ -39,8 +39,9 @@ module _ (kids : List ℕ → List ℕ) (out : List ℕ → List ℕ) (n : ℕ) 
           (x.0, List·Memᴰ·tail (x.1), x.2)
       go on end e = (call kids out b s, List·Memᴰ·head refl, e)
 
-  -- with enough calls, the sets handed out are those of all the leaves
+  -- with enough calls, one ends, and the sets handed out are those of all the leaves
+  pub calls-end : (bs : List ℕ) → All (Enough n) bs → length (leaves kids n []) < length bs → (c : Call) × List·Memᴰ c (calls kids out bs) × (c .answer ≡ end)
+  calls-end bs a l = end-from bs fresh tt a (omega (arith, ap length (ahead-fresh kids out n t), length-map (leaves kids n []) out))
+
   pub calls-all : (bs : List ℕ) → All (Enough n) bs → length (leaves kids n []) < length bs → handouts (calls kids out bs) ≡ map out (leaves kids n [])
-  calls-all bs a l =
-      let c = end-from bs fresh tt a (omega (arith, ap length (ahead-fresh kids out n t), length-map (leaves kids n []) out)) in
-      calls-complete kids out n t bs (c .0) (c .1) (c .2)
+  calls-all bs a l = let c = calls-end bs a l in calls-complete kids out n t bs (c .0) (c .1) (c .2)

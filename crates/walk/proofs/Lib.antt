@@ -7,3 +7,4 @@ pub mod Reach
 pub mod Calls
 pub mod Reports
 pub mod Ends
+pub mod Attained

@@ -1,7 +1,7 @@
 -- Calls of a run with a budget, and lists of them (01, "A run call has a budget .." and the paragraph on demand 3): `kids` as in
 -- Machine.antt, and `out p` is the set that is handed out for the picks p. A call's record has its answer, its moves, and the state that
 -- the next call gets.
-use mathlib.Core.Bool.{cond}
+use mathlib.Core.Bool.{Bool, true, false, cond}
 use mathlib.Core.List.{List, [], _∷_}
 use Prim.Native.Nat.{ℕ, zero, suc, _+_}
 use lib.Dec.{ltb}
@@ -49,6 +49,11 @@ module _ (kids : List ℕ → List ℕ) (out : List ℕ → List ℕ) where
   abbrev pub calls : List ℕ → List Call
   calls bs = callsFrom bs fresh
 
+  -- the state after calls from s on
+  abbrev pub stateAfter : List ℕ → State → State
+  stateAfter [] s = s
+  stateAfter (b ∷ bs) s = stateAfter bs (call b s .next)
+
 -- ---- what is read off a list of calls
 -- what the answers hand out, in turn
 abbrev pub answered : Answer → List (List ℕ) → List (List ℕ)
@@ -61,14 +66,19 @@ abbrev pub handouts : List Call → List (List ℕ)
 handouts [] = []
 handouts (c ∷ cs) = answered (c .answer) (handouts cs)
 
--- k moves, and those that follow where no hand-out and no end came
-abbrev pub onward : Answer → ℕ → ℕ → ℕ
-onward (refused j) k more = k + more
-onward spent k more = k + more
-onward (handed x) k more = k
-onward end k more = k
+-- the moves of these calls up to and with the first whose answer `stops`; all of them where none does
+abbrev pub movesUntil : (Answer → Bool) → List Call → ℕ
+movesUntil stops [] = 0
+movesUntil stops (c ∷ cs) = c .moves + cond (stops (c .answer)) 0 (movesUntil stops cs)
 
--- the moves of these calls up to and with the first hand-out or end; all of them where neither has come
-abbrev pub movesToNext : List Call → ℕ
-movesToNext [] = 0
-movesToNext (c ∷ cs) = onward (c .answer) (c .moves) (movesToNext cs)
+abbrev pub isHandOut : Answer → Bool
+isHandOut (refused k) = false
+isHandOut spent = false
+isHandOut (handed x) = true
+isHandOut end = false
+
+abbrev pub isHandOutOrEnd : Answer → Bool
+isHandOutOrEnd (refused k) = false
+isHandOutOrEnd spent = false
+isHandOutOrEnd (handed x) = true
+isHandOutOrEnd end = true

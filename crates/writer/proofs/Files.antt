@@ -1,4 +1,5 @@
--- The file as the code writes it, part by part, and the answers of `write`: one law for each of its returns.
+-- The file as the code writes it, part by part, and the answers of `write`: one law for each of its returns; and that no two answers
+-- read alike.
 use Prim.Native.Nat.{ℕ, _+_, _≤_, _<_}
 use mathlib.Core.Path.{_≡_, ap, sym, _∙_, subst}
 use mathlib.Core.List.{List, [], _++_, append-assoc}
@@ -7,13 +8,15 @@ use lib.ListN.{length, drop, length-append}
 use lib.Seq.{sets-eq}
 use borrow.Author.Tests.{ne-eqb, lt-ltb, le-ltb}
 use Rattle.table.specs.Tables.{tableRefusal}
-use Rattle.table.specs.Answers.{number, refused}
+use Rattle.table.specs.Answers.{number, Answer, refused}
 use Rattle.table.specs.declared.Refusal.{Refusal}
 use Rattle.table.specs.declared.Refusal.the-variants.{BufferTooShort}
 use Rattle.table.specs.declared.Table.{Table}
-use Rattle.table.proofs.Answering.{number-pos, answer-refused, answer-given}
-use Rattle.writer.specs.Writing.{digits, pairs, writeFile, writeRefusal, writeAnswer, bufferAfter}
+use Rattle.table.proofs.Answering.{number-pos, number-injective, answer-refused, answer-given}
+use Rattle.writer.specs.Writing.{written, digits, pairs, writeFile, writeRefusal, writeAnswer, bufferAfter}
 use Rattle.writer.specs.Steps.{Wrote, pairsAt, rowsFrom, fileBytes, IsTotals}
+use Rattle.writer.specs.declared.Written.{Written}
+use Rattle.writer.specs.declared.Written.the-variants.{Length, Refused}
 use Rattle.writer.specs.declared.Totals.{Totals}
 use Rattle.writer.proofs.Counting.{Small, counting-small}
 
@@ -66,3 +69,10 @@ write-done t out m r e h w =
       rw n (answer-given (writeRefusal t (length out)) (length (writeFile t)) 0 e),
       w .bytes ∙ sets-eq (writeFile t) out 0 (omega arith) ∙ ap (λ (k : ℕ). writeFile t ++ drop k out) z ∙ sym (rw e),
     )
+
+-- no two answers read alike
+pub written-injective : (r q : Written) → written r ≡ written q → r ≡ q
+written-injective (Length n) (Length m) e = ap Length (ap (λ (a : Answer ℕ). a .value) e)
+written-injective (Length n) (Refused y) e = absurd (omega (arith, ap (λ (a : Answer ℕ). a .refusal) e, number-pos y))
+written-injective (Refused x) (Length m) e = absurd (omega (arith, ap (λ (a : Answer ℕ). a .refusal) e, number-pos x))
+written-injective (Refused x) (Refused y) e = ap Refused (number-injective x y (ap (λ (a : Answer ℕ). a .refusal) e))

@@ -1,4 +1,5 @@
--- `runs::run_cases` meets its contract: a refused table by its number, and what the core came to at the case side (`call-answer`).
+-- `runs::run_cases` meets its contract: a refused table by its number, and what the core came to at the case side (`call-answer`);
+-- demand 3 is `carries-demand`.
 use Prim.Native.Nat.{ℕ}
 use mathlib.Core.Path.{_≡_, refl, sym, ap, _∙_, subst}
 use mathlib.Core.List.{List}
@@ -8,11 +9,14 @@ use Rattle.table.specs.Transposing.{transpose}
 use Rattle.table.specs.Tables.{Legal, tableRefusal}
 use Rattle.table.proofs.Answering.{number-pos, verdict-refused, verdict-accepted}
 use Rattle.table.proofs.Legality.{legal-of}
-use Rattle.listing.specs.Demand.{caseSideOf}
+use Rattle.listing.specs.Lists.{caseSide}
 use Rattle.runs.specs.Working.{Sized}
+use Rattle.listing.proofs.BothSides.{case-fair}
 use Rattle.runs.specs.Paused.{caseValue}
+use Rattle.runs.specs.Calling.{Step, Called, CarriesDemand}
 use Rattle.runs.proofs.Answered.{called-refused}
 use Rattle.runs.proofs.Sides.{case-sized, case-rows, case-chain, turned}
+use Rattle.runs.proofs.Demands.{carries-demand}
 use Rattle.runs.proofs.SideCalls.{call-answer}
 use Rattle.runs.proofs.run_cases.Statement.{statement}
 use Rattle.runs.proofs.run_cases.Tie as tie
@@ -29,6 +33,10 @@ legal c = legal-of (c .before .before .before .before .args .p .table) (rows-len
 sized : (c : tie.After-enum-told) (rows : List ℕ) → rows ≡ transpose 64 (c .before .before .before .before .args .p .table .rows) → Sized (c .before .before .before .before .args .p .table .cases) rows
 sized c rows e = subst (Sized (c .before .before .before .before .args .p .table .cases)) (sym e) (case-sized (c .before .before .before .before .args .p .table) (legal c))
 
+-- an answer that is what `Called` says carries demand 3 on
+answered : (c : tie.Start) (r : Step) → Called caseSide (caseValue (c .args .p)) (c .args .budget) r → Called caseSide (caseValue (c .args .p)) (c .args .budget) r × CarriesDemand caseSide (caseValue (c .args .p)) (c .args .budget) r
+answered c r h = (h, carries-demand caseSide (caseValue (c .args .p)) (c .args .budget) r (λ ok. (legal-of (c .args .p .table) (rows-length c) ok, case-fair (c .args .p .table) (legal-of (c .args .p .table) (rows-length c) ok))) h)
+
 check-table-requires : tie.Need-check-table-requires
 check-table-requires c κs = search needs
 
@@ -39,7 +47,7 @@ case-refusal-requires : tie.Need-case-refusal-requires
 case-refusal-requires c κs = search needs
 
 returns : tie.Need-returns
-returns c = called-refused caseSideOf _ _ _ (verdict-refused _ _ _ (c .before .before .checked .given .1) (c .before .before .before .before .check-table .ensures)) (number-pos (c .before .before .checked .given .0 .0)) _ (c .case-refusal .ensures)
+returns c = answered (c .before .before .before .before .before .before) _ (called-refused caseSide _ _ _ (verdict-refused _ _ _ (c .before .before .checked .given .1) (c .before .before .before .before .check-table .ensures)) (number-pos (c .before .before .checked .given .0 .0)) _ (c .case-refusal .ensures))
 
 enum-told : tie.Need-enum-told
 enum-told c = search needs
@@ -60,7 +68,7 @@ case-answer-requires : tie.Need-case-answer-requires
 case-answer-requires c κs = search needs
 
 returns-2 : tie.Need-returns-2
-returns-2 c = call-answer caseSideOf (caseValue (c .before .before .before .before .before .before .before .before .before .before .before .before .before .before .before .args .p)) (c .before .before .before .before .before .before .before .before .before .before .before .before .before .before .before .args .budget) (passed (c .before .before .before .before .before .before .before .before .before .before .before)) (c .before .before .before .before .before .before .before .before .before .before .before .before .before .before .before .args .p .table .cases) (c .before .before .before .before .before .before .before .before .before .transpose-rows .result) (ap (take (c .before .before .before .before .before .before .before .before .before .before .before .before .before .before .before .args .p .table .cases)) (c .before .before .before .before .before .before .before .before .before .transpose-rows .ensures) ∙ case-rows _ (legal (c .before .before .before .before .before .before .before .before .before .before .before))) (c .before .before .before .before .before .before .before .case-mode .result) (c .before .before .before .before .before .before .before .case-mode .ensures) _ _ _ (c .before .before .carry-on .ensures) _ (λ y e. turned _ y _ _ (case-chain _ (legal (c .before .before .before .before .before .before .before .before .before .before .before)) y _ e) (c .before .transpose-rows2 .ensures)) _ (c .case-answer .ensures)
+returns-2 c = answered (c .before .before .before .before .before .before .before .before .before .before .before .before .before .before .before) _ (call-answer caseSide (caseValue (c .before .before .before .before .before .before .before .before .before .before .before .before .before .before .before .args .p)) (c .before .before .before .before .before .before .before .before .before .before .before .before .before .before .before .args .budget) (passed (c .before .before .before .before .before .before .before .before .before .before .before)) (c .before .before .before .before .before .before .before .before .before .before .before .before .before .before .before .args .p .table .cases) (c .before .before .before .before .before .before .before .before .before .transpose-rows .result) (ap (take (c .before .before .before .before .before .before .before .before .before .before .before .before .before .before .before .args .p .table .cases)) (c .before .before .before .before .before .before .before .before .before .transpose-rows .ensures) ∙ case-rows _ (legal (c .before .before .before .before .before .before .before .before .before .before .before))) (c .before .before .before .before .before .before .before .case-mode .result) (c .before .before .before .before .before .before .before .case-mode .ensures) _ _ _ (c .before .before .carry-on .ensures) _ (λ y e. turned _ y _ _ (case-chain _ (legal (c .before .before .before .before .before .before .before .before .before .before .before)) y _ e) (c .before .transpose-rows2 .ensures)) _ (c .case-answer .ensures))
 
 pub run-cases-spec : {M : Type 1} → statement M
 run-cases-spec =

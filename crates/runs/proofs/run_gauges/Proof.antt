@@ -1,14 +1,18 @@
--- `runs::run_gauges` meets its contract: a refused table by its number, and what the core came to at the gauge side (`call-answer`).
+-- `runs::run_gauges` meets its contract: a refused table by its number, and what the core came to at the gauge side (`call-answer`);
+-- demand 3 is `carries-demand`.
 use mathlib.Core.Path.{_≡_, refl}
 use borrow.Author.Needs.{needs}
 use lib.ListN.{length}
 use Rattle.table.specs.Tables.{Legal, tableRefusal}
 use Rattle.table.proofs.Answering.{number-pos, verdict-refused, verdict-accepted}
 use Rattle.table.proofs.Legality.{legal-of}
-use Rattle.listing.specs.Demand.{gaugeSideOf}
+use Rattle.listing.specs.Lists.{gaugeSide}
+use Rattle.listing.proofs.BothSides.{gauge-fair}
 use Rattle.runs.specs.Paused.{gaugeValue}
+use Rattle.runs.specs.Calling.{Step, Called, CarriesDemand}
 use Rattle.runs.proofs.Answered.{called-refused}
 use Rattle.runs.proofs.Sides.{legal-sized, gauge-chain}
+use Rattle.runs.proofs.Demands.{carries-demand}
 use Rattle.runs.proofs.SideCalls.{call-answer}
 use Rattle.runs.proofs.run_gauges.Statement.{statement}
 use Rattle.runs.proofs.run_gauges.Tie as tie
@@ -22,6 +26,10 @@ passed c = verdict-accepted _ _ (c .enum-told .given .1) (c .before .before .che
 legal : (c : tie.After-enum-told) → Legal (c .before .before .before .before .args .p .table)
 legal c = legal-of (c .before .before .before .before .args .p .table) (rows-length (c .before .before .before .before)) (passed c)
 
+-- an answer that is what `Called` says carries demand 3 on
+answered : (c : tie.Start) (r : Step) → Called gaugeSide (gaugeValue (c .args .p)) (c .args .budget) r → Called gaugeSide (gaugeValue (c .args .p)) (c .args .budget) r × CarriesDemand gaugeSide (gaugeValue (c .args .p)) (c .args .budget) r
+answered c r h = (h, carries-demand gaugeSide (gaugeValue (c .args .p)) (c .args .budget) r (λ ok. (legal-of (c .args .p .table) (rows-length c) ok, gauge-fair (c .args .p .table) (legal-of (c .args .p .table) (rows-length c) ok))) h)
+
 check-table-requires : tie.Need-check-table-requires
 check-table-requires c κs = search needs
 
@@ -32,7 +40,7 @@ gauge-refusal-requires : tie.Need-gauge-refusal-requires
 gauge-refusal-requires c κs = search needs
 
 returns : tie.Need-returns
-returns c = called-refused gaugeSideOf _ _ _ (verdict-refused _ _ _ (c .before .before .checked .given .1) (c .before .before .before .before .check-table .ensures)) (number-pos (c .before .before .checked .given .0 .0)) _ (c .gauge-refusal .ensures)
+returns c = answered (c .before .before .before .before .before .before) _ (called-refused gaugeSide _ _ _ (verdict-refused _ _ _ (c .before .before .checked .given .1) (c .before .before .before .before .check-table .ensures)) (number-pos (c .before .before .checked .given .0 .0)) _ (c .gauge-refusal .ensures))
 
 enum-told : tie.Need-enum-told
 enum-told c = search needs
@@ -47,7 +55,7 @@ gauge-answer-requires : tie.Need-gauge-answer-requires
 gauge-answer-requires c κs = search needs
 
 returns-2 : tie.Need-returns-2
-returns-2 c = call-answer gaugeSideOf (gaugeValue (c .before .before .before .before .before .before .before .before .before .before .before .before .before .before .args .p)) (c .before .before .before .before .before .before .before .before .before .before .before .before .before .before .args .budget) (passed (c .before .before .before .before .before .before .before .before .before .before)) (c .before .before .before .before .before .before .before .before .before .before .before .before .before .before .args .p .table .gauges) (c .before .before .before .before .before .before .before .before .before .before .before .before .before .before .args .p .table .rows) refl (c .before .before .before .before .before .before .gauge-mode .result) (c .before .before .before .before .before .before .gauge-mode .ensures) _ _ _ (c .before .carry-on .ensures) _ (λ y e. gauge-chain _ (legal (c .before .before .before .before .before .before .before .before .before .before)) y _ e) _ (c .gauge-answer .ensures)
+returns-2 c = answered (c .before .before .before .before .before .before .before .before .before .before .before .before .before .before) _ (call-answer gaugeSide (gaugeValue (c .before .before .before .before .before .before .before .before .before .before .before .before .before .before .args .p)) (c .before .before .before .before .before .before .before .before .before .before .before .before .before .before .args .budget) (passed (c .before .before .before .before .before .before .before .before .before .before)) (c .before .before .before .before .before .before .before .before .before .before .before .before .before .before .args .p .table .gauges) (c .before .before .before .before .before .before .before .before .before .before .before .before .before .before .args .p .table .rows) refl (c .before .before .before .before .before .before .gauge-mode .result) (c .before .before .before .before .before .before .gauge-mode .ensures) _ _ _ (c .before .carry-on .ensures) _ (λ y e. gauge-chain _ (legal (c .before .before .before .before .before .before .before .before .before .before)) y _ e) _ (c .gauge-answer .ensures))
 
 pub run-gauges-spec : {M : Type 1} → statement M
 run-gauges-spec =

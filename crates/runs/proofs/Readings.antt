@@ -1,0 +1,207 @@
+-- The contracts leave one answer: no two steps are what `Called` says of one value and budget (`called-unique`), and no two structs of the code
+-- read alike. For `Called` two steps that are not different are equal, since each field of a step is decided.
+use mathlib.Core.Path.{_≡_, refl, sym, ap, ap₂, _∙_}
+use mathlib.Core.List.{List, [], _∷_, List-discrete}
+use Prim.Native.Nat.{ℕ, _<_}
+use native.Mathlib.Decide.{ℕ-discrete}
+use native.Mathlib.Omega.{arith}
+use lib.ListN.{getD}
+use Rattle.table.specs.Tables.{chainRows, tableRefusal}
+use Rattle.table.specs.Answers.{Answer as Reading}
+use Rattle.table.specs.declared.Table.{Table}
+use Rattle.table.specs.declared.Chain.{Chain}
+use Rattle.table.specs.declared.Gauge.{Gauge}
+use Rattle.table.specs.declared.Case.{Case}
+use Rattle.table.specs.declared.Verdict.{Verdict}
+use Rattle.table.proofs.Answering.{named, named-number, verdict-injective}
+use Rattle.walk.specs.Machine.{Phase, Down, Handed, Back, Ended, State}
+use Rattle.walk.specs.Calls.{Answer, refused, spent, handed, end}
+use Rattle.listing.specs.Lists.{Side, gaugeSide, caseSide}
+use Rattle.runs.specs.declared.Phase.the-variants.{Down as gaugeDown, Handed as gaugeHanded, Back as gaugeBack, Ended as gaugeEnded}
+use Rattle.runs.specs.declared.Phase.{Phase as GaugePhase}
+use Rattle.runs.specs.declared.CasePhase.the-variants.{Down as caseDown, Handed as caseHanded, Back as caseBack, Ended as caseEnded}
+use Rattle.runs.specs.declared.CasePhase.{CasePhase}
+use Rattle.runs.specs.declared.GaugeRun.{GaugeRun}
+use Rattle.runs.specs.declared.CaseRun.{CaseRun}
+use Rattle.runs.specs.declared.GaugeStart.{GaugeStart}
+use Rattle.runs.specs.declared.CaseStart.{CaseStart}
+use Rattle.runs.specs.declared.GaugeStep.{GaugeStep}
+use Rattle.runs.specs.declared.CaseStep.{CaseStep}
+use Rattle.runs.specs.declared.Outcome.{Outcome}
+use Rattle.runs.specs.declared.Outcome.the-variants.{HandedOut, Spent, End, Refused}
+use Rattle.runs.specs.Paused.{Value, gaugePhase, casePhase, gaugeValue, caseValue, gaugeStarted, caseStarted}
+use Rattle.runs.specs.Calling.{Step, outcome, gaugeStep, caseStep, PausedAt, Called}
+
+-- ---- an answer, and a phase, from its kind and its numbers
+kind : Answer → ℕ
+kind (refused n) = 0
+kind spent = 1
+kind (handed x) = 2
+kind end = 3
+
+numbers : Answer → List ℕ
+numbers (refused n) = n ∷ []
+numbers spent = []
+numbers (handed x) = x
+numbers end = []
+
+answerOf : ℕ → List ℕ → Answer
+answerOf k x = getD (refused (getD x 0 0) ∷ spent ∷ handed x ∷ end ∷ []) k end
+
+answer-of : (a : Answer) → answerOf (kind a) (numbers a) ≡ a
+unfolding answerOf kind numbers
+answer-of (refused n) = refl
+answer-of spent = refl
+answer-of (handed x) = refl
+answer-of end = refl
+
+stage : Phase → ℕ
+stage Down = 0
+stage Handed = 1
+stage (Back g) = 2
+stage Ended = 3
+
+from : Phase → ℕ
+from Down = 0
+from Handed = 0
+from (Back g) = g
+from Ended = 0
+
+phaseOf : ℕ → ℕ → Phase
+phaseOf k g = getD (Down ∷ Handed ∷ Back g ∷ Ended ∷ []) k Ended
+
+phase-of : (f : Phase) → phaseOf (stage f) (from f) ≡ f
+unfolding phaseOf stage from
+phase-of Down = refl
+phase-of Handed = refl
+phase-of (Back g) = refl
+phase-of Ended = refl
+
+-- ---- records, field by field
+table-same : (g h c d : ℕ) (r q : List ℕ) → g ≡ h → c ≡ d → r ≡ q → _≡_ {A = Table} (record { gauges = g; cases = c; rows = r }) (record { gauges = h; cases = d; rows = q })
+table-same g h c d r q a b e = rw (a, b, e)
+
+value-same : (t u : Table) (p q : List ℕ) (n m : ℕ) (f e : Phase) → t ≡ u → p ≡ q → n ≡ m → f ≡ e → _≡_ {A = Value} (record { table = t; picks = p; count = n; phase = f }) (record { table = u; picks = q; count = m; phase = e })
+value-same t u p q n m f e a b c d = rw (a, b, c, d)
+
+step-same : (a b : Answer) (k l : ℕ) (c d : Chain) (v w : Value) → a ≡ b → k ≡ l → c ≡ d → v ≡ w → _≡_ {A = Step} (record { answer = a; moves = k; chain = c; next = v }) (record { answer = b; moves = l; chain = d; next = w })
+step-same a b k l c d v w x y z u = rw (x, y, z, u)
+
+-- two steps that are not different are equal
+step-settled : (r q : Step) → ¬ ¬ (r ≡ q) → r ≡ q
+step-settled r q n =
+    step-same (r .answer) (q .answer) (r .moves) (q .moves) (r .chain) (q .chain) (r .next) (q .next)
+    (sym (answer-of (r .answer)) ∙ ap₂ answerOf (number (λ x. kind (x .answer))) (list (λ x. numbers (x .answer))) ∙ answer-of (q .answer))
+    (number (λ x. x .moves))
+    (ap₂ (λ (g : ℕ) (rows : List ℕ). record { gauges = g; rows = rows }) (number (λ x. x .chain .gauges)) (list (λ x. x .chain .rows)))
+    (value-same (r .next .table) (q .next .table) (r .next .picks) (q .next .picks) (r .next .count) (q .next .count) (r .next .phase) (q .next .phase)
+    (table-same (r .next .table .gauges) (q .next .table .gauges) (r .next .table .cases) (q .next .table .cases) (r .next .table .rows) (q .next .table .rows)
+    (number (λ x. x .next .table .gauges)) (number (λ x. x .next .table .cases)) (list (λ x. x .next .table .rows)))
+    (list (λ x. x .next .picks))
+    (number (λ x. x .next .count))
+    (sym (phase-of (r .next .phase)) ∙ ap₂ phaseOf (number (λ x. stage (x .next .phase))) (number (λ x. from (x .next .phase))) ∙ phase-of (q .next .phase)))
+  where
+    settle : {A : Type 0} (f : Step → A) → Dec (f r ≡ f q) → f r ≡ f q
+    settle f (yes e) = e
+    settle f (no e) = absurd (n (λ d. e (ap f d)))
+
+    number : (f : Step → ℕ) → f r ≡ f q
+    number f = settle f (ℕ-discrete (f r) (f q))
+
+    list : (f : Step → List ℕ) → f r ≡ f q
+    list f = settle f (List-discrete ℕ-discrete (f r) (f q))
+
+pub called-unique : (side : Table → Side) (v : Value) (b : ℕ) (r q : Step) → Called side v b r → Called side v b q → r ≡ q
+called-unique side v b r q a c = step-settled r q (λ n. go n (ℕ-discrete (tableRefusal (v .table)) 0))
+  where
+    go : ¬ (r ≡ q) → Dec (tableRefusal (v .table) ≡ 0) → ⊥
+    go n (no z) = n (a .table (omega (arith, z)) ∙ sym (c .table (omega (arith, z))))
+    go n (yes z) =
+        let none : (s : State) → PausedAt side v s → ⊥ = λ s p. n (a .rules z s p ∙ sym (c .rules z s p)) in
+        n (a .value z none ∙ sym (c .value z none))
+
+-- ---- no two answers read alike: what is read gives the answer back
+injective : {A B : Type 0} (read : A → B) (back : B → A) → ((x : A) → back (read x) ≡ x) → (x y : A) → read x ≡ read y → x ≡ y
+injective read back h x y e = sym (h x) ∙ ap back e ∙ h y
+
+outcomeOf : Answer → Outcome
+outcomeOf (refused n) = Refused (named n)
+outcomeOf spent = Spent
+outcomeOf (handed x) = HandedOut
+outcomeOf end = End
+
+outcome-of : (o : Outcome) (x : List ℕ) → outcomeOf (outcome o x) ≡ o
+unfolding outcomeOf
+outcome-of HandedOut x = refl
+outcome-of Spent x = refl
+outcome-of End x = refl
+outcome-of (Refused y) x = ap Refused (named-number y)
+
+-- ---- the gauge run
+gaugePhaseOf : Phase → GaugePhase
+gaugePhaseOf Down = gaugeDown
+gaugePhaseOf Handed = gaugeHanded
+gaugePhaseOf (Back g) = gaugeBack (record { 0 = g })
+gaugePhaseOf Ended = gaugeEnded
+
+gauge-phase-of : (f : GaugePhase) → gaugePhaseOf (gaugePhase f) ≡ f
+unfolding gaugePhaseOf
+gauge-phase-of gaugeDown = refl
+gauge-phase-of gaugeHanded = refl
+gauge-phase-of (gaugeBack g) = refl
+gauge-phase-of gaugeEnded = refl
+
+abbrev gaugeRunOf : Value → GaugeRun
+gaugeRunOf v = record { table = v .table; picks = v .picks; count = v .count; phase = gaugePhaseOf (v .phase) }
+
+gauge-run-of : (p : GaugeRun) → gaugeRunOf (gaugeValue p) ≡ p
+gauge-run-of p = ap (λ (f : GaugePhase). record { table = p .table; picks = p .picks; count = p .count; phase = f }) (gauge-phase-of (p .phase))
+
+pub gauge-value-injective : (p q : GaugeRun) → gaugeValue p ≡ gaugeValue q → p ≡ q
+gauge-value-injective = injective gaugeValue gaugeRunOf gauge-run-of
+
+pub gauge-started-injective : (s z : GaugeStart) → gaugeStarted s ≡ gaugeStarted z → s ≡ z
+gauge-started-injective s z e =
+    ap₂ (λ (v : Verdict) (p : GaugeRun). record { verdict = v; run = p }) (verdict-injective (s .verdict) (z .verdict) (ap (λ (a : Reading Value). a .refusal) e)) (gauge-value-injective (s .run) (z .run) (ap (λ (a : Reading Value). a .value) e))
+
+pub gauge-step-injective : (r q : GaugeStep) → gaugeStep r ≡ gaugeStep q → r ≡ q
+gauge-step-injective = injective gaugeStep (λ s. record { outcome = outcomeOf (s .answer); moves = s .moves; chain = s .chain; next = gaugeRunOf (s .next) })
+    (λ r. ap₂ (λ (o : Outcome) (p : GaugeRun). record { outcome = o; moves = r .moves; chain = r .chain; next = p }) (outcome-of (r .outcome) (chainRows (r .chain))) (gauge-run-of (r .next)))
+
+-- ---- the case run
+casePhaseOf : Phase → CasePhase
+casePhaseOf Down = caseDown
+casePhaseOf Handed = caseHanded
+casePhaseOf (Back c) = caseBack (record { 0 = c })
+casePhaseOf Ended = caseEnded
+
+case-phase-of : (f : CasePhase) → casePhaseOf (casePhase f) ≡ f
+unfolding casePhaseOf
+case-phase-of caseDown = refl
+case-phase-of caseHanded = refl
+case-phase-of (caseBack c) = refl
+case-phase-of caseEnded = refl
+
+abbrev caseRunOf : Value → CaseRun
+caseRunOf v = record { table = v .table; picks = v .picks; count = v .count; phase = casePhaseOf (v .phase) }
+
+case-run-of : (p : CaseRun) → caseRunOf (caseValue p) ≡ p
+case-run-of p = ap (λ (f : CasePhase). record { table = p .table; picks = p .picks; count = p .count; phase = f }) (case-phase-of (p .phase))
+
+pub case-value-injective : (p q : CaseRun) → caseValue p ≡ caseValue q → p ≡ q
+case-value-injective = injective caseValue caseRunOf case-run-of
+
+pub case-started-injective : (s z : CaseStart) → caseStarted s ≡ caseStarted z → s ≡ z
+case-started-injective s z e =
+    ap₂ (λ (v : Verdict) (p : CaseRun). record { verdict = v; run = p }) (verdict-injective (s .verdict) (z .verdict) (ap (λ (a : Reading Value). a .refusal) e)) (case-value-injective (s .run) (z .run) (ap (λ (a : Reading Value). a .value) e))
+
+pub case-step-injective : (r q : CaseStep) → caseStep r ≡ caseStep q → r ≡ q
+case-step-injective = injective caseStep (λ s. record { outcome = outcomeOf (s .answer); moves = s .moves; chain = s .chain; next = caseRunOf (s .next) })
+    (λ r. ap₂ (λ (o : Outcome) (p : CaseRun). record { outcome = o; moves = r .moves; chain = r .chain; next = p }) (outcome-of (r .outcome) (chainRows (r .chain))) (case-run-of (r .next)))
+
+-- ---- so a run call has one answer
+pub gauge-call-unique : (v : Value) (b : ℕ) (r q : GaugeStep) → Called gaugeSide v b (gaugeStep r) → Called gaugeSide v b (gaugeStep q) → r ≡ q
+gauge-call-unique v b r q a c = gauge-step-injective r q (called-unique gaugeSide v b (gaugeStep r) (gaugeStep q) a c)
+
+pub case-call-unique : (v : Value) (b : ℕ) (r q : CaseStep) → Called caseSide v b (caseStep r) → Called caseSide v b (caseStep q) → r ≡ q
+case-call-unique v b r q a c = case-step-injective r q (called-unique caseSide v b (caseStep r) (caseStep q) a c)
