@@ -7,10 +7,10 @@ use Rattle.ladders.proofs.list.Statement.{statement}
 use Rattle.ladders.proofs.list.Tie as tie
 
 abbrev Inv-loop : tie.InvT-loop
-Inv-loop run₀ space₀ cases blocks₀ run space blocks = length space ≡ 65536
+Inv-loop run₀ space₀ blocks₀ run space blocks = length space ≡ 65536
 
 abbrev μ-loop : tie.MeasureT-loop
-μ-loop run₀ space₀ cases blocks₀ run space blocks = blocks
+μ-loop run₀ space₀ blocks₀ run space blocks = blocks
 
 start-gauges-requires : tie.Need-start-gauges-requires Inv-loop μ-loop
 start-gauges-requires c κs = search needs
@@ -27,17 +27,29 @@ slice-aggregate-fill c = sym (c .before .before .loop .inv)
 fill-requires : tie.Need-fill-requires Inv-loop μ-loop
 fill-requires c κs = search needs
 
-slice-aggregate-put : tie.Need-slice-aggregate-put Inv-loop μ-loop
-slice-aggregate-put c = sym (c .before .before .before .fill .kept .1 .1 .0 ∙ c .before .before .before .before .before .before .loop .inv)
+enum-told : tie.Need-enum-told Inv-loop μ-loop
+enum-told c = search needs
 
-put-requires : tie.Need-put-requires Inv-loop μ-loop
-put-requires c κs = search needs
+say-lost-requires : tie.Need-say-lost-requires Inv-loop μ-loop
+say-lost-requires c κs = search needs
 
 returns : tie.Need-returns Inv-loop μ-loop
 returns c = search needs
 
+enum-told-2 : tie.Need-enum-told-2 Inv-loop μ-loop
+enum-told-2 c = search needs
+
+slice-aggregate-put : tie.Need-slice-aggregate-put Inv-loop μ-loop
+slice-aggregate-put c = sym (c .before .before .before .before .before .fill .kept .1 .0 ∙ c .before .before .before .before .before .before .before .before .loop .inv)
+
+put-requires : tie.Need-put-requires Inv-loop μ-loop
+put-requires c κs = search needs
+
 returns-2 : tie.Need-returns-2 Inv-loop μ-loop
 returns-2 c = search needs
+
+returns-3 : tie.Need-returns-3 Inv-loop μ-loop
+returns-3 c = search needs
 
 sub-blocks : tie.Need-sub-blocks Inv-loop μ-loop
 sub-blocks c = omega arith
@@ -46,10 +58,13 @@ loop-less : tie.Need-loop-less Inv-loop μ-loop
 loop-less c = omega arith
 
 loop-again : tie.Need-loop-again Inv-loop μ-loop
-loop-again c = c .before .before .before .before .before .before .fill .kept .1 .1 .0 ∙ c .before .before .before .before .before .before .before .before .before .loop .inv
+loop-again c = c .before .before .before .before .before .before .before .before .fill .kept .1 .0 ∙ c .before .before .before .before .before .before .before .before .before .before .before .loop .inv
 
-returns-3 : tie.Need-returns-3 Inv-loop μ-loop
-returns-3 c = search needs
+say-lost-requires-2 : tie.Need-say-lost-requires-2 Inv-loop μ-loop
+say-lost-requires-2 c κs = search needs
+
+returns-4 : tie.Need-returns-4 Inv-loop μ-loop
+returns-4 c = search needs
 
 pub list-spec : {M : Type 1} → statement M
 list-spec =
@@ -62,11 +77,16 @@ list-spec =
     loop-holds
     slice-aggregate-fill
     fill-requires
+    enum-told
+    say-lost-requires
+    returns
+    enum-told-2
     slice-aggregate-put
     put-requires
-    returns
     returns-2
+    returns-3
     sub-blocks
     loop-less
     loop-again
-    returns-3)
+    say-lost-requires-2
+    returns-4)

@@ -1,0 +1,67 @@
+-- A set that a call hands out is a set of pairs of the table, so the table of its pairs is legal, and its file has room where the longest has.
+use mathlib.Core.Path.{_≡_, sym, ap, _∙_, subst}
+use mathlib.Core.List.{List, [], _∷_}
+use Prim.Native.Nat.{ℕ, _^_, _≤_, _<_}
+use native.Mathlib.Omega.{arith}
+use lib.ListN.{length}
+use borrow.Author.Tests.{lt-ltb, ltb-true}
+use Rattle.sets.specs.Sets.{_⊆_, lowest}
+use Rattle.sets.proofs.Order.{sub-trans, subset-is, is-subset}
+use Rattle.sets.proofs.Masks.{below-lowest}
+use Rattle.table.specs.declared.Table.{Table}
+use Rattle.table.specs.Pairs.{row, Within}
+use Rattle.table.specs.Tables.{Legal, tableRows}
+use Rattle.table.proofs.Padding.{pad-length, pad-getD}
+use Rattle.table.proofs.Places.{row-past, within-sub}
+use Rattle.table.proofs.Legality.{length-rows, row-tableRows}
+use Rattle.walk.specs.Machine.{State, Given, nothing, hands, ends}
+use Rattle.walk.specs.Calls.{Answer, spent, handed, Call, mostBudget}
+use Rattle.walk.specs.Reports.{says, lastOf}
+use Rattle.walk.proofs.Calls.{Paid, cost, cost-lap, cost-pos, call-law}
+use Rattle.walk.proofs.Reports.{calls-whole, calls-spent}
+use Rattle.listing.specs.Lists.{gaugeSide}
+use Rattle.listing.specs.Picks.{candidates}
+use Rattle.listing.specs.Rules.{handOut, callOn, chainOf, ReachedOn}
+use Rattle.listing.proofs.CandidateTree.{candidate-tree, reached-fits}
+use Rattle.listing.proofs.ChainRows.{chainOf-within}
+use Rattle.blocks.specs.Filling.{pairTable}
+
+below : (a b n : ℕ) → n ≤ 64 → a ⊆ b → b < 2 ^ n → a < 2 ^ n
+below a b n h s l =
+    ltb-true a (2 ^ n) (sym (below-lowest a n h) ∙ is-subset a (lowest n) (sub-trans a b (lowest n) s (subset-is b (lowest n) (below-lowest b n h ∙ lt-ltb b (2 ^ n) l))))
+
+pub pair-legal : (t : Table) → Legal t → (x : List ℕ) → Within (tableRows t) x → Legal (pairTable t x)
+pair-legal t l x w = record {
+  gauges-low = l .gauges-low;
+  gauges-high = l .gauges-high;
+  cases-low = l .cases-low;
+  cases-high = l .cases-high;
+  rows-length = pad-length x (omega (arith, size, l .gauges-high));
+  rows-bits = λ i. rw (pad-getD x i) (below (row x i) (row (t .rows) i) (t .cases) (l .cases-high) (rw (row-tableRows t l i) at (within-sub (tableRows t) x w i)) (l .rows-bits i));
+  rows-rest = λ i h. pad-getD x i ∙ row-past x i (omega (arith, size, h));
+}
+  where
+    size : length x ≡ t .gauges
+    size = w .size ∙ length-rows t l
+
+says-handed : (out : List ℕ → List ℕ) (g : Given) (x : List ℕ) → says out g ≡ handed x → (p : List ℕ) × (out p ≡ x)
+says-handed out nothing x e = let z : _≡_ {A = ℕ} 0 1 = cc in absurd (omega arith)
+says-handed out (hands p) x e = (p, cc)
+says-handed out ends x e = let z : _≡_ {A = ℕ} 0 1 = cc in absurd (omega arith)
+
+pub handed-within : (t : Table) (s : State) (x : List ℕ) → callOn (gaugeSide t) mostBudget s .answer ≡ handed x → Within (tableRows t) x
+handed-within t s x e =
+    let w = calls-whole (candidates (tableRows t)) (handOut (gaugeSide t)) (mostBudget ∷ []) s .0 (omega arith) in
+    let p = says-handed (handOut (gaugeSide t)) (lastOf (candidates (tableRows t)) (callOn (gaugeSide t) mostBudget s .moves) s) x (sym (w .last) ∙ e) in
+    subst (Within (tableRows t)) (p .1) (chainOf-within (tableRows t) (p .0))
+
+-- the greatest budget is never spent
+pub never-spent : (t : Table) → Legal t → (s : State) → ReachedOn (gaugeSide t) s → callOn (gaugeSide t) mostBudget s .answer ≡ spent → ⊥
+never-spent t l s r e =
+    let kids : List ℕ → List ℕ = candidates (tableRows t) in
+    let n : ℕ = length (tableRows t) in
+    let c : Call = callOn (gaugeSide t) mostBudget s in
+    let h = reached-fits (gaugeSide t) s .0 r in
+    let p : Paid spent (c .moves) (cost n (c .next .picks) (c .next .phase)) (cost n (s .picks) (s .phase)) = rw e at (call-law kids (handOut (gaugeSide t)) n (candidate-tree (tableRows t)) mostBudget s h .paid) in
+    let m : c .moves ≡ mostBudget = calls-spent kids (handOut (gaugeSide t)) (mostBudget ∷ []) s .0 (omega arith) .only e .0 in
+    omega (arith, p, m, length-rows t l, l .gauges-high, cost-lap kids n (candidate-tree (tableRows t)) (s .picks) (s .phase) h, cost-pos n (c .next .picks) (c .next .phase))

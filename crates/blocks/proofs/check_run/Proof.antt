@@ -1,0 +1,45 @@
+-- `blocks::check_run` meets its contract: a call of budget 0 refuses exactly the values that a run call refuses.
+use mathlib.Core.Path.{_≡_, ap}
+use mathlib.Core.List.{List, [], _∷_}
+use mathlib.Core.Logic.{⊎-elim}
+use Prim.Native.Nat.{ℕ}
+use native.Mathlib.Omega.{arith}
+use denote.Enum.Declared
+use borrow.Author.Needs.{needs}
+use Rattle.table.specs.Tables.{chainRows}
+use Rattle.walk.specs.Calls.{Answer, refused, handed, spent, end}
+use Rattle.runs.specs.Paused.{gaugeValue}
+use Rattle.runs.specs.Calling.{outcome, gaugeStep}
+use Rattle.runs.specs.declared.Outcome.{Outcome}
+use Rattle.runs.specs.declared.Outcome.the-variants.{HandedOut, Spent, End, Refused}
+use Rattle.runs.proofs.Outcome.{the-type}
+use Rattle.blocks.proofs.Turns.{checked-refused, checked-passed}
+use Rattle.blocks.proofs.check_run.Statement.{statement}
+use Rattle.blocks.proofs.check_run.Tie as tie
+
+not-refused : (o : Outcome) (rows : List ℕ) → types.Run.OneOf (0 ∷ 1 ∷ 2 ∷ []) (Declared.tagOf the-type o) → (n : ℕ) → outcome o rows ≡ refused n → ⊥
+not-refused HandedOut rows h n e = let z : _≡_ {A = ℕ} 0 1 = cc in omega arith
+not-refused Spent rows h n e = let z : _≡_ {A = ℕ} 0 1 = cc in omega arith
+not-refused End rows h n e = let z : _≡_ {A = ℕ} 0 1 = cc in omega arith
+not-refused (Refused x) rows h n e = ⊎-elim (λ k. omega arith) (λ k. ⊎-elim (λ i. omega arith) (λ i. omega arith) k) h
+
+run-gauges-requires : tie.Need-run-gauges-requires
+run-gauges-requires c κs = search needs
+
+enum-known-outcome : tie.Need-enum-known-outcome
+enum-known-outcome c = search needs
+
+returns : tie.Need-returns
+returns c =
+    let g = c .before .before .before in
+    checked-refused (gaugeValue (g .before .args .run)) (gaugeStep (g .run-gauges .result)) (g .run-gauges .ensures .0) _
+    (ap (λ (o : Outcome). outcome o (chainRows (g .run-gauges .result .chain))) (c .before .outcome .given .1))
+
+returns-2 : tie.Need-returns-2
+returns-2 c =
+    let g = c .before in
+    checked-passed (gaugeValue (g .before .args .run)) (gaugeStep (g .run-gauges .result)) (g .run-gauges .ensures .0)
+    (not-refused (g .run-gauges .result .outcome) (chainRows (g .run-gauges .result .chain)) (c .match .keys2))
+
+pub check-run-spec : {M : Type 1} → statement M
+check-run-spec = tie.close (tie.spec run-gauges-requires enum-known-outcome returns returns-2)

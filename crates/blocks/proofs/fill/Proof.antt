@@ -1,0 +1,84 @@
+-- `blocks::fill` meets its contract: each return is what `Filled` says (Fillings.antt), and what `Filled` says carries the list on (Listing.antt).
+use mathlib.Core.Path.{_≡_, refl, ap, _∙_, subst}
+use mathlib.Core.List.{List}
+use Prim.Native.Nat.{ℕ}
+use native.Mathlib.Omega.{arith}
+use lib.ListN.{length}
+use borrow.Author.Needs.{needs}
+use Rattle.table.specs.Answers.{verdict}
+use Rattle.table.proofs.Answering.{number-pos}
+use Rattle.runs.specs.Paused.{Value, gaugeValue}
+use Rattle.blocks.specs.Filling.{Filling, filling, Filled, Item, CarriesList}
+use Rattle.blocks.specs.Turning.{Checked}
+use Rattle.blocks.proofs.Fillings.{filled-refused, filled-short, filled-on}
+use Rattle.blocks.proofs.Listing.{carries-list}
+use Rattle.blocks.proofs.fill.Statement.{statement}
+use Rattle.blocks.proofs.fill.Tie as tie
+
+rows-length : (c : tie.Start) → length (c .args .run .table .rows) ≡ 64
+rows-length c = search needs
+
+-- both promises from the first
+carried : (c : tie.Start) (f : Filling) (now : List ℕ) → Filled (gaugeValue (c .args .run)) (c .args .out .now) f now
+    → Filled (gaugeValue (c .args .run)) (c .args .out .now) f now × CarriesList (gaugeValue (c .args .run)) (record { before = c .args .out .now; answer = f; now = now })
+carried c f now h = (h, carries-list (gaugeValue (c .args .run)) (rows-length c) (record { before = c .args .out .now; answer = f; now = now }) h)
+
+-- the value passed its check
+passed : (c : tie.After-enum-told) → Checked (gaugeValue (c .before .before .before .before .args .run)) 0
+passed c = subst (Checked (gaugeValue (c .before .before .before .before .args .run))) (ap verdict (c .enum-told .given .1)) (c .before .before .check-run .ensures)
+
+check-run-requires : tie.Need-check-run-requires
+check-run-requires c κs = search needs
+
+enum-known-checked : tie.Need-enum-known-checked
+enum-known-checked c = search needs
+
+refuse-requires : tie.Need-refuse-requires
+refuse-requires c κs = search needs
+
+returns : tie.Need-returns
+returns c =
+    let k = c .before .before in
+    let g = k .before .before in
+    let s = g .before .before in
+    carried s _ _ (filled-refused (gaugeValue (s .args .run)) (s .args .out .now) _ _ (subst (Checked (gaugeValue (s .args .run))) (ap verdict (k .checked .given .1)) (g .check-run .ensures)) (number-pos (k .checked .given .0 .0)) (c .refuse .ensures))
+
+enum-told : tie.Need-enum-told
+enum-told c = search needs
+
+refuse-requires-2 : tie.Need-refuse-requires-2
+refuse-requires-2 c κs = search needs
+
+returns-2 : tie.Need-returns-2
+returns-2 c =
+    let k = c .before .before in
+    let s = k .before .before .before .before in
+    carried s _ _ (filled-short (gaugeValue (s .args .run)) (s .args .out .now) _ (passed k) (c .before .if1 .taken) (c .refuse2 .ensures))
+
+fill-on-requires : tie.Need-fill-on-requires
+fill-on-requires c κs = search needs
+
+same-length : tie.Need-same-length
+same-length c = search needs
+
+returns-3 : tie.Need-returns-3
+returns-3 c =
+    let f = c .before .before in
+    let k = f .before .before .before in
+    let s = k .before .before .before .before in
+    carried s _ _ (filled-on (gaugeValue (s .args .run)) (s .args .out .now) _ _ (passed k) (f .before .before .if1 .left) (f .fill-on .ensures .0) (f .fill-on .ensures .1))
+
+pub fill-spec : {M : Type 1} → statement M
+fill-spec =
+    tie.close
+    (tie.spec
+    check-run-requires
+    enum-known-checked
+    refuse-requires
+    returns
+    enum-told
+    refuse-requires-2
+    returns-2
+    fill-on-requires
+    same-length
+    returns-3)

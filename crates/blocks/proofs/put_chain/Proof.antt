@@ -1,0 +1,79 @@
+-- `blocks::put_chain` meets its contract: what the writer says of the part of the buffer that it is lent, said of the whole buffer.
+use mathlib.Core.Path.{_≡_, sym, ap, _∙_}
+use Prim.Native.Nat.{_+_, _≤_}
+use native.Mathlib.Omega.{arith}
+use lib.ListN.{length}
+use borrow.Author.Needs.{needs}
+use Rattle.table.specs.declared.Table.{Table}
+use Rattle.writer.specs.Writing.{written}
+use Rattle.blocks.proofs.Turns.{put-fits, put-length, put-refused}
+use Rattle.blocks.proofs.put_chain.Statement.{statement}
+use Rattle.blocks.proofs.put_chain.Tie as tie
+
+-- the table of the pairs
+table : (c : tie.Start) → Table
+table c = record { gauges = c .args .chain .gauges; cases = c .args .cases; rows = c .args .chain .rows }
+
+sub-write : tie.Need-sub-write
+sub-write c = search needs
+
+part-write-start : tie.Need-part-write-start
+part-write-start c = search needs
+
+part-write-end : tie.Need-part-write-end
+part-write-end c = search needs
+
+write-requires : tie.Need-write-requires
+write-requires c κs = search needs
+
+enum-known-written : tie.Need-enum-known-written
+enum-known-written c = search needs
+
+fits : (c : tie.After-known-told) → c .before .before .before .before .before .before .before .before .before .args .at + c .before .written .given .0 .0 ≤ length (c .before .before .before .before .before .before .before .before .before .args .out .now)
+unfolding table
+fits c =
+    let w = c .before .before .before .before .before in
+    let s = w .before .before .before .before in
+    put-fits (table s) (s .args .out .now) (s .args .at) (s .pre) (c .before .written .given .0 .0) (sym (ap written (c .before .written .given .1)) ∙ w .write .ensures .0)
+
+add-result : tie.Need-add-result
+add-result c = omega (arith, fits c)
+
+enum-told : tie.Need-enum-told
+enum-told c = search needs
+
+same-length : tie.Need-same-length
+same-length c = search needs
+
+returns : tie.Need-returns
+unfolding table
+returns c =
+    let w = c .before .before .before .before .before in
+    let s = w .before .before .before .before in
+    put-length (table s) (s .args .out .now) (s .args .at) (s .pre) (c .before .written .given .0 .0) _ (sym (ap written (c .before .written .given .1)) ∙ w .write .ensures .0) (w .write .ensures .1)
+
+same-length-2 : tie.Need-same-length-2
+same-length-2 c = search needs
+
+returns-2 : tie.Need-returns-2
+unfolding table
+returns-2 c =
+    let w = c .before .before .before .before in
+    let s = w .before .before .before .before in
+    put-refused (table s) (s .args .out .now) (s .args .at) (s .pre) (c .enum-told .given .0 .0) _ (sym (ap written (c .enum-told .given .1)) ∙ w .write .ensures .0)
+
+pub put-chain-spec : {M : Type 1} → statement M
+put-chain-spec =
+    tie.close
+    (tie.spec
+    sub-write
+    part-write-start
+    part-write-end
+    write-requires
+    enum-known-written
+    add-result
+    enum-told
+    same-length
+    returns
+    same-length-2
+    returns-2)

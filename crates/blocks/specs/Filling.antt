@@ -1,0 +1,129 @@
+-- A lent buffer filled with the files of successive hand-outs of the gauge run, and the blocks so made, one after another. A ladder's file is
+-- that of the table of its pairs, with the table's G and L. `Filled` says what one block is, for every value and every buffer; `Listed`
+-- says of blocks from a fresh start on that together they are the files of the gauge list, each member's in turn.
+use mathlib.Core.Path.{_≡_}
+use mathlib.Core.Bool.{Bool, true, false, _||_}
+use mathlib.Core.List.{List, [], _∷_, _++_}
+use Prim.Native.Nat.{ℕ, _+_, _≤_, _<_, min}
+use lib.ListN.{length, take, drop}
+use Rattle.table.specs.declared.Table.{Table}
+use Rattle.table.specs.Tables.{tableRefusal, padded}
+use Rattle.table.specs.Answers.{verdict}
+use Rattle.walk.specs.Sequences.{factorial}
+use Rattle.walk.specs.Machine.{State, fresh}
+use Rattle.walk.specs.Calls.{Answer, refused, spent, handed, end, Call, callsFrom, stateAfter, handouts}
+use Rattle.listing.specs.Lists.{gaugeSide, GaugeList}
+use Rattle.listing.specs.Picks.{candidates}
+use Rattle.listing.specs.Rules.{handOut}
+use Rattle.runs.specs.Paused.{Value, paused, blankValue, gaugeValue}
+use Rattle.runs.specs.Calling.{PausedAt}
+use Rattle.writer.specs.Writing.{writeFile}
+use Rattle.blocks.specs.declared.Block.{Block}
+
+-- ---- files
+-- the table of the pairs of x, with the G and L of t
+abbrev pub pairTable : Table → List ℕ → Table
+pairTable t x = record { gauges = t .gauges; cases = t .cases; rows = padded x }
+
+-- the files of sets of pairs of t, one after another
+abbrev pub files : Table → List (List ℕ) → List ℕ
+files t [] = []
+files t (x ∷ xs) = writeFile (pairTable t x) ++ files t xs
+
+-- the longest file of a table: `write-length` and `full-length` in crate `writer`
+abbrev pub longest : ℕ
+longest = 23484
+
+-- ---- a block
+-- 01's number, 0 where nothing is refused; the value after the calls made; how many bytes were filled; and whether a call answered end
+pub record Filling : Type 0 where
+  pub refusal : ℕ
+  pub value : Value
+  pub used : ℕ
+  pub over : Bool
+
+-- how the code's answer reads
+abbrev pub filling : Block → Filling
+filling b = record { refusal = verdict (b .verdict); value = gaugeValue (b .run); used = b .used; over = b .over }
+
+-- the calls of the gauge run on t that have the budgets bs, from the state s on, and the state after them
+abbrev pub made : Table → List ℕ → State → List Call
+made t bs s = callsFrom (candidates (gaugeSide t .rows)) (handOut (gaugeSide t)) bs s
+
+abbrev pub after : Table → List ℕ → State → State
+after t bs s = stateAfter (candidates (gaugeSide t .rows)) (handOut (gaugeSide t)) bs s
+
+abbrev pub isEnd : Answer → Bool
+isEnd (refused n) = false
+isEnd spent = false
+isEnd (handed x) = false
+isEnd end = true
+
+abbrev pub hasEnd : List Call → Bool
+hasEnd [] = false
+hasEnd (c ∷ cs) = isEnd (c .answer) || hasEnd cs
+
+-- "A refusal yields its number and nothing else": the buffer is as it was
+pub record Untouched (n : ℕ) (before : List ℕ) (f : Filling) (now : List ℕ) : Type 0 where
+  pub says : f ≡ record { refusal = n; value = blankValue; used = 0; over = false }
+  pub buffer : now ≡ before
+
+-- calls of the gauge run on t from the state s on: the buffer's front is the files of what they handed out, in turn, and behind it is what was
+-- there; the value is that after them; over says whether one of them answered end
+pub record Fills (t : Table) (s : State) (before : List ℕ) (f : Filling) (now : List ℕ) : Type 0 where
+  pub accepted : f .refusal ≡ 0
+  pub budgets : List ℕ
+  pub used : f .used ≡ length (files t (handouts (made t budgets s)))
+  pub bytes : now ≡ files t (handouts (made t budgets s)) ++ drop (f .used) before
+  pub value : f .value ≡ paused t (after t budgets s)
+  pub over : f .over ≡ hasEnd (made t budgets s)
+
+-- f is the answer for the value v and the buffer before, and now is the buffer after: 10, 11 and 15 as a run call has them, then 16 for a
+-- buffer shorter than the longest file
+pub record Filled (v : Value) (before : List ℕ) (f : Filling) (now : List ℕ) : Type 0 where
+  pub table : 0 < tableRefusal (v .table) → Untouched (tableRefusal (v .table)) before f now
+  pub value : tableRefusal (v .table) ≡ 0 → ((s : State) → PausedAt gaugeSide v s → ⊥) → Untouched 15 before f now
+  pub short : tableRefusal (v .table) ≡ 0 → (s : State) → PausedAt gaugeSide v s → length before < longest → Untouched 16 before f now
+  pub fills : tableRefusal (v .table) ≡ 0 → (s : State) → PausedAt gaugeSide v s → longest ≤ length before → Fills (v .table) s before f now
+  -- a block that is not over has no room for another file that is the longest
+  pub full : tableRefusal (v .table) ≡ 0 → (s : State) → PausedAt gaugeSide v s → longest ≤ length before → f .over ≡ false → length before < f .used + longest
+
+-- ---- blocks one after another
+-- one call of fill: the buffers, any, before and after it, and its answer
+pub record Item : Type 0 where
+  pub before : List ℕ
+  pub answer : Filling
+  pub now : List ℕ
+
+-- each block is filled from the value that the one before it gave, and none is refused
+abbrev pub Blocks : Value → List Item → Type 0
+Blocks v [] = Unit {0}
+Blocks v (i ∷ is) = Filled v (i .before) (i .answer) (i .now) × (i .answer .refusal ≡ 0) × Blocks (i .answer .value) is
+
+-- the value that they leave
+abbrev pub leaves : Value → List Item → Value
+leaves v [] = v
+leaves v (i ∷ is) = leaves (i .answer .value) is
+
+-- the used fronts, one after another
+abbrev pub output : List Item → List ℕ
+output [] = []
+output (i ∷ is) = take (i .answer .used) (i .now) ++ output is
+
+-- one of them is over
+abbrev pub isOver : List Item → Bool
+isOver [] = false
+isOver (i ∷ is) = i .answer .over || isOver is
+
+-- what blocks from a fresh start on t put out: the files of a front of the gauge list, and of all of it once a block is over, which one of any
+-- (min G L)! + 1 blocks is
+pub record Listed (t : Table) (is : List Item) : Type 0 where
+  pub front : (xs : List (List ℕ)) → GaugeList t xs → (rest : List (List ℕ)) × (output is ++ files t rest ≡ files t xs)
+  pub complete : (xs : List (List ℕ)) → GaugeList t xs → isOver is ≡ true → output is ≡ files t xs
+  pub ends : factorial (min (t .gauges) (t .cases)) < length is → isOver is ≡ true
+
+-- every list of blocks from a fresh start that leaves v, with this block added
+abbrev pub CarriesList : Value → Item → Type 0
+CarriesList v i =
+    tableRefusal (v .table) ≡ 0 → i .answer .refusal ≡ 0 → (is : List Item) → Blocks (paused (v .table) fresh) is → leaves (paused (v .table) fresh) is ≡ v
+    → Listed (v .table) (is ++ (i ∷ []))
