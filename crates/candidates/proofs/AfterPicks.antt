@@ -17,13 +17,16 @@ use Rattle.sets.specs.Lists.{allBelow}
 use Rattle.sets.proofs.Tests.{and-l, and-r, and-i}
 use Rattle.sets.proofs.Order.{meet-comm, is-subset, subset-is, sub-refl, sub-zero, zero-sub}
 use Rattle.table.specs.Pairs.{row}
+use Rattle.table.proofs.Places.{row-past}
 use Rattle.walk.specs.Machine.{above}
 use Rattle.listing.specs.PickSequence.{isIn}
 use Rattle.listing.specs.Picks.{common, remainder, rulesOut, candidate, candidates}
 use Rattle.listing.proofs.Unpicked.{isIn-snoc}
 use Rattle.listing.proofs.Remainders.{remainder-left, remainder-past, common-snoc}
+use Rattle.listing.proofs.Candidates.{cand-of}
 use Rattle.listing.proofs.Selecting.{nil-select, head-select, above-select}
 use Rattle.candidates.specs.Finding.{remainderIn, blocks, candidateIn, First}
+use Rattle.candidates.proofs.Turns.{candidate-more}
 
 -- all 64 cases, which hold every row
 abbrev pub full : ℕ
@@ -159,47 +162,63 @@ module _ (r p unpicked : List ℕ) (left : ℕ) (ok : Rows r) (o : After r p unp
           empty (remains-unpicked g e ∙ remainder-past r p g (omega arith))
           ∙ sym (ap (λ (b : Bool). b && (not (isIn g p) && (not (eqb (remainder r p g) 0) && allBelow (λ h. not (rulesOut r p g h)) n))) (le-ltb g n (omega arith)))
 
+  -- the same where all 64 places are looked at: nothing stands past the table's
+  pub candidate-wide : (g : ℕ) → candidateIn unpicked left 64 g ≡ candidate r p g
+  candidate-wide g = candidate-more unpicked left (length r) g (ok .few) past ∙ candidate-in g
+    where
+      none : (i : ℕ) (b : Bool) → length r ≤ i → cond b 0 (row r i) ≡ 0
+      none i true l = refl
+      none i false l = row-past r i l
+
+      past : (i : ℕ) → length r ≤ i → row unpicked i ≡ 0
+      past i l = o .entry i ∙ none i (isIn i p) l
+
   -- ---- the search
-  module _ (from g : ℕ) (s : First (candidateIn unpicked left (length r)) from (min (length r) 64) g) where
+  module _ (from g : ℕ) (s : First (candidateIn unpicked left 64) from 64 g) where
     low : (i : ℕ) → from ≤ i → i < g → T (candidate r p i) → ⊥
-    low i a b t = subst T (sym (candidate-in i) ∙ s .least i a b) t
+    low i a b t = subst T (sym (candidate-wide i) ∙ s .least i a b) t
 
-    at : g < length r → T (candidate r p g)
-    at h = subst T (candidate-in g) (rw (s .found (omega (arith, min-eq-left (ok .few))) .1) tt)
+    pub found-candidate : g < 64 → T (candidate r p g)
+    found-candidate h = subst T (candidate-wide g) (rw (s .found h .1) tt)
 
-    from-low : g < length r → from ≤ g
-    from-low h = s .found (omega (arith, min-eq-left (ok .few))) .0
+    pub found-below : g < 64 → g < length r
+    found-below h = cand-of r p g (found-candidate h) .below
 
-    pub search-end : (g < length r → ⊥) → g ≡ length r
-    search-end h = s .none (omega (arith, min-eq-left (ok .few))) ∙ min-eq-left (ok .few)
+    from-low : g < 64 → from ≤ g
+    from-low h = s .found h .0
 
-    pub found-candidate : g < length r → T (candidate r p g)
-    found-candidate h = at h
+    -- none is found: 64 places were looked at
+    end-low : (g < 64 → ⊥) → (i : ℕ) → i < length r → i < g
+    end-low h i l = go (decLt g 64)
+      where
+        go : Dec (g < 64) → i < g
+        go (yes y) = absurd (h y)
+        go (no y) = omega (arith, ok .few)
 
     -- from the first place on: the lowest candidate, or none
-    pub lowest-found : from ≡ 0 → g < length r → head? (candidates r p) ≡ some g
+    pub lowest-found : from ≡ 0 → g < 64 → head? (candidates r p) ≡ some g
     unfolding candidates
-    lowest-found z h = head-select (candidate r p) (length r) g h (at h) (λ i b. low i (omega arith) b)
+    lowest-found z h = head-select (candidate r p) (length r) g (found-below h) (found-candidate h) (λ i b. low i (omega arith) b)
 
-    pub lowest-none : from ≡ 0 → (g < length r → ⊥) → candidates r p ≡ []
+    pub lowest-none : from ≡ 0 → (g < 64 → ⊥) → candidates r p ≡ []
     unfolding candidates
-    lowest-none z h = nil-select (candidate r p) (length r) (λ i b. low i (omega arith) (omega (arith, search-end h)))
+    lowest-none z h = nil-select (candidate r p) (length r) (λ i b. low i (omega arith) (end-low h i b))
 
     -- from behind the place b on: the lowest candidate above b, or none
     above-low : (b : ℕ) → from ≡ suc b → (i : ℕ) → i < g → T (ltb b i && candidate r p i) → ⊥
     above-low b z i l t = low i (omega (arith, ltb→lt b i (and-l (ltb b i) (candidate r p i) t))) l (and-r (ltb b i) (candidate r p i) t)
 
-    pub above-found : (b : ℕ) → from ≡ suc b → g < length r → head? (above b (candidates r p)) ≡ some g
+    pub above-found : (b : ℕ) → from ≡ suc b → g < 64 → head? (above b (candidates r p)) ≡ some g
     unfolding candidates
     above-found b z h =
         ap head? (above-select b (candidate r p) (length r))
-        ∙ head-select (λ i. ltb b i && candidate r p i) (length r) g h (and-i (ltb b g) (candidate r p g) (lt→ltb b g (omega (arith, from-low h))) (at h)) (λ i l. above-low b z i l)
+        ∙ head-select (λ i. ltb b i && candidate r p i) (length r) g (found-below h) (and-i (ltb b g) (candidate r p g) (lt→ltb b g (omega (arith, from-low h))) (found-candidate h)) (λ i l. above-low b z i l)
 
-    pub above-none : (b : ℕ) → from ≡ suc b → (g < length r → ⊥) → above b (candidates r p) ≡ []
+    pub above-none : (b : ℕ) → from ≡ suc b → (g < 64 → ⊥) → above b (candidates r p) ≡ []
     unfolding candidates
     above-none b z h =
         above-select b (candidate r p) (length r)
-        ∙ nil-select (λ i. ltb b i && candidate r p i) (length r) (λ i l. above-low b z i (omega (arith, search-end h)))
+        ∙ nil-select (λ i. ltb b i && candidate r p i) (length r) (λ i l. above-low b z i (end-low h i l))
 
 -- ---- one pick more, and one fewer
 module _ (r p unpicked : List ℕ) (left g : ℕ) (new : isIn g p ≡ false) (l : g < length unpicked) where

@@ -10,7 +10,7 @@ use Rattle.table.proofs.Places.{row-past}
 use Rattle.table.proofs.Padding.{pad-ext, pad-set}
 use Rattle.listing.specs.Picks.{remainder}
 use Rattle.listing.specs.Rules.{chainOf}
-use Rattle.listing.proofs.Unpicked.{un-nil}
+use Rattle.listing.proofs.Unpicked.{Un, un-nil}
 use Rattle.listing.proofs.Candidates.{Cand}
 use Rattle.listing.proofs.ChainRows.{chainOf-snoc, length-chainOf, row-unpicked}
 
@@ -21,7 +21,10 @@ chain-none r h = pad-ext noRows (chainOf r []) refl (omega (arith, length-chainO
     zeros i (yes l) = getD-replicate 64 i 0 0 l
     zeros i (no l) = row-past noRows i (omega arith)
 
+pub chain-place : (r p c : List ℕ) (g x : ℕ) → Un p g → g < length r → c ≡ padded (chainOf r p) → x ≡ remainder r p g → set c g x ≡ padded (chainOf r (p ++ (g ∷ [])))
+chain-place r p c g x fresh below e d =
+    ap₂ (λ (l : List ℕ) (y : ℕ). set l g y) e d ∙ pad-set (chainOf r p) g (remainder r p g) (omega (arith, length-chainOf r p))
+    ∙ ap padded (sym (chainOf-snoc r p g fresh below))
+
 pub chain-pick : (r p c : List ℕ) (g x : ℕ) → Cand r p g → c ≡ padded (chainOf r p) → x ≡ remainder r p g → set c g x ≡ padded (chainOf r (p ++ (g ∷ [])))
-chain-pick r p c g x cand e d =
-    ap₂ (λ (l : List ℕ) (y : ℕ). set l g y) e d ∙ pad-set (chainOf r p) g (remainder r p g) (omega (arith, length-chainOf r p, cand .below))
-    ∙ ap padded (sym (chainOf-snoc r p g (cand .fresh) (cand .below)))
+chain-pick r p c g x cand = chain-place r p c g x (cand .fresh) (cand .below)

@@ -3,14 +3,16 @@ use mathlib.Core.Path.{_≡_, refl, sym, ap, _∙_}
 use mathlib.Core.Bool.{Bool, true, false, not}
 use mathlib.Core.List.{List}
 use Prim.Native.Nat.{ℕ, _+_, _≤_, _<_, min}
+use native.Mathlib.Nat.{min-eq-left}
 use native.Mathlib.Decide.{ℕ-discrete, decLt}
 use native.Mathlib.Omega.{arith}
 use lib.Bits.{bitAnd}
-use lib.Dec.{ltb}
+use lib.Dec.{T, ltb}
 use borrow.Author.Tests.{lt-ltb, le-ltb, eq-eqb, ne-eqb}
 use Rattle.sets.specs.Sets.{meet, isSubset}
 use Rattle.sets.specs.Lists.{allBelow}
-use Rattle.sets.proofs.Tabulated.{all-fails, all-done}
+use Rattle.sets.proofs.Tabulated.{all-at, all-of, all-fails, all-done}
+use Rattle.sets.proofs.Order.{sub-zero, subset-is, zero-sub}
 use Rattle.table.specs.Pairs.{row}
 use Rattle.candidates.specs.Finding.{remainderIn, blocks, candidateIn, First}
 
@@ -26,6 +28,14 @@ blocks-more x y l t e d n = rw (← e, d, ne-eqb x y n)
 pub blocks-same : (x y : ℕ) (l t : Bool) → t ≡ isSubset x y → t ≡ true → x ≡ y → l ≡ blocks x y l
 unfolding blocks
 blocks-same x y l t e d s = rw (← e, d, eq-eqb x y s)
+
+pub zero-blocks : (x : ℕ) (b : Bool) → ¬ (x ≡ 0) → blocks x 0 b ≡ false
+unfolding blocks
+zero-blocks x b ne = rw (none (isSubset x 0) refl)
+  where
+    none : (y : Bool) → isSubset x 0 ≡ y → isSubset x 0 ≡ false
+    none true e = absurd (ne (sub-zero x (subset-is x 0 e)))
+    none false e = e
 
 -- ---- a candidate
 pub past-places : (unpicked : List ℕ) (left n g most : ℕ) → most ≡ min n 64 → most ≤ g → false ≡ candidateIn unpicked left n g
@@ -96,3 +106,41 @@ candidate-low unpicked left n g e = go (decLt g (min n 64))
     go : Dec (g < min n 64) → g < n
     go (yes l) = omega arith
     go (no l) = let d : false ≡ true = past-places unpicked left n g (min n 64) refl (omega arith) ∙ e in let z : _≡_ {A = ℕ} 0 1 = cc in absurd (omega arith)
+
+-- places past the first n at which nothing stands change nothing
+pub candidate-more : (unpicked : List ℕ) (left n g : ℕ) → n ≤ 64 → ((i : ℕ) → n ≤ i → row unpicked i ≡ 0) → candidateIn unpicked left 64 g ≡ candidateIn unpicked left n g
+unfolding meet
+candidate-more u left n g few past = go (decLt g n) (ℕ-discrete (bitAnd (row u g) left) 0)
+  where
+    few-is : n ≡ min n 64
+    few-is = sym (min-eq-left few)
+
+    none : n ≤ g → bitAnd (row u g) left ≡ 0
+    none l = ap (λ (x : ℕ). meet x left) (past g l) ∙ zero-sub left
+
+    zeros : bitAnd (row u g) left ≡ 0 → Dec (g < 64) → false ≡ candidateIn u left 64 g
+    zeros z (yes l) = empty-remainder u left 64 g 64 refl l z
+    zeros z (no l) = past-places u left 64 g 64 refl (omega arith)
+
+    go : Dec (g < n) → Dec (bitAnd (row u g) left ≡ 0) → candidateIn u left 64 g ≡ candidateIn u left n g
+    go (no l) d = sym (zeros (none (omega arith)) (decLt g 64)) ∙ past-places u left n g n few-is (omega arith)
+    go (yes l) (yes z) = sym (zeros z (decLt g 64)) ∙ empty-remainder u left n g n few-is l z
+    go (yes l) (no z) =
+        candidate-by u left 64 g 64 refl (omega arith) z
+        ∙ same (allBelow (passes u left g) 64) (allBelow (passes u left g) n)
+        (λ t. all-of (passes u left g) n (λ i h. all-at (passes u left g) 64 i t (omega arith)))
+        (λ t. all-of (passes u left g) 64 (λ i h. pass i t (decLt i n)))
+        ∙ ap (allBelow (passes u left g)) few-is ∙ sym (candidate-by u left n g n few-is l z)
+      where
+        same : (x y : Bool) → (T x → T y) → (T y → T x) → x ≡ y
+        same true true a b = refl
+        same true false a b = absurd (a tt)
+        same false true a b = absurd (b tt)
+        same false false a b = refl
+
+        pass : (i : ℕ) → T (allBelow (passes u left g) n) → Dec (i < n) → T (passes u left g i)
+        pass i t (yes h) = all-at (passes u left g) n i t h
+        pass i t (no h) = rw (passes-zero) tt
+          where
+            passes-zero : passes u left g i ≡ true
+            passes-zero = ap not (ap (λ (x : ℕ). blocks (bitAnd (row u g) left) x (ltb i g)) (ap (λ (x : ℕ). meet x left) (past i (omega arith)) ∙ zero-sub left) ∙ zero-blocks (bitAnd (row u g) left) (ltb i g) z)

@@ -2,12 +2,12 @@
 -- unpicked gauge's remainder strictly contains it, and no lower-numbered unpicked gauge has an equal one"). `unpicked` has the row of each
 -- unpicked gauge, nothing for a picked one, and `left` is the set of left cases. Places count from 0: place i is gauge i + 1.
 use mathlib.Core.Path.{_≡_}
-use mathlib.Core.Bool.{Bool, true, false, not, _&&_, _||_}
+use mathlib.Core.Bool.{Bool, true, false, not, _&&_, _||_, cond}
 use mathlib.Core.List.{List}
 use Prim.Native.Nat.{ℕ, _≤_, _<_, min}
 use lib.Dec.{eqb, ltb}
-use Rattle.sets.specs.Sets.{meet, isSubset}
-use Rattle.sets.specs.Lists.{allBelow}
+use Rattle.sets.specs.Sets.{bit, meet, isSubset}
+use Rattle.sets.specs.Lists.{tabulate, allBelow}
 use Rattle.table.specs.Pairs.{row}
 
 -- a gauge's row restricted to the left cases
@@ -30,3 +30,7 @@ pub record First (f : ℕ → Bool) (from n r : ℕ) : Type 0 where
   pub least : (i : ℕ) → from ≤ i → i < r → f i ≡ false
   pub found : r < n → (from ≤ r) × (f r ≡ true)
   pub none : n ≤ r → r ≡ n
+
+-- the rows at the places of a set, and nothing elsewhere: the rows of the unpicked gauges, where the set has their places
+unfoldable pub within : ℕ → List ℕ → List ℕ
+within set rows = tabulate (λ i. cond (bit set i) (row rows i) 0) 64

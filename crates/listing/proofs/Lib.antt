@@ -12,3 +12,4 @@ pub mod Listed
 pub mod Demand
 pub mod BothSides
 pub mod Growing
+pub mod Replaying

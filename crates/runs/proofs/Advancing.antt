@@ -58,25 +58,25 @@ module _ (r : List ℕ) where
       a .onward out ∙ ap (λ (n : ℕ). result (carry kids out n y .answer) (m + carry kids out n y .moves) (carry kids out n y .next)) d ∙ ap (λ (n : ℕ). result spent n y) k
 
 -- ---- as the loop has it: the state of the spot, and the move that it made
-module _ (n : ℕ) (rows u c k : List ℕ) (b m : ℕ) (x y : State) (a : Ahead (take n rows) b m x y) (l : m < b) where
-  pub turn-on : (s : Spot) (o : Moved) → o ≡ On s → Stepped n rows u c k (move (candidates (take n rows)) y) o → Holds n rows u c k s × Ahead (take n rows) b (m + 1) x (stateOf k s)
+module _ (n : ℕ) (rows c k : List ℕ) (b m : ℕ) (x y : State) (a : Ahead (take n rows) b m x y) (l : m < b) where
+  pub turn-on : (s : Spot) (o : Moved) → o ≡ On s → Stepped n rows c k (move (candidates (take n rows)) y) o → Holds n rows c k s × Ahead (take n rows) b (m + 1) x (stateOf k s)
   turn-on s o e h =
-      let w : SteppedBy n rows u c k (move (candidates (take n rows)) y) (On s) = subst (SteppedBy n rows u c k (move (candidates (take n rows)) y)) e (h .says) in
+      let w : SteppedBy n rows c k (move (candidates (take n rows)) y) (On s) = subst (SteppedBy n rows c k (move (candidates (take n rows)) y)) e (h .says) in
       (w .1, ahead-more (take n rows) (stateOf k s) a l (w .0))
 
-  pub turn-out : (s : Spot) (o : Moved) → o ≡ Out s → Stepped n rows u c k (move (candidates (take n rows)) y) o → Advanced n rows u c k b x (reportOf HandedOut (m + 1) s)
+  pub turn-out : (s : Spot) (o : Moved) → o ≡ Out s → Stepped n rows c k (move (candidates (take n rows)) y) o → Advanced n rows c k b x (reportOf HandedOut (m + 1) s)
   turn-out s o e h =
-      let w : SteppedBy n rows u c k (move (candidates (take n rows)) y) (Out s) = subst (SteppedBy n rows u c k (move (candidates (take n rows)) y)) e (h .says) in
+      let w : SteppedBy n rows c k (move (candidates (take n rows)) y) (Out s) = subst (SteppedBy n rows c k (move (candidates (take n rows)) y)) e (h .says) in
       record { comes = ahead-out (take n rows) (stateOf k s) a l (w .0); holds = w .1 }
 
-  pub turn-over : (s : Spot) (o : Moved) → o ≡ Over s → Stepped n rows u c k (move (candidates (take n rows)) y) o → Advanced n rows u c k b x (reportOf End (m + 1) s)
+  pub turn-over : (s : Spot) (o : Moved) → o ≡ Over s → Stepped n rows c k (move (candidates (take n rows)) y) o → Advanced n rows c k b x (reportOf End (m + 1) s)
   turn-over s o e h =
-      let w : SteppedBy n rows u c k (move (candidates (take n rows)) y) (Over s) = subst (SteppedBy n rows u c k (move (candidates (take n rows)) y)) e (h .says) in
+      let w : SteppedBy n rows c k (move (candidates (take n rows)) y) (Over s) = subst (SteppedBy n rows c k (move (candidates (take n rows)) y)) e (h .says) in
       record { comes = ahead-over (take n rows) (stateOf k s) a l (w .0); holds = w .1 }
 
-pub turn-spent : (n : ℕ) (rows u c k : List ℕ) (b m : ℕ) (x : State) (s : Spot) → Holds n rows u c k s → Ahead (take n rows) b m x (stateOf k s) → b ≤ m
-    → Advanced n rows u c k b x (reportOf Spent m s)
-turn-spent n rows u c k b m x s h a l = record { comes = ahead-spent (take n rows) a l; holds = h }
+pub turn-spent : (n : ℕ) (rows c k : List ℕ) (b m : ℕ) (x : State) (s : Spot) → Holds n rows c k s → Ahead (take n rows) b m x (stateOf k s) → b ≤ m
+    → Advanced n rows c k b x (reportOf Spent m s)
+turn-spent n rows c k b m x s h a l = record { comes = ahead-spent (take n rows) a l; holds = h }
 
-pub advanced-as : (n : ℕ) (rows u c k : List ℕ) (b : ℕ) (x : State) (r o : Report) → r ≡ o → Advanced n rows u c k b x o → Advanced n rows u c k b x r
-advanced-as n rows u c k b x r o e h = subst (Advanced n rows u c k b x) (sym e) h
+pub advanced-as : (n : ℕ) (rows c k : List ℕ) (b : ℕ) (x : State) (r o : Report) → r ≡ o → Advanced n rows c k b x o → Advanced n rows c k b x r
+advanced-as n rows c k b x r o e h = subst (Advanced n rows c k b x) (sym e) h

@@ -22,7 +22,8 @@ use Rattle.runs.specs.Paused.{Value, numbered, paused, blankValue}
 use Rattle.runs.specs.Calling.{Step, refusal, byRules, told, PausedAt, Called}
 use Rattle.runs.specs.Working.{ComesOut, doneAnswer, StandsFor}
 use Rattle.runs.specs.declared.engine.Done.{Done}
-use Rattle.runs.proofs.Padding.{length-numbers, places-numbers, take-padded}
+use Rattle.replay.proofs.Numbers.{length-numbers, places-numbers}
+use Rattle.runs.proofs.Padding.{take-padded}
 use Rattle.runs.proofs.Holding.{placed-numbered}
 use Rattle.runs.specs.Working.{placed}
 

@@ -8,13 +8,16 @@ use Rattle.walk.specs.Machine.{Phase, State, at}
 use Rattle.walk.specs.Calls.{mostBudget}
 use Rattle.walk.specs.Fitting.{Valid}
 use Rattle.listing.specs.Picks.{candidates}
-use Rattle.runs.specs.Working.{Sized, modePhase, placed, stateOf, HoldsAt, Holds, ComesOut, Advanced, Decides, RestZero, Front, Replays, PhaseIn, StandsFor, CarriedBy, CarriesOn, carriedOf}
+use Rattle.runs.specs.Working.{Sized, modePhase, placed, stateOf, HoldsAt, Holds, ComesOut, Advanced, Decides, RestZero, PhaseIn, StandsFor, CarriedBy, CarriesOn, carriedOf}
 use Rattle.runs.specs.declared.engine.Mode.{Mode}
 use Rattle.runs.specs.declared.engine.Spot.{Spot}
 use Rattle.runs.specs.declared.engine.Fate.{Fate}
 use Rattle.runs.specs.declared.engine.Fate.the-variants.{NotReached, TooLarge, Moves}
 use Rattle.runs.specs.declared.engine.Report.{Report}
-use Rattle.runs.specs.declared.engine.Replayed.{Replayed}
+use Rattle.candidates.specs.Finding.{within}
+use Rattle.replay.specs.Picked.{Arrays, Front, Replays}
+use Rattle.replay.specs.declared.Replayed.{Replayed}
+use Rattle.table.specs.Tables.{noRows}
 use Rattle.runs.specs.declared.engine.Carried.{Carried}
 use Rattle.runs.proofs.Holding.{state-is, holds-own}
 use Rattle.runs.proofs.Checking.{no-count, no-rest, no-replay, no-phase, legal-of}
@@ -25,6 +28,9 @@ module _ (n : ℕ) (rows k : List ℕ) (count : ℕ) (m : Mode) (b : ℕ) (z : S
 
   abbrev f : Phase
   f = modePhase m
+
+  arrays : Arrays rows k
+  arrays = record { size = z .size; inside = z .inside; places = size }
 
   -- a call that fails
   failed-as : (c′ k′ : List ℕ) (o : Carried) (x : Fate) → o .fate ≡ x → CarriedBy r k count f b c′ k′ o x → CarriesOn r k count f b c′ k′ o
@@ -37,19 +43,21 @@ module _ (n : ℕ) (rows k : List ℕ) (count : ℕ) (m : Mode) (b : ℕ) (z : S
     pub rest-fails : (t : Bool) → Decides (RestZero k count) t → t ≡ false → CarriesOn r k count f b c′ k′ o
     rest-fails t d x = failed-as c′ k′ o NotReached e (no-rest n rows rows rows k count 0 f z size (d .no x))
 
-    pub replay-fails : (rows′ u c : List ℕ) (s : Replayed) → rows′ ≡ rows → Replays (take n rows′) u c k count s → s .ok ≡ false → CarriesOn r k count f b c′ k′ o
-    replay-fails rows′ u c s w d x =
-        failed-as c′ k′ o NotReached e (no-replay n rows u c k count 0 f z size (subst (λ (y : List ℕ). (p : List ℕ) → take count k ≡ map suc p → Valid (candidates (take n y)) p → ⊥) w (d .no x)))
+    pub replay-fails : (c₀ c : List ℕ) (s : Replayed) → count ≤ 64 → Replays n rows c₀ c k count s → s .ok ≡ false → CarriesOn r k count f b c′ k′ o
+    replay-fails c₀ c s few d x = failed-as c′ k′ o NotReached e (no-replay n rows rows c k count 0 f z size (d .no x arrays few))
 
   -- the tests passed: the front of the picks is all of them
-  module _ (rows′ u c : List ℕ) (s : Replayed) (w : rows′ ≡ rows) (few : count ≤ 64) (d : Replays (take n rows′) u c k count s) (ok : s .ok ≡ true) where
-    front : Front r u c k count (s .left)
-    front = subst (λ (y : List ℕ). Front (take n y) u c k count (s .left)) w (d .yes ok)
+  module _ (c₀ c : List ℕ) (s : Replayed) (none : c₀ ≡ noRows) (few : count ≤ 64) (d : Replays n rows c₀ c k count s) (ok : s .ok ≡ true) where
+    abbrev u : List ℕ
+    u = within (s .unpicked) rows
 
-    pub phase-fails : (c′ k′ : List ℕ) (o : Carried) → o .fate ≡ NotReached → (t : Bool) → Decides (PhaseIn u (s .left) n count f) t → t ≡ false → CarriesOn r k count f b c′ k′ o
+    front : Front r u c k count (s .left)
+    front = d .yes ok arrays none .1
+
+    pub phase-fails : (c′ k′ : List ℕ) (o : Carried) → o .fate ≡ NotReached → (t : Bool) → Decides (PhaseIn u (s .left) count f) t → t ≡ false → CarriesOn r k count f b c′ k′ o
     phase-fails c′ k′ o e t p x = failed-as c′ k′ o NotReached e (no-phase n rows u c k count (s .left) f z size front few (p .no x))
 
-    module _ (a t : Bool) (da : Decides (RestZero k count) a) (ha : a ≡ true) (dt : Decides (PhaseIn u (s .left) n count f) t) (ht : t ≡ true) where
+    module _ (a t : Bool) (da : Decides (RestZero k count) a) (ha : a ≡ true) (dt : Decides (PhaseIn u (s .left) count f) t) (ht : t ≡ true) where
       from : State
       from = at (front .picks) (placed f)
 
@@ -61,7 +69,7 @@ module _ (n : ℕ) (rows k : List ℕ) (count : ℕ) (m : Mode) (b : ℕ) (z : S
       budget-fails c′ k′ o e l = failed-as c′ k′ o TooLarge e (l, (from, legal))
 
       abbrev spot : Spot
-      spot = record { count = count; left = s .left; mode = m }
+      spot = record { count = count; unpicked = s .unpicked; left = s .left; mode = m }
 
       standing : HoldsAt r u c k spot from
       unfolding from
@@ -75,12 +83,12 @@ module _ (n : ℕ) (rows k : List ℕ) (count : ℕ) (m : Mode) (b : ℕ) (z : S
         fits = legal .fits;
       }
 
-      pub may-advance : Holds n rows u c k spot
+      pub may-advance : Holds n rows c k spot
       may-advance = holds-own standing
 
-      pub went-on : (u′ c′ k′ : List ℕ) (p : Report) → b ≤ mostBudget → Advanced n rows u′ c′ k′ b (stateOf k spot) p
+      pub went-on : (c′ k′ : List ℕ) (p : Report) → b ≤ mostBudget → Advanced n rows c′ k′ b (stateOf k spot) p
           → (o : Carried) → o ≡ carriedOf p → CarriesOn r k count f b c′ k′ o
-      went-on u′ c′ k′ p l h o e = subst (CarriesOn r k count f b c′ k′) (sym e) (record {
+      went-on c′ k′ p l h o e = subst (CarriesOn r k count f b c′ k′) (sym e) (record {
         says = record {
           from = from;
           legal = legal;

@@ -1,5 +1,5 @@
--- Checking a value handed in: the picks made again one after the other, the zeros behind them, and the phase, decide whether it is the
--- value of a state whose picks fit its phase (`StandsFor`).
+-- Checking a value handed in: the picks made again (crate `replay`), the zeros behind them, and the phase, decide whether it is the value of a
+-- state whose picks fit its phase (`StandsFor`).
 use mathlib.Core.Path.{_≡_, refl, sym, ap, ap₂, _∙_, subst}
 use mathlib.Core.Bool.{Bool, true, false, _&&_}
 use mathlib.Core.List.{List, [], _∷_, _++_, map, append-nil, List·Memᴰ}
@@ -27,110 +27,15 @@ use Rattle.listing.specs.Picks.{candidate, candidates}
 use Rattle.listing.proofs.Candidates.{Cand, cand-of, of-cand, mem-candidates, no-candidate, none-candidate}
 use Rattle.listing.proofs.CandidateTree.{candidate-tree}
 use Rattle.candidates.specs.Finding.{candidateIn, First}
-use Rattle.candidates.proofs.ChainArrays.{chain-none, chain-pick}
-use Rattle.candidates.proofs.AfterPicks.{full, After, after-fresh, after-pick, candidate-in, remains-unpicked}
+use Rattle.candidates.proofs.AfterPicks.{candidate-wide}
 use Rattle.runs.specs.Paused.{numbered}
-use Rattle.runs.specs.Working.{Sized, modePhase, placed, Decides, Front, Replays, RestZero, PhaseIn, StandsFor}
+use Rattle.runs.specs.Working.{Sized, modePhase, placed, Decides, RestZero, PhaseIn, StandsFor}
 use Rattle.runs.specs.declared.engine.Mode.{Mode}
 use Rattle.runs.specs.declared.engine.Mode.the-variants.{Down as modeDown, Handed as modeHanded, Back as modeBack, Ended as modeEnded}
-use Rattle.runs.proofs.Padding.{length-numbers, places-numbers, numbers-snoc, take-padded}
+use Rattle.replay.specs.Picked.{Front}
+use Rattle.replay.proofs.Numbers.{length-numbers, numbers-same}
+use Rattle.runs.proofs.Padding.{take-padded}
 use Rattle.runs.proofs.Stepping.{side-length, side-rows}
-
--- ---- a valid sequence, at each of its places
-valid-from : (kids : List ℕ → List ℕ) (q p : List ℕ) (i : ℕ) → ValidFrom kids q p → i < length p → List·Memᴰ (getD p i 0) (kids (q ++ take i p))
-valid-from kids q [] i v l = absurd (omega arith)
-valid-from kids q (x ∷ p) zero v l = rw (append-nil q) (v .0)
-valid-from kids q (x ∷ p) (suc i) v l = rw (append-snoc q x (take i p)) at (valid-from kids (q ++ (x ∷ [])) p i (v .1) (omega arith))
-
-pub valid-at : (kids : List ℕ → List ℕ) (p : List ℕ) (i : ℕ) → Valid kids p → i < length p → List·Memᴰ (getD p i 0) (kids (take i p))
-valid-at kids p i v l = valid-from kids [] p i v l
-
--- ---- numbers and places
-take-numbers : (i : ℕ) (p : List ℕ) → take i (map suc p) ≡ map suc (take i p)
-take-numbers zero p = refl
-take-numbers (suc i) [] = refl
-take-numbers (suc i) (x ∷ p) = ap (λ (l : List ℕ). suc x ∷ l) (take-numbers i p)
-
-getD-numbers : (p : List ℕ) (i : ℕ) → i < length p → getD (map suc p) i 0 ≡ suc (getD p i 0)
-getD-numbers [] i l = absurd (omega arith)
-getD-numbers (x ∷ p) zero l = refl
-getD-numbers (x ∷ p) (suc i) l = getD-numbers p i (omega arith)
-
-numbers-same : (p q : List ℕ) → map suc p ≡ map suc q → p ≡ q
-numbers-same p q e = sym (places-numbers p) ∙ ap (map (λ x. x - 1)) e ∙ places-numbers q
-
--- ---- the picks made again
-module _ (n : ℕ) (rows : List ℕ) (z : Sized n rows) where
-  abbrev r : List ℕ
-  r = take n rows
-
-  row-side : (i : ℕ) → row rows i ≡ row r i
-  row-side i = go (decLt i n)
-    where
-      go : Dec (i < n) → row rows i ≡ row r i
-      go (yes l) = sym (getD-take n rows i 0 l)
-      go (no l) = z .rest i (omega arith) ∙ sym (row-past r i (omega (arith, side-length n rows z)))
-
-  pub front-none : (k : List ℕ) (left : ℕ) → left ≡ full → (c : List ℕ) → c ≡ noRows → Front r rows c k 0 left
-  front-none k left e c d = record {
-    picks = [];
-    numbers = refl;
-    valid = tt;
-    after = subst (After r [] rows) (sym e) (after-fresh r rows row-side);
-    size = z .size;
-    chained = d ∙ chain-none r (omega (arith, side-length n rows z, z .few));
-  }
-
-  module _ (u c k : List ℕ) (i left number g : ℕ) (f : Front r u c k i left) (l : i < length k) (en : number ≡ getD k i 0) (pos : number ≡ 0 → ⊥) (eg : g ≡ number - 1) where
-    pub front-more : (t : Bool) → t ≡ candidateIn u left n g → t ≡ true → (u′ c′ : List ℕ) (own : ℕ) → own ≡ bitAnd (getD u g 0) left → u′ ≡ set u g 0 → c′ ≡ set c g (bitAnd (getD u g 0) left)
-        → Front r u′ c′ k (i + 1) own
-    unfolding meet
-    front-more t et ht u′ c′ own eo eu ec = record {
-      picks = p ++ (g ∷ []);
-      numbers = ap (λ (m : ℕ). take m k) (add-one i) ∙ take-suc k i 0 l ∙ ap₂ (λ (a : List ℕ) (b : ℕ). a ++ (b ∷ [])) (f .numbers) (sym en ∙ number-is) ∙ sym (numbers-snoc p g);
-      valid = valid-snoc (candidates r) p g (f .valid) (mem-candidates r p g .1 cand);
-      after = rw (eu, eo) (after-pick r p u left g fresh (omega (arith, f .size, cand .below, side-length n rows z, z .few)) (f .after));
-      size = ap length eu ∙ length-set u g 0 ∙ f .size;
-      chained = ec ∙ chain-pick r p c g (bitAnd (getD u g 0) left) cand (f .chained) (remains-unpicked r p u left (side-rows n rows z) (f .after) g fresh);
-    }
-      where
-        p : List ℕ
-        p = f .picks
-
-        number-is : number ≡ suc g
-        number-is = positive (ℕ-discrete number 0)
-          where
-            positive : Dec (number ≡ 0) → number ≡ suc g
-            positive (yes d) = absurd (pos d)
-            positive (no d) = omega arith
-
-        cand : Cand r (f .picks) g
-        cand = cand-of r (f .picks) g (rw (← candidate-in r (f .picks) u left (side-rows n rows z) (f .after) g, side-length n rows z, ← et, ht) tt)
-
-        fresh : isIn g (f .picks) ≡ false
-        fresh = is-false (isIn g (f .picks)) (cand .fresh)
-
-    -- picks that could have been made would have this one right
-    module _ (count : ℕ) (h : i < count) (few : count ≤ length k) (q : List ℕ) (e : take count k ≡ map suc q) (v : Valid (candidates r) q) where
-      long : i < length q
-      long = omega (arith, length-take-le count k few, ap length e, length-numbers q)
-
-      next-number : number ≡ suc (getD q i 0)
-      next-number = en ∙ sym (getD-take count k i 0 h) ∙ ap (λ (a : List ℕ). getD a i 0) e ∙ getD-numbers q i long
-
-      pub front-bad : (t : Bool) → t ≡ candidateIn u left n g → t ≡ false → ⊥
-      front-bad t et ht =
-          let same : f .picks ≡ take i q = numbers-same (f .picks) (take i q) (sym (f .numbers) ∙ sym (take-take i count k (omega arith)) ∙ ap (take i) e ∙ take-numbers i q) in
-          let d : g ≡ getD q i 0 = omega (arith, next-number) in
-          let cand : Cand r (f .picks) g = rw (same, d) (mem-candidates r (take i q) (getD q i 0) .0 (valid-at (candidates r) q i v long)) in
-          let w : true ≡ false = sym (is-true (candidate r (f .picks) g) (of-cand r (f .picks) g cand)) ∙ sym (candidate-in r (f .picks) u left (side-rows n rows z) (f .after) g) ∙ ap (λ (m : ℕ). candidateIn u left m g) (side-length n rows z) ∙ sym et ∙ ht in
-          let y : _≡_ {A = ℕ} 0 1 = cc in
-          omega arith
-
--- a zero among the picks is no number of a gauge
-pub front-zero : (k : List ℕ) (i count number : ℕ) → number ≡ getD k i 0 → number ≡ 0 → i < count → count ≤ length k → (q : List ℕ) → take count k ≡ map suc q → ⊥
-front-zero k i count number en ez h few q e =
-    omega (arith, en ∙ sym (getD-take count k i 0 h) ∙ ap (λ (a : List ℕ). getD a i 0) e ∙ getD-numbers q i (omega (arith, length-take-le count k few, ap length e, length-numbers q)))
 
 -- ---- the whole value
 module _ (n : ℕ) (rows u c k : List ℕ) (count left : ℕ) (f : Phase) (z : Sized n rows) (size : length k ≡ 64) where
@@ -160,10 +65,10 @@ module _ (n : ℕ) (rows u c k : List ℕ) (count left : ℕ) (f : Phase) (z : S
   no-replay h s l = h (s .picks) (legal-take s l) (valid-of (s .picks) (s .phase) (l .fits))
 
   module _ (m : Front side u c k count left) (few : count ≤ 64) where
-    in-side : (i : ℕ) → candidateIn u left n i ≡ candidate side (m .picks) i
-    in-side i = ap (λ (j : ℕ). candidateIn u left j i) (sym (side-length n rows z)) ∙ candidate-in side (m .picks) u left (side-rows n rows z) (m .after) i
+    in-side : (i : ℕ) → candidateIn u left 64 i ≡ candidate side (m .picks) i
+    in-side i = candidate-wide side (m .picks) u left (side-rows n rows z) (m .after) i
 
-    phase-of : (g : Phase) → f ≡ numbered g → Fits (candidates side) (m .picks) g → PhaseIn u left n count f
+    phase-of : (g : Phase) → f ≡ numbered g → Fits (candidates side) (m .picks) g → PhaseIn u left count f
     phase-of Down e v = rw e tt
     phase-of Handed e v = rw e (λ i l. in-side i ∙ no-one i)
       where
@@ -171,18 +76,18 @@ module _ (n : ℕ) (rows u c k : List ℕ) (count left : ℕ) (f : Phase) (z : S
         no-one i = is-false (candidate side (m .picks) i) (not-T (candidate side (m .picks) i) (λ t. no-candidate side (m .picks) i (v .1) (cand-of side (m .picks) i t)))
     phase-of (Back j) e v =
         let d : suc j - 1 ≡ j = omega arith in
-        rw e (omega arith, ap (candidateIn u left n) d ∙ in-side j ∙ is-true (candidate side (m .picks) j) (of-cand side (m .picks) j (mem-candidates side (m .picks) j .0 (v .1))))
+        rw e (omega arith, ap (candidateIn u left 64) d ∙ in-side j ∙ is-true (candidate side (m .picks) j) (of-cand side (m .picks) j (mem-candidates side (m .picks) j .0 (v .1))))
     phase-of Ended e v = rw e (omega (arith, length-take-le count k (omega arith), ap length (m .numbers), length-numbers (m .picks), ap length v))
 
-    pub no-phase : ¬ PhaseIn u left n count f → (s : State) → StandsFor side k count f s → ⊥
+    pub no-phase : ¬ PhaseIn u left count f → (s : State) → StandsFor side k count f s → ⊥
     no-phase h s l = h (phase-of (s .phase) (l .phased) (subst (λ (p : List ℕ). Fits (candidates side) p (s .phase)) (numbers-same (s .picks) (m .picks) (sym (legal-take s l) ∙ m .numbers)) (l .fits)))
 
     counted : count ≡ length (m .picks)
     counted = sym (length-take-le count k (omega arith)) ∙ ap length (m .numbers) ∙ length-numbers (m .picks)
 
-    fits-of : (g : Phase) → PhaseIn u left n count g → Fits (candidates side) (m .picks) (placed g)
+    fits-of : (g : Phase) → PhaseIn u left count g → Fits (candidates side) (m .picks) (placed g)
     fits-of Down v = m .valid
-    fits-of Handed v = (m .valid, none-candidate side (m .picks) (λ i cand. let w : true ≡ false = sym (is-true (candidate side (m .picks) i) (of-cand side (m .picks) i cand)) ∙ sym (in-side i) ∙ v i (omega (arith, cand .below, side-length n rows z)) in let y : _≡_ {A = ℕ} 0 1 = cc in omega arith))
+    fits-of Handed v = (m .valid, none-candidate side (m .picks) (λ i cand. let w : true ≡ false = sym (is-true (candidate side (m .picks) i) (of-cand side (m .picks) i cand)) ∙ sym (in-side i) ∙ v i (omega (arith, cand .below, side-length n rows z, z .few)) in let y : _≡_ {A = ℕ} 0 1 = cc in omega arith))
     fits-of (Back j) v = (m .valid, mem-candidates side (m .picks) (j - 1) .1 (cand-of side (m .picks) (j - 1) (rw (← in-side (j - 1), v .1) tt)))
     fits-of Ended v = none (m .picks) (omega (arith, counted))
       where
@@ -190,13 +95,13 @@ module _ (n : ℕ) (rows u c k : List ℕ) (count left : ℕ) (f : Phase) (z : S
         none [] e = refl
         none (x ∷ p) e = absurd (omega arith)
 
-    number-of : (g : Phase) → PhaseIn u left n count g → g ≡ numbered (placed g)
+    number-of : (g : Phase) → PhaseIn u left count g → g ≡ numbered (placed g)
     number-of Down v = refl
     number-of Handed v = refl
     number-of (Back j) v = let e : j ≡ suc (j - 1) = omega (arith, v .0) in ap Back e
     number-of Ended v = refl
 
-    pub legal-of : RestZero k count → PhaseIn u left n count f → StandsFor side k count f (at (m .picks) (placed f))
+    pub legal-of : RestZero k count → PhaseIn u left count f → StandsFor side k count f (at (m .picks) (placed f))
     legal-of rest v = record {
       picked = pad-ext k (map suc (m .picks)) size (omega (arith, length-numbers (m .picks), counted)) (λ i. go i (decLt i count) (decLt i 64));
       counted = counted;
@@ -222,44 +127,35 @@ decides-yes p = record { yes = λ e. p; no = λ e. bool-no e }
 pub decides-no : {P : Type 0} → ¬ P → Decides P false
 decides-no p = record { yes = λ e. bool-no (sym e); no = λ e. p }
 
-pub replay-yes : (r u c k : List ℕ) (count left i : ℕ) → Front r u c k i left → i ≡ count → Replays r u c k count (record { ok = true; left = left })
-replay-yes r u c k count left i f e = record { yes = λ d. subst (λ (j : ℕ). Front r u c k j left) e f; no = λ d. bool-no d }
-
-pub replay-no : (r u c k : List ℕ) (count : ℕ) → ((p : List ℕ) → take count k ≡ map suc p → Valid (candidates r) p → ⊥) → Replays r u c k count (record { ok = false; left = 0 })
-replay-no r u c k count h = record { yes = λ d. bool-no (sym d); no = λ d. h }
-
 -- ---- the phase
-module _ (u : List ℕ) (left n count : ℕ) (m : Mode) where
+module _ (u : List ℕ) (left count : ℕ) (m : Mode) where
   abbrev Phased : Type 0
-  Phased = PhaseIn u left n count (modePhase m)
+  Phased = PhaseIn u left count (modePhase m)
 
-  as-phase : (o : Mode) → m ≡ o → (b : Bool) → Decides (PhaseIn u left n count (modePhase o)) b → Decides Phased b
-  as-phase o e b d = subst (λ (x : Mode). Decides (PhaseIn u left n count (modePhase x)) b) (sym e) d
+  as-phase : (o : Mode) → m ≡ o → (b : Bool) → Decides (PhaseIn u left count (modePhase o)) b → Decides Phased b
+  as-phase o e b d = subst (λ (x : Mode). Decides (PhaseIn u left count (modePhase x)) b) (sym e) d
 
   pub phase-down : m ≡ modeDown → Decides Phased true
   phase-down e = as-phase modeDown e true (decides-yes tt)
 
-  pub phase-handed : m ≡ modeHanded → n ≤ 64 → (g : ℕ) → First (candidateIn u left n) 0 (min n 64) g → Decides Phased (leb n g)
-  phase-handed e few g f = as-phase modeHanded e (leb n g) (go (leb n g) refl)
+  pub phase-handed : m ≡ modeHanded → (g : ℕ) → First (candidateIn u left 64) 0 64 g → Decides Phased (leb 64 g)
+  phase-handed e g f = as-phase modeHanded e (leb 64 g) (go (leb 64 g) refl)
     where
-      low : min n 64 ≡ n
-      low = min-eq-left few
-
-      go : (b : Bool) → leb n g ≡ b → Decides ((i : ℕ) → i < n → candidateIn u left n i ≡ false) b
-      go true d = decides-yes (λ i l. f .least i (omega arith) (omega (arith, leb-true n g d)))
-      go false d = decides-no (λ h. bool-no (sym (f .found (omega (arith, low, leb-false n g d)) .1) ∙ h g (leb-false n g d)))
+      go : (b : Bool) → leb 64 g ≡ b → Decides ((i : ℕ) → i < 64 → candidateIn u left 64 i ≡ false) b
+      go true d = decides-yes (λ i l. f .least i (omega arith) (omega (arith, leb-true 64 g d)))
+      go false d = decides-no (λ h. bool-no (sym (f .found (leb-false 64 g d) .1) ∙ h g (leb-false 64 g d)))
 
   pub phase-zero : (k : ℕ) → m ≡ modeBack k → k ≡ 0 → Decides Phased false
   phase-zero k e z = as-phase (modeBack k) e false (decides-no (λ h. omega (arith, h .0)))
 
-  pub phase-back : (k : ℕ) → m ≡ modeBack k → (k ≡ 0 → ⊥) → (t : Bool) → t ≡ candidateIn u left n (k - 1) → Decides Phased t
+  pub phase-back : (k : ℕ) → m ≡ modeBack k → (k ≡ 0 → ⊥) → (t : Bool) → t ≡ candidateIn u left 64 (k - 1) → Decides Phased t
   phase-back k e z t d = as-phase (modeBack k) e t (go t d)
     where
       low : Dec (k ≡ 0) → 1 ≤ k
       low (yes x) = absurd (z x)
       low (no x) = omega arith
 
-      go : (b : Bool) → b ≡ candidateIn u left n (k - 1) → Decides ((1 ≤ k) × (candidateIn u left n (k - 1) ≡ true)) b
+      go : (b : Bool) → b ≡ candidateIn u left 64 (k - 1) → Decides ((1 ≤ k) × (candidateIn u left 64 (k - 1) ≡ true)) b
       go true x = decides-yes (low (ℕ-discrete k 0), sym x)
       go false x = decides-no (λ h. bool-no (sym (h .1) ∙ sym x))
 
@@ -269,12 +165,3 @@ module _ (u : List ℕ) (left n count : ℕ) (m : Mode) where
       go : (b : Bool) → eqb count 0 ≡ b → Decides (count ≡ 0) b
       go true d = decides-yes (eqb-true count 0 d)
       go false d = decides-no (eqb-false count 0 d)
-
--- a candidate is one of the 64 places
-pub candidate-place : (u : List ℕ) (left n g : ℕ) (t : Bool) → t ≡ candidateIn u left n g → t ≡ true → g < 64
-unfolding candidateIn
-candidate-place u left n g t e d = omega (arith, ltb-true g (min n 64) (both-left (ltb g (min n 64)) _ (sym e ∙ d)))
-  where
-    both-left : (a b : Bool) → (a && b) ≡ true → a ≡ true
-    both-left true b y = refl
-    both-left false b y = bool-no (sym y)

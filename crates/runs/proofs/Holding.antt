@@ -27,6 +27,7 @@ use Rattle.listing.proofs.Candidates.{Cand, mem-candidates}
 use Rattle.listing.proofs.CandidateTree.{candidate-tree}
 use Rattle.listing.proofs.Remainders.{remainder-left, common-snoc}
 use Rattle.listing.proofs.ChainRows.{chainOf-snoc, length-chainOf, row-unpicked}
+use Rattle.candidates.specs.Finding.{within}
 use Rattle.candidates.proofs.ChainArrays.{chain-pick}
 use Rattle.candidates.proofs.AfterPicks.{full, Rows, After, after-pick, after-unpick, remains-unpicked}
 use Rattle.runs.specs.Paused.{numbered}
@@ -34,7 +35,8 @@ use Rattle.runs.specs.Working.{placed, stateOf, HoldsAt, leftAfter, Numb
 use Rattle.runs.specs.declared.engine.Mode.the-variants.{Back as modeBack}
 use Rattle.runs.specs.declared.engine.Spot.{Spot}
 use Rattle.runs.specs.declared.engine.Moved.the-variants.{On, Out, Over}
-use Rattle.runs.proofs.Padding.{pad-snoc, pad-unsnoc, length-numbers, places-numbers, numbers-snoc, take-padded}
+use Rattle.replay.proofs.Numbers.{length-numbers, places-numbers, numbers-snoc}
+use Rattle.runs.proofs.Padding.{pad-snoc, pad-unsnoc, take-padded}
 
 pub placed-numbered : (f : Phase) → placed (numbered f) ≡ f
 placed-numbered Down = refl
@@ -53,14 +55,14 @@ pub holds-own : {r u c k : List ℕ} {s : Spot} {x : State} → HoldsAt r u c k 
 holds-own {r} {u} {c} {k} {s} h = subst (HoldsAt r u c k s) (sym (state-is h)) h
 
 -- ---- what each move leads to, as `Stepped` asks
-module _ (n : ℕ) (rows u c k : List ℕ) (m : Move) (s : Spot) (y : State) (h : HoldsAt (take n rows) u c k s y) where
-  pub stepped-on : m ≡ gives nothing y → Stepped n rows u c k m (On s)
+module _ (n : ℕ) (rows c k : List ℕ) (m : Move) (s : Spot) (y : State) (h : HoldsAt (take n rows) (within (s .unpicked) rows) c k s y) where
+  pub stepped-on : m ≡ gives nothing y → Stepped n rows c k m (On s)
   stepped-on e = record { says = (e ∙ ap (gives nothing) (sym (state-is h)), holds-own h) }
 
-  pub stepped-out : m ≡ gives (hands (y .picks)) y → Stepped n rows u c k m (Out s)
+  pub stepped-out : m ≡ gives (hands (y .picks)) y → Stepped n rows c k m (Out s)
   stepped-out e = record { says = (e ∙ ap (λ (z : State). gives (hands (z .picks)) z) (sym (state-is h)), holds-own h) }
 
-  pub stepped-over : m ≡ gives ends y → Stepped n rows u c k m (Over s)
+  pub stepped-over : m ≡ gives ends y → Stepped n rows c k m (Over s)
   stepped-over e = record { says = (e ∙ ap (gives ends) (sym (state-is h)), holds-own h) }
 
 pub common-none : (r : List ℕ) (x : ℕ) → common r [] x ≡ x
@@ -117,9 +119,9 @@ module _ (r u c k : List ℕ) (ok : Rows r) where
     pub room : length (x .picks) < 64
     room = omega (arith, few-picks r (x .picks) g v cand, ok .few)
 
-    pub holds-pick : HoldsAt r (set u g 0) (set c g (bitAnd (row u g) (s .left))) (set k (s .count) (g + 1)) (spotDown (s .count + 1) (bitAnd (row u g) (s .left))) (at (x .picks ++ (g ∷ [])) Down)
+    pub holds-pick : (v′ : ℕ) → HoldsAt r (set u g 0) (set c g (bitAnd (row u g) (s .left))) (set k (s .count) (g + 1)) (spotDown (s .count + 1) v′ (bitAnd (row u g) (s .left))) (at (x .picks ++ (g ∷ [])) Down)
     unfolding meet
-    holds-pick = record {
+    holds-pick v′ = record {
       after = after-pick r (x .picks) u (s .left) g (is-false (isIn g (x .picks)) (cand .fresh)) (omega (arith, h .size, cand .below, ok .few)) (h .after);
       size = length-set u g 0 ∙ h .size;
       chained = chain-pick r (x .picks) c g (bitAnd (row u g) (s .left)) cand (h .chained) own;
@@ -170,9 +172,9 @@ module _ (r u c k : List ℕ) (ok : Rows r) where
         ap (λ (l : List ℕ). set l (length q) 0) (old .picked ∙ ap padded (numbers-snoc q g))
         ∙ ap (λ (i : ℕ). set (padded (map suc q ++ (suc g ∷ []))) i 0) (sym (length-numbers q)) ∙ pad-unsnoc (map suc q) (suc g) (omega (arith, length-numbers q, few))
 
-    pub holds-back : (left : ℕ) → left ≡ common r q full
-        → HoldsAt r (set u g (row r g)) (set c g 0) (set k (length q) 0) (record { count = length q; left = left; mode = modeBack (suc g) }) (at q (Back g))
-    holds-back left l = record {
+    pub holds-back : (v′ left : ℕ) → left ≡ common r q full
+        → HoldsAt r (set u g (row r g)) (set c g 0) (set k (length q) 0) (record { count = length q; unpicked = v′; left = left; mode = modeBack (suc g) }) (at q (Back g))
+    holds-back v′ left l = record {
       after = subst (After r q (set u g (row r g))) (sym l) (after-unpick r q u (s .left) g (is-false (isIn g q) (cand .fresh)) (omega (arith, h .size, cand .below, ok .few)) (old .after));
       size = length-set u g (row r g) ∙ h .size;
       chained = chain-after;

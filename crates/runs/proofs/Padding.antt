@@ -1,5 +1,5 @@
--- Picks in an array of 64: one more at the first zero, the last one cleared, and picks by number and by place. Laws of a list with zeros
--- behind it are in crate `table`, proofs/Padding.antt.
+-- Picks in an array of 64: one more at the first zero, and the last one cleared. Laws of a list with zeros behind it are in crate `table`,
+-- proofs/Padding.antt; picks by number and by place in crate `replay`, proofs/Numbers.antt.
 use mathlib.Core.Path.{_≡_, refl, sym, ap, ap₂, _∙_}
 use mathlib.Core.List.{List, [], _∷_, _++_, map}
 use Prim.Native.Nat.{ℕ, suc, _+_, _-_, _<_}
@@ -44,19 +44,7 @@ pad-unsnoc xs a h =
         getD-set-other (padded (xs ++ (a ∷ []))) (length xs) i 0 0 e ∙ pad-getD (xs ++ (a ∷ [])) i ∙ List·getD-eq-default (xs ++ (a ∷ [])) 0 (omega (arith, length-one xs a))
         ∙ sym (List·getD-eq-default xs 0 (omega arith))
 
--- ---- numbers and places
-pub length-numbers : (p : List ℕ) → length (map suc p) ≡ length p
-length-numbers [] = refl
-length-numbers (g ∷ p) = ap suc (length-numbers p)
-
-pub places-numbers : (p : List ℕ) → map (λ x. x - 1) (map suc p) ≡ p
-places-numbers [] = refl
-places-numbers (g ∷ p) = let e : suc g - 1 ≡ g = omega arith in ap₂ (λ (x : ℕ) (l : List ℕ). x ∷ l) e (places-numbers p)
-
-pub numbers-snoc : (p : List ℕ) (g : ℕ) → map suc (p ++ (g ∷ [])) ≡ map suc p ++ (suc g ∷ [])
-numbers-snoc [] g = refl
-numbers-snoc (x ∷ p) g = ap (λ (l : List ℕ). suc x ∷ l) (numbers-snoc p g)
-
+-- ---- the front of the array, and the last entry
 pub take-padded : (xs : List ℕ) (n : ℕ) → n ≡ length xs → take n (padded xs) ≡ xs
 take-padded xs n e = ap (λ (m : ℕ). take m (padded xs)) e ∙ take-append-seam xs (replicate (64 - length xs) 0)
 

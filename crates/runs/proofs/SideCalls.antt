@@ -4,7 +4,8 @@ use mathlib.Core.Path.{_≡_, refl, sym, ap, _∙_, subst}
 use mathlib.Core.List.{List}
 use Prim.Native.Nat.{ℕ}
 use lib.ListN.{length, take}
-use Rattle.table.specs.Tables.{chainRows, tableRefusal, padded}
+use Rattle.table.specs.Tables.{chainRows, blankChain, tableRefusal, padded}
+use Rattle.walk.specs.Calls.{spent, handed, end}
 use Rattle.table.specs.declared.Table.{Table}
 use Rattle.table.specs.declared.Chain.{Chain}
 use Rattle.walk.specs.Machine.{Phase, State}
@@ -16,6 +17,7 @@ use Rattle.runs.specs.Working.{modePhase, doneOutcome, doneChain, Carrie
 use Rattle.runs.specs.declared.Outcome.{Outcome}
 use Rattle.runs.specs.declared.engine.Mode.{Mode}
 use Rattle.runs.specs.declared.engine.Done.{Done}
+use Rattle.runs.specs.declared.engine.Done.the-variants.{HandedOut, Spent, End}
 use Rattle.runs.specs.declared.engine.Fate.{Fate}
 use Rattle.runs.specs.declared.engine.Fate.the-variants.{NotReached, TooLarge, Moves}
 use Rattle.runs.specs.declared.engine.Carried.{Carried}
@@ -58,6 +60,18 @@ module _ (t : Table) (o : Carried) (k rows : List ℕ) where
   pub answer-refused : (x : Fate) → o .fate ≡ x → (r : Step) → r ≡ carriedBy t x o k rows → r ≡ carriedStep t o k rows
   answer-refused x e r d = d ∙ ap (λ (y : Fate). carriedBy t y o k rows) (sym e)
 
-  pub answer-moves : (done : Done) → o .fate ≡ Moves done → (a : Outcome) (c : Chain) (f : Phase) → a ≡ doneOutcome done → c ≡ doneChain (t .gauges) done rows → f ≡ modePhase (o .mode)
-      → record { answer = outcome a (chainRows c); moves = o .moves; chain = c; next = record { table = t; picks = k; count = o .count; phase = f } } ≡ carriedStep t o k rows
-  answer-moves done e a c f ea ec ef = answer-refused (Moves done) e (record { answer = outcome a (chainRows c); moves = o .moves; chain = c; next = record { table = t; picks = k; count = o .count; phase = f } }) (rw (ea, ec, ef))
+  -- a call that made its moves: one answer for each way they came out
+  module _ (done : Done) (e : o .fate ≡ Moves done) (f : Phase) (ef : f ≡ modePhase (o .mode)) where
+    abbrev next : Value
+    next = record { table = t; picks = k; count = o .count; phase = f }
+
+    pub answer-handed : done ≡ HandedOut
+        → record { answer = handed (chainRows (record { gauges = t .gauges; rows = rows })); moves = o .moves; chain = record { gauges = t .gauges; rows = rows }; next = next } ≡ carriedStep t o k rows
+    answer-handed d =
+        answer-refused (Moves done) e (record { answer = handed (chainRows (record { gauges = t .gauges; rows = rows })); moves = o .moves; chain = record { gauges = t .gauges; rows = rows }; next = next }) (rw (d, ef))
+
+    pub answer-spent : (c : Chain) → c ≡ blankChain → done ≡ Spent → record { answer = spent; moves = o .moves; chain = c; next = next } ≡ carriedStep t o k rows
+    answer-spent c ec d = answer-refused (Moves done) e (record { answer = spent; moves = o .moves; chain = c; next = next }) (rw (ec, d, ef))
+
+    pub answer-end : (c : Chain) → c ≡ blankChain → done ≡ End → record { answer = end; moves = o .moves; chain = c; next = next } ≡ carriedStep t o k rows
+    answer-end c ec d = answer-refused (Moves done) e (record { answer = end; moves = o .moves; chain = c; next = next }) (rw (ec, d, ef))

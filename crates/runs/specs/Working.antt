@@ -14,7 +14,7 @@ use Rattle.walk.specs.Calls.{Answer, spent, handed, end, result, carry, mostBud
 use Rattle.walk.specs.Fitting.{Valid, Fits}
 use Rattle.listing.specs.Picks.{candidates}
 use Rattle.listing.specs.Rules.{chainOf}
-use Rattle.candidates.specs.Finding.{candidateIn}
+use Rattle.candidates.specs.Finding.{candidateIn, within}
 use Rattle.candidates.proofs.AfterPicks.{After}
 use Rattle.table.specs.declared.Chain.{Chain}
 use Rattle.table.specs.declared.Table.{Table}
@@ -30,7 +30,6 @@ use Rattle.runs.specs.declared.engine.Done.the-variants.{HandedOut, Spen
 use Rattle.runs.specs.declared.engine.Fate.{Fate}
 use Rattle.runs.specs.declared.engine.Fate.the-variants.{NotReached, TooLarge, Moves}
 use Rattle.runs.specs.declared.engine.Report.{Report}
-use Rattle.runs.specs.declared.engine.Replayed.{Replayed}
 use Rattle.runs.specs.declared.engine.Carried.{Carried}
 use Rattle.runs.specs.declared.engine.Moved.{Moved}
 use Rattle.runs.specs.declared.engine.Moved.the-variants.{On, Out, Over}
@@ -60,7 +59,7 @@ placed Ended = Ended
 abbrev pub stateOf : List ℕ → Spot → State
 stateOf k at = record { picks = map (λ x. x - 1) (take (at .count) k); phase = placed (modePhase (at .mode)) }
 
--- the arrays u, c and k and the spot stand for the state x of the rows r: the rows of the unpicked gauges, the chain, and the picks
+-- the rows u of the unpicked gauges, the arrays c and k and the spot stand for the state x of the rows r: the chain, and the picks
 pub record HoldsAt (r u c k : List ℕ) (at : Spot) (x : State) : Type 0 where
   pub after : After r (x .picks) u (at .left)
   pub size : length u ≡ 64
@@ -70,20 +69,20 @@ pub record HoldsAt (r u c k : List ℕ) (at : Spot) (x : State) : Type 0 where
   pub phased : modePhase (at .mode) ≡ numbered (x .phase)
   pub fits : Fits (candidates r) (x .picks) (x .phase)
 
-abbrev pub Holds : ℕ → List ℕ → List ℕ → List ℕ → List ℕ → Spot → Type 0
-Holds n rows u c k at = HoldsAt (take n rows) u c k at (stateOf k at)
+abbrev pub Holds : ℕ → List ℕ → List ℕ → List ℕ → Spot → Type 0
+Holds n rows c k at = HoldsAt (take n rows) (within (at .unpicked) rows) c k at (stateOf k at)
 
 -- a spot that stands for the state after the move m
-abbrev pub spotDown : ℕ → ℕ → Spot
-spotDown count left = record { count = count; left = left; mode = modeDown }
+abbrev pub spotDown : ℕ → ℕ → ℕ → Spot
+spotDown count unpicked left = record { count = count; unpicked = unpicked; left = left; mode = modeDown }
 
-abbrev pub SteppedBy : ℕ → List ℕ → List ℕ → List ℕ → List ℕ → Move → Moved → Type 0
-SteppedBy n rows u c k m (On s) = (m ≡ gives nothing (stateOf k s)) × Holds n rows u c k s
-SteppedBy n rows u c k m (Out s) = (m ≡ gives (hands (stateOf k s .picks)) (stateOf k s)) × Holds n rows u c k s
-SteppedBy n rows u c k m (Over s) = (m ≡ gives ends (stateOf k s)) × Holds n rows u c k s
+abbrev pub SteppedBy : ℕ → List ℕ → List ℕ → List ℕ → Move → Moved → Type 0
+SteppedBy n rows c k m (On s) = (m ≡ gives nothing (stateOf k s)) × Holds n rows c k s
+SteppedBy n rows c k m (Out s) = (m ≡ gives (hands (stateOf k s .picks)) (stateOf k s)) × Holds n rows c k s
+SteppedBy n rows c k m (Over s) = (m ≡ gives ends (stateOf k s)) × Holds n rows c k s
 
-pub record Stepped (n : ℕ) (rows u c k : List ℕ) (m : Move) (r : Moved) : Type 0 where
-  pub says : SteppedBy n rows u c k m r
+pub record Stepped (n : ℕ) (rows c k : List ℕ) (m : Move) (r : Moved) : Type 0 where
+  pub says : SteppedBy n rows c k m r
 
 -- the phases in which a pick can be taken back
 abbrev pub TakesBack : Phase → Type 0
@@ -111,9 +110,9 @@ doneAnswer out End y = end
 abbrev pub ComesOut : List ℕ → ℕ → State → Done → ℕ → State → Type 0
 ComesOut r b x done k y = (out : List ℕ → List ℕ) → carry (candidates r) out b x ≡ result (doneAnswer out done y) k y
 
-pub record Advanced (n : ℕ) (rows u c k : List ℕ) (b : ℕ) (x : State) (r : Report) : Type 0 where
+pub record Advanced (n : ℕ) (rows c k : List ℕ) (b : ℕ) (x : State) (r : Report) : Type 0 where
   pub comes : ComesOut (take n rows) b x (r .done) (r .moves) (stateOf k (r .spot))
-  pub holds : Holds n rows u c k (r .spot)
+  pub holds : Holds n rows c k (r .spot)
 
 abbrev pub reportOf : Done → ℕ → Spot → Report
 reportOf done moves spot = record { done = done; moves = moves; spot = spot }
@@ -133,25 +132,12 @@ pub record Decides (P : Type 0) (b : Bool) : Type 0 where
 abbrev pub RestZero : List ℕ → ℕ → Type 0
 RestZero k from = (i : ℕ) → from ≤ i → i < 64 → getD k i 0 ≡ 0
 
--- the first i numbers in k are the picks p, each a candidate after those before it, and the arrays u and c stand for them
-pub record Front (r u c k : List ℕ) (i left : ℕ) : Type 0 where
-  pub picks : List ℕ
-  pub numbers : take i k ≡ map suc picks
-  pub valid : Valid (candidates r) picks
-  pub after : After r picks u left
-  pub size : length u ≡ 64
-  pub chained : c ≡ padded (chainOf r picks)
-
-pub record Replays (r u c k : List ℕ) (count : ℕ) (s : Replayed) : Type 0 where
-  pub yes : s .ok ≡ true → Front r u c k count (s .left)
-  pub no : s .ok ≡ false → (p : List ℕ) → take count k ≡ map suc p → Valid (candidates r) p → ⊥
-
 -- the phase goes with what the arrays say
-abbrev pub PhaseIn : List ℕ → ℕ → ℕ → ℕ → Phase → Type 0
-PhaseIn u left n count Down = Unit {0}
-PhaseIn u left n count Handed = (i : ℕ) → i < n → candidateIn u left n i ≡ false
-PhaseIn u left n count (Back k) = (1 ≤ k) × (candidateIn u left n (k - 1) ≡ true)
-PhaseIn u left n count Ended = count ≡ 0
+abbrev pub PhaseIn : List ℕ → ℕ → ℕ → Phase → Type 0
+PhaseIn u left count Down = Unit {0}
+PhaseIn u left count Handed = (i : ℕ) → i < 64 → candidateIn u left 64 i ≡ false
+PhaseIn u left count (Back k) = (1 ≤ k) × (candidateIn u left 64 (k - 1) ≡ true)
+PhaseIn u left count Ended = count ≡ 0
 
 -- k, a count and a phase by number are those of the paused value of the state s, whose picks fit its phase
 pub record StandsFor (r k : List ℕ) (count : ℕ) (f : Phase) (s : State) : Type 0 where

@@ -1,7 +1,9 @@
 // The core of both runs, on plain numbers: `rows` are the side's rows, of which the first `n` are the table's. A spot is a state of rules 1
-// to 5 with the picks beside it; three arrays go along with it: the rows of the unpicked gauges, the chain of the picks, which is also
-// where the left cases are found again when a pick is taken back, and the picks by number.
+// to 5 with the set of the unpicked gauges; two arrays go along with it: the chain of the picks, which is also where the left cases are
+// found again when a pick is taken back, and the picks by number.
 use candidates;
+use replay;
+use sets;
 ghost use mathlib.Core.Path.{_≡_};
 ghost use Prim.Native.Nat.{_+_, _-_, _≤_, _<_};
 ghost use lib.ListN.{length, take, set, getD};
@@ -9,10 +11,15 @@ ghost use lib.Bits.{bitAnd};
 ghost use Rattle.table.specs.Tables.{noRows};
 ghost use Rattle.walk.specs.Machine.{move as moved, takeBack, cutLast};
 ghost use Rattle.listing.specs.Picks.{candidates as candidatesOf};
-ghost use Rattle.runs.specs.Working.{Sized, Holds, stateOf, modePhase, spotDown, Stepped, TakesBack, NumberAt, leftAfter, Advanced, Decides, RestZero, Replays, PhaseIn, CarriesOn, reportOf, carriedOf};
+ghost use Rattle.candidates.specs.Finding.{within};
+ghost use Rattle.sets.specs.First.{Without};
+ghost use Rattle.runs.specs.Working.{Sized, Holds, stateOf, modePhase, spotDown, Stepped, TakesBack, NumberAt, leftAfter, Advanced, Decides, RestZero, PhaseIn, CarriesOn, reportOf, carriedOf};
 
 // "A run call has a budget from 0 to 1,000,000 moves" (01).
 const MOST_BUDGET: u64 = 1_000_000;
+
+// The places that there can be.
+const PLACES: usize = 64;
 
 // All 64 cases: the left cases before any pick.
 const ALL: u64 = 0xffff_ffff_ffff_ffff;
@@ -25,9 +32,10 @@ pub enum Mode {
     Ended,
 }
 
-// Where a run is: how many picks, the left cases, and the phase.
+// Where a run is: how many picks, the unpicked gauges, the left cases, and the phase.
 pub struct Spot {
     pub count: usize,
+    pub unpicked: u64,
     pub left: u64,
     pub mode: Mode,
 }
@@ -53,12 +61,6 @@ pub struct Report {
     pub spot: Spot,
 }
 
-// Whether picks handed in can have been made one after the other, and the left cases after them.
-pub struct Replayed {
-    pub ok: bool,
-    pub left: u64,
-}
-
 // What a call on a value comes to: 01's 15, 18, or its moves.
 pub enum Fate {
     NotReached,
@@ -74,19 +76,18 @@ pub struct Carried {
     pub mode: Mode,
 }
 
-// A call on the value of the first `count` picks and a mode, with a budget: 15 and 18 as 01 has them, else up to `budget` moves. `unpicked`
-// comes with the rows and `chain` empty; a hand-out leaves its chain there.
+// A call on the value of the first `count` picks and a mode, with a budget: 15 and 18 as 01 has them, else up to `budget` moves. `chain`
+// comes empty; a hand-out leaves its chain there.
 pub fn carry_on(
     rows: &[u64; 64],
     n: usize,
-    unpicked: &mut [u64; 64],
     chain: &mut [u64; 64],
     picks: &mut [u8; 64],
     count: u64,
     mode: Mode,
     budget: u64,
 ) -> Carried
-    requires { ⌜ (Sized n (now rows)) × (now unpicked ≡ now rows) × (now chain ≡ noRows) × (length (now picks) ≡ 64) ⌝ }
+    requires { ⌜ (Sized n (now rows)) × (now chain ≡ noRows) × (length (now picks) ≡ 64) ⌝ }
     ensures { λ r. ⌜ CarriesOn (take n (now (rows .entry))) (now (picks .entry)) count (modePhase mode) budget (now (chain .exit)) (now (picks .exit)) r ⌝ }
 {
     if 64 < count {
@@ -96,12 +97,13 @@ pub fn carry_on(
     if !rest_zero(picks, many) {
         return failed(Fate::NotReached);
     }
-    let seen = replay(n, unpicked, chain, picks, many);
+    let seen = replay::replay(rows, n, chain, picks, many);
     if !seen.ok {
         return failed(Fate::NotReached);
     }
+    let unpicked = seen.unpicked;
     let left = seen.left;
-    if !phase_fits(unpicked, left, n, many, mode) {
+    if !phase_fits(rows, unpicked, left, many, mode) {
         return failed(Fate::NotReached);
     }
     if MOST_BUDGET < budget {
@@ -109,10 +111,11 @@ pub fn carry_on(
     }
     let at = Spot {
         count: many,
+        unpicked: unpicked,
         left: left,
         mode: mode,
     };
-    let report = advance(rows, n, unpicked, chain, picks, at, budget);
+    let report = advance(rows, n, chain, picks, at, budget);
     moved_on(report)
 }
 
@@ -157,70 +160,18 @@ fn rest_zero(picks: &[u8; 64], from: usize) -> bool
     true
 }
 
-// Makes the first `count` picks again, one after the other, where each is a candidate.
-fn replay(
-    n: usize,
-    unpicked: &mut [u64; 64],
-    chain: &mut [u64; 64],
-    picks: &[u8; 64],
-    count: usize,
-) -> Replayed
-    requires { ⌜ (Sized n (now unpicked)) × (now chain ≡ noRows) × (length (now picks) ≡ 64) × (count ≤ 64) ⌝ }
-    ensures { λ r. ⌜ Replays (take n (now (unpicked .entry))) (now (unpicked .exit)) (now (chain .exit)) (now (picks .entry)) count r ⌝ }
-{
-    let mut left = ALL;
-    let mut i = 0;
-    while i < count {
-        let number = wide(picks[i]);
-        if number == 0 {
-            return Replayed { ok: false, left: 0 };
-        }
-        let g = number - 1;
-        if !candidates::is_candidate(unpicked, left, n, g) {
-            return Replayed { ok: false, left: 0 };
-        }
-        left = retake(unpicked, chain, left, g);
-        i += 1;
-    }
-    Replayed {
-        ok: true,
-        left: left,
-    }
-}
-
-// Makes one pick again: its row in the chain, which is what is left then.
-fn retake(unpicked: &mut [u64; 64], chain: &mut [u64; 64], left: u64, g: usize) -> u64
-    requires { ⌜ g < 64 ⌝ }
-    ensures { λ r. ⌜ r ≡ bitAnd (getD (now (unpicked .entry)) g 0) left ⌝ }
-    ensures unpicked_after { λ r. ⌜ now (unpicked .exit) ≡ set (now (unpicked .entry)) g 0 ⌝ }
-    ensures chain_after { λ r. ⌜ now (chain .exit) ≡ set (now (chain .entry)) g (bitAnd (getD (now (unpicked .entry)) g 0) left) ⌝ }
-{
-    let own = unpicked[g] & left;
-    unpicked[g] = 0;
-    chain[g] = own;
-    own
-}
-
-// A pick's number as an index.
-fn wide(number: u8) -> usize
-    ensures { λ r. ⌜ r ≡ number ⌝ }
-{
-    number as usize
-}
-
 // The phase goes with the picks: Handed without a candidate, Back from a candidate, Ended without picks.
-fn phase_fits(unpicked: &[u64; 64], left: u64, n: usize, count: usize, mode: Mode) -> bool
-    requires { ⌜ n ≤ 64 ⌝ }
-    ensures { λ r. ⌜ Decides (PhaseIn (now (unpicked .entry)) left n count (modePhase mode)) r ⌝ }
+fn phase_fits(rows: &[u64; 64], unpicked: u64, left: u64, count: usize, mode: Mode) -> bool
+    ensures { λ r. ⌜ Decides (PhaseIn (within unpicked (now (rows .entry))) left count (modePhase mode)) r ⌝ }
 {
     match mode {
         Mode::Down => true,
-        Mode::Handed => n <= candidates::next_candidate(unpicked, left, n, 0),
+        Mode::Handed => PLACES <= candidates::next_candidate_of(rows, unpicked, left, 0),
         Mode::Back(number) => {
             if number == 0 {
                 return false;
             }
-            candidates::is_candidate(unpicked, left, n, number - 1)
+            candidates::is_candidate_of(rows, unpicked, left, number - 1)
         }
         Mode::Ended => count == 0,
     }
@@ -230,19 +181,18 @@ fn phase_fits(unpicked: &[u64; 64], left: u64, n: usize, count: usize, mode: Mod
 fn advance(
     rows: &[u64; 64],
     n: usize,
-    unpicked: &mut [u64; 64],
     chain: &mut [u64; 64],
     picks: &mut [u8; 64],
     at: Spot,
     budget: u64,
 ) -> Report
-    requires { ⌜ (Sized n (now rows)) × (Holds n (now rows) (now unpicked) (now chain) (now picks) at) ⌝ }
-    ensures { λ r. ⌜ Advanced n (now (rows .entry)) (now (unpicked .exit)) (now (chain .exit)) (now (picks .exit)) budget (stateOf (now (picks .entry)) at) r ⌝ }
+    requires { ⌜ (Sized n (now rows)) × (Holds n (now rows) (now chain) (now picks) at) ⌝ }
+    ensures { λ r. ⌜ Advanced n (now (rows .entry)) (now (chain .exit)) (now (picks .exit)) budget (stateOf (now (picks .entry)) at) r ⌝ }
 {
     let mut spot = at;
     let mut moves: u64 = 0;
     while moves < budget {
-        let made = step(rows, n, unpicked, chain, picks, spot);
+        let made = step(rows, n, chain, picks, spot);
         match made {
             Moved::On(next) => {
                 spot = next;
@@ -270,39 +220,34 @@ fn reported(done: Done, moves: u64, spot: Spot) -> Report
 }
 
 // One move by rules 1 to 5.
-fn step(
-    rows: &[u64; 64],
-    n: usize,
-    unpicked: &mut [u64; 64],
-    chain: &mut [u64; 64],
-    picks: &mut [u8; 64],
-    at: Spot,
-) -> Moved
-    requires { ⌜ (Sized n (now rows)) × (Holds n (now rows) (now unpicked) (now chain) (now picks) at) ⌝ }
-    ensures { λ r. ⌜ Stepped n (now (rows .entry)) (now (unpicked .exit)) (now (chain .exit)) (now (picks .exit)) (moved (candidatesOf (take n (now (rows .entry)))) (stateOf (now (picks .entry)) at)) r ⌝ }
+fn step(rows: &[u64; 64], n: usize, chain: &mut [u64; 64], picks: &mut [u8; 64], at: Spot) -> Moved
+    requires { ⌜ (Sized n (now rows)) × (Holds n (now rows) (now chain) (now picks) at) ⌝ }
+    ensures { λ r. ⌜ Stepped n (now (rows .entry)) (now (chain .exit)) (now (picks .exit)) (moved (candidatesOf (take n (now (rows .entry)))) (stateOf (now (picks .entry)) at)) r ⌝ }
 {
     let mode = at.mode;
     let count = at.count;
+    let unpicked = at.unpicked;
     let left = at.left;
     match mode {
         Mode::Down => {
-            let g = candidates::next_candidate(unpicked, left, n, 0);
-            if g < n {
-                return Moved::On(pick(unpicked, chain, picks, count, left, g));
+            let g = candidates::next_candidate_of(rows, unpicked, left, 0);
+            if g < PLACES {
+                return Moved::On(pick(rows, chain, picks, count, unpicked, left, g));
             }
             Moved::Out(Spot {
                 count: count,
+                unpicked: unpicked,
                 left: left,
                 mode: Mode::Handed,
             })
         }
-        Mode::Handed => take_back(rows, n, unpicked, chain, picks, at),
+        Mode::Handed => take_back(rows, n, chain, picks, at),
         Mode::Back(from) => {
-            let g = candidates::next_candidate(unpicked, left, n, from);
-            if g < n {
-                return Moved::On(pick(unpicked, chain, picks, count, left, g));
+            let g = candidates::next_candidate_of(rows, unpicked, left, from);
+            if g < PLACES {
+                return Moved::On(pick(rows, chain, picks, count, unpicked, left, g));
             }
-            take_back(rows, n, unpicked, chain, picks, at)
+            take_back(rows, n, chain, picks, at)
         }
         Mode::Ended => Moved::Over(at),
     }
@@ -310,23 +255,26 @@ fn step(
 
 // Picks the gauge at place `g`.
 fn pick(
-    unpicked: &mut [u64; 64],
+    rows: &[u64; 64],
     chain: &mut [u64; 64],
     picks: &mut [u8; 64],
     count: usize,
+    unpicked: u64,
     left: u64,
     g: usize,
 ) -> Spot
     requires { ⌜ (count < 64) × (g < 64) ⌝ }
-    ensures { λ r. ⌜ r ≡ spotDown (count + 1) (bitAnd (getD (now (unpicked .entry)) g 0) left) ⌝ }
-    ensures unpicked_after { λ r. ⌜ now (unpicked .exit) ≡ set (now (unpicked .entry)) g 0 ⌝ }
-    ensures chain_after { λ r. ⌜ now (chain .exit) ≡ set (now (chain .entry)) g (bitAnd (getD (now (unpicked .entry)) g 0) left) ⌝ }
+    ensures { λ r. ⌜ r ≡ spotDown (count + 1) (r .unpicked) (bitAnd (getD (now (rows .entry)) g 0) left) ⌝ }
+    ensures unpicked_after { λ r. ⌜ Without unpicked g (r .unpicked) ⌝ }
+    ensures chain_after { λ r. ⌜ now (chain .exit) ≡ set (now (chain .entry)) g (bitAnd (getD (now (rows .entry)) g 0) left) ⌝ }
     ensures picks_after { λ r. ⌜ now (picks .exit) ≡ set (now (picks .entry)) count (g + 1) ⌝ }
 {
-    let own = retake(unpicked, chain, left, g);
+    let own = rows[g] & left;
+    chain[g] = own;
     picks[count] = (g + 1) as u8;
     Spot {
         count: count + 1,
+        unpicked: sets::without(unpicked, g as u64),
         left: own,
         mode: Mode::Down,
     }
@@ -336,18 +284,18 @@ fn pick(
 fn take_back(
     rows: &[u64; 64],
     n: usize,
-    unpicked: &mut [u64; 64],
     chain: &mut [u64; 64],
     picks: &mut [u8; 64],
     at: Spot,
 ) -> Moved
-    requires { ⌜ (Sized n (now rows)) × (Holds n (now rows) (now unpicked) (now chain) (now picks) at) × TakesBack (modePhase (at .mode)) ⌝ }
-    ensures { λ r. ⌜ Stepped n (now (rows .entry)) (now (unpicked .exit)) (now (chain .exit)) (now (picks .exit)) (takeBack (cutLast (stateOf (now (picks .entry)) at .picks))) r ⌝ }
+    requires { ⌜ (Sized n (now rows)) × (Holds n (now rows) (now chain) (now picks) at) × TakesBack (modePhase (at .mode)) ⌝ }
+    ensures { λ r. ⌜ Stepped n (now (rows .entry)) (now (chain .exit)) (now (picks .exit)) (takeBack (cutLast (stateOf (now (picks .entry)) at .picks))) r ⌝ }
 {
     let count = at.count;
     if count == 0 {
         return Moved::Over(Spot {
             count: 0,
+            unpicked: at.unpicked,
             left: ALL,
             mode: Mode::Ended,
         });
@@ -356,11 +304,11 @@ fn take_back(
     let number = picks[last] as usize;
     let g = number - 1;
     picks[last] = 0;
-    unpicked[g] = rows[g];
     chain[g] = 0;
     let left = left_after(chain, picks, last);
     Moved::On(Spot {
         count: last,
+        unpicked: sets::with(at.unpicked, g as u64),
         left: left,
         mode: Mode::Back(number),
     })

@@ -3,7 +3,6 @@
 // that another crate can call has a `requires`, and none is lent memory.
 mod engine;
 
-use engine::Carried;
 use engine::Done;
 use engine::Fate;
 use engine::Mode;
@@ -21,7 +20,7 @@ ghost use Rattle.walk.specs.Machine.{fresh};
 ghost use Rattle.listing.specs.Lists.{gaugeSide, caseSide};
 ghost use Rattle.runs.specs.Paused.{gaugePhase, casePhase, gaugeValue, caseValue, gaugeStarted, caseStarted, paused, blankValue};
 ghost use Rattle.runs.specs.Calling.{Called, gaugeStep, caseStep, refusal, KeepsDemand, CarriesDemand, SharesSet};
-ghost use Rattle.runs.specs.Working.{modePhase, doneOutcome, doneChain, carriedStep};
+ghost use Rattle.runs.specs.Working.{modePhase};
 
 // The phase of a gauge run (01: "Down, Handed, Back from gauge g, or Ended").
 pub enum Phase {
@@ -141,24 +140,62 @@ pub fn run_gauges(p: GaugeRun, budget: u64) -> GaugeStep
         return gauge_refusal(why);
     }
     let rows = t.rows;
-    let mut unpicked = t.rows;
     let mut chain = [0u64; 64];
     let mut picks = p.picks;
     let phase = p.phase;
     let mode = gauge_mode(phase);
     let n = t.gauges as usize;
     let count = p.count;
-    let made = engine::carry_on(
-        &rows,
-        n,
-        &mut unpicked,
-        &mut chain,
-        &mut picks,
-        count,
-        mode,
-        budget,
-    );
-    gauge_answer(t, made, picks, chain)
+    let made = engine::carry_on(&rows, n, &mut chain, &mut picks, count, mode, budget);
+    let fate = made.fate;
+    let after = made.mode;
+    match fate {
+        Fate::NotReached => {
+            return gauge_refusal(Refusal::NotReached);
+        }
+        Fate::TooLarge => {
+            return gauge_refusal(Refusal::BudgetTooLarge);
+        }
+        Fate::Moves(done) => {
+            let next = GaugeRun {
+                table: t,
+                picks: picks,
+                count: made.count,
+                phase: gauge_phase(after),
+            };
+            match done {
+                Done::HandedOut => {
+                    return GaugeStep {
+                        outcome: Outcome::HandedOut,
+                        moves: made.moves,
+                        chain: Chain {
+                            gauges: t.gauges,
+                            rows: chain,
+                        },
+                        next: next,
+                    };
+                }
+                Done::Spent => {
+                    let none = blank_chain();
+                    return GaugeStep {
+                        outcome: Outcome::Spent,
+                        moves: made.moves,
+                        chain: none,
+                        next: next,
+                    };
+                }
+                Done::End => {
+                    let none = blank_chain();
+                    return GaugeStep {
+                        outcome: Outcome::End,
+                        moves: made.moves,
+                        chain: none,
+                        next: next,
+                    };
+                }
+            }
+        }
+    }
 }
 
 // A call of the case run with a budget of moves, on any paused value: 10, 11, 15 and 18 are refused. Added to the calls that led to the
@@ -174,70 +211,62 @@ pub fn run_cases(p: CaseRun, budget: u64) -> CaseStep
     }
     let given = t.rows;
     let rows = table::transpose_rows(given);
-    let mut unpicked = rows;
     let mut chain = [0u64; 64];
     let mut picks = p.picks;
     let phase = p.phase;
     let mode = case_mode(phase);
     let n = t.cases as usize;
     let count = p.count;
-    let made = engine::carry_on(
-        &rows,
-        n,
-        &mut unpicked,
-        &mut chain,
-        &mut picks,
-        count,
-        mode,
-        budget,
-    );
-    case_answer(t, made, picks, table::transpose_rows(chain))
-}
-
-// The answer of what the core came to, with the picks and the chain by gauge rows that it left.
-fn gauge_answer(t: Table, made: Carried, picks: [u8; 64], rows: [u64; 64]) -> GaugeStep
-    ensures { λ r. ⌜ gaugeStep r ≡ carriedStep t made picks rows ⌝ }
-{
+    let made = engine::carry_on(&rows, n, &mut chain, &mut picks, count, mode, budget);
     let fate = made.fate;
-    let mode = made.mode;
-    let next = GaugeRun {
-        table: t,
-        picks: picks,
-        count: made.count,
-        phase: gauge_phase(mode),
-    };
+    let after = made.mode;
     match fate {
-        Fate::NotReached => gauge_refusal(Refusal::NotReached),
-        Fate::TooLarge => gauge_refusal(Refusal::BudgetTooLarge),
-        Fate::Moves(done) => GaugeStep {
-            outcome: outcome_of(done),
-            moves: made.moves,
-            chain: chain_of(t.gauges, done, rows),
-            next: next,
-        },
-    }
-}
-
-fn case_answer(t: Table, made: Carried, picks: [u8; 64], rows: [u64; 64]) -> CaseStep
-    ensures { λ r. ⌜ caseStep r ≡ carriedStep t made picks rows ⌝ }
-{
-    let fate = made.fate;
-    let mode = made.mode;
-    let next = CaseRun {
-        table: t,
-        picks: picks,
-        count: made.count,
-        phase: case_phase(mode),
-    };
-    match fate {
-        Fate::NotReached => case_refusal(Refusal::NotReached),
-        Fate::TooLarge => case_refusal(Refusal::BudgetTooLarge),
-        Fate::Moves(done) => CaseStep {
-            outcome: outcome_of(done),
-            moves: made.moves,
-            chain: chain_of(t.gauges, done, rows),
-            next: next,
-        },
+        Fate::NotReached => {
+            return case_refusal(Refusal::NotReached);
+        }
+        Fate::TooLarge => {
+            return case_refusal(Refusal::BudgetTooLarge);
+        }
+        Fate::Moves(done) => {
+            let next = CaseRun {
+                table: t,
+                picks: picks,
+                count: made.count,
+                phase: case_phase(after),
+            };
+            match done {
+                Done::HandedOut => {
+                    let turned = table::transpose_rows(chain);
+                    return CaseStep {
+                        outcome: Outcome::HandedOut,
+                        moves: made.moves,
+                        chain: Chain {
+                            gauges: t.gauges,
+                            rows: turned,
+                        },
+                        next: next,
+                    };
+                }
+                Done::Spent => {
+                    let none = blank_chain();
+                    return CaseStep {
+                        outcome: Outcome::Spent,
+                        moves: made.moves,
+                        chain: none,
+                        next: next,
+                    };
+                }
+                Done::End => {
+                    let none = blank_chain();
+                    return CaseStep {
+                        outcome: Outcome::End,
+                        moves: made.moves,
+                        chain: none,
+                        next: next,
+                    };
+                }
+            }
+        }
     }
 }
 
@@ -305,30 +334,6 @@ fn case_refusal(why: Refusal) -> CaseStep
         moves: 0,
         chain: chain,
         next: case_run(blank_table()),
-    }
-}
-
-fn outcome_of(done: Done) -> Outcome
-    ensures { λ r. ⌜ r ≡ doneOutcome done ⌝ }
-{
-    match done {
-        Done::HandedOut => Outcome::HandedOut,
-        Done::Spent => Outcome::Spent,
-        Done::End => Outcome::End,
-    }
-}
-
-// The chain of a hand-out; blank elsewhere.
-fn chain_of(gauges: u64, done: Done, rows: [u64; 64]) -> Chain
-    ensures { λ r. ⌜ r ≡ doneChain gauges done rows ⌝ }
-{
-    match done {
-        Done::HandedOut => Chain {
-            gauges: gauges,
-            rows: rows,
-        },
-        Done::Spent => blank_chain(),
-        Done::End => blank_chain(),
     }
 }
 

@@ -2,6 +2,8 @@
 pub mod Tests
 pub mod Digits
 pub mod Order
+pub mod LowestPlace
+pub mod OnePlace
 pub mod Joins
 pub mod Tabulated
 pub mod Masks

@@ -1,7 +1,9 @@
 // Sets of cases as 64-bit numbers: inclusion, membership, the lowest n cases, the number of cases.
 // Every function takes any numbers and refuses nothing; the laws that the other crates rest on are in proofs/.
 ghost use mathlib.Core.Path.{_≡_};
-ghost use lib.Count.{ones};
+ghost use Prim.Native.Nat.{_<_};
+ghost use lib.Count.{ones, trailingZeros};
+ghost use Rattle.sets.specs.First.{Lowest, Rest, Without, With, Upper};
 ghost use Rattle.sets.specs.Sets.{bit, isSubset, lowest as lowestCases};
 
 // The cases that a set can hold.
@@ -109,4 +111,52 @@ pub fn count(a: u64) -> u32
     ensures { λ r. ⌜ r ≡ ones a ⌝ }
 {
     u64::count_ones(a)
+}
+
+// The lowest place of a set that is not empty; 64 for the empty one.
+pub fn first(a: u64) -> usize
+    ensures { λ r. ⌜ r ≡ trailingZeros 64 a ⌝ }
+    ensures lowest { λ r. ⌜ ((a ≡ 0 → ⊥) → Lowest a r) ⌝ }
+{
+    u64::trailing_zeros(a) as usize
+}
+
+// A set without its lowest place.
+pub fn rest(a: u64) -> u64
+    ensures { λ r. ⌜ ((a ≡ 0 → ⊥) → Rest a r) ⌝ }
+{
+    if a == 0 {
+        return 0;
+    }
+    a & (a - 1)
+}
+
+// `a` without place `k`.
+pub fn without(a: u64, k: u64) -> u64
+    ensures { λ r. ⌜ Without a k r ⌝ }
+{
+    if !has(a, k) {
+        return a;
+    }
+    a - (1u64 << k)
+}
+
+// `a` with place `k`, one of the 64.
+pub fn with(a: u64, k: u64) -> u64
+    ensures { λ r. ⌜ (k < 64 → With a k r) ⌝ }
+{
+    if PLACES <= k {
+        return a;
+    }
+    a | (1u64 << k)
+}
+
+// The places of `a` from `k` on.
+pub fn upper(a: u64, k: u64) -> u64
+    ensures { λ r. ⌜ Upper a k r ⌝ }
+{
+    if PLACES <= k {
+        return 0;
+    }
+    (a >> k) << k
 }

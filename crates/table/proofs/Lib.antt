@@ -2,6 +2,7 @@
 pub mod Places
 pub mod Nesting
 pub mod Transposition
+pub mod Turning
 pub mod Legality
 pub mod Steps
 pub mod Answering

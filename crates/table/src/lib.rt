@@ -8,7 +8,7 @@ ghost use Prim.Native.Nat.{_≤_, _<_};
 ghost use lib.ListN.{length};
 ghost use lib.Seq.{slice};
 ghost use Rattle.table.specs.Pairs.{Has};
-ghost use Rattle.table.specs.Transposing.{column as columnOf, transpose};
+ghost use Rattle.table.specs.Transposing.{transpose, Puts};
 ghost use Rattle.table.specs.Tables.{inRange, rowsFit, tableRefusal, rowsWithin, chainRefusal, makeTable, blankTable, transposeTable};
 ghost use Rattle.table.specs.Answers.{number, answer, refused, verdict, made};
 ghost use Rattle.table.specs.Unions.{union};
@@ -174,11 +174,10 @@ pub fn transpose_rows(rows: [u64; 64]) -> [u64; 64]
     ensures { λ r. ⌜ r ≡ transpose 64 rows ⌝ }
 {
     let mut turned = [0u64; 64];
-    let mut k: u64 = 0;
-    while k < 64 {
-        let at = k as usize;
-        turned[at] = column(&rows, k);
-        k += 1;
+    let mut i: usize = 0;
+    while i < 64 {
+        put_row(&mut turned, rows[i], i);
+        i += 1;
     }
     turned
 }
@@ -281,16 +280,15 @@ fn rows_within(outer: &[u64; 64], rows: &[u64; 64]) -> bool
     true
 }
 
-// The gauges that respond under the case at place `k`, as a set.
-fn column(rows: &[u64; 64], k: u64) -> u64
-    requires { ⌜ (k < 64) × (length (now rows) ≡ 64) ⌝ }
-    ensures { λ r. ⌜ r ≡ columnOf (now (rows .entry)) k ⌝ }
+// Puts place `i` into the rows at the places of a set: the cases of the gauge at `i`, by case.
+fn put_row(turned: &mut [u64; 64], set: u64, i: usize)
+    requires { ⌜ (i < 64) × (length (now turned) ≡ 64) ⌝ }
+    ensures { λ r. ⌜ Puts set i (now (turned .entry)) (now (turned .exit)) ⌝ }
 {
-    let mut set: u64 = 0;
-    let mut i: usize = 64;
-    while 0 < i {
-        i -= 1;
-        set = set * 2 + (rows[i] >> k) % 2;
+    let mut rest = set;
+    while rest != 0 {
+        let k = sets::first(rest);
+        rest = sets::rest(rest);
+        turned[k] = sets::with(turned[k], i as u64);
     }
-    set
 }

@@ -1,42 +1,40 @@
--- `table::transpose_rows` meets its contract: the first `k` entries are the first `k` columns.
-use Prim.Native.Nat.{ℕ, _-_}
+-- `table::transpose_rows` meets its contract: the first `i` rows are turned (`Turned`).
+use Prim.Native.Nat.{ℕ, _≤_, _-_}
 use native.Mathlib.Omega.{arith}
-use lib.ListN.{length-replicate}
-use Rattle.sets.proofs.Tabulated.{Filled, filled-none, filled-more, filled-all}
-use Rattle.table.specs.Transposing.{column, transpose}
+use lib.ListN.{length-replicate, getD-replicate}
+use Rattle.table.proofs.Turning.{Turned, turned-none, turned-more, turned-all}
 use Rattle.table.proofs.transpose_rows.Statement.{statement}
 use Rattle.table.proofs.transpose_rows.Tie as tie
 
 abbrev Inv-loop : tie.InvT-loop
-Inv-loop rows turned₀ k₀ turned k = Filled (column rows) 64 turned k
+Inv-loop rows turned₀ i₀ turned i = (i ≤ 64) × Turned rows turned i
 
 abbrev μ-loop : tie.MeasureT-loop
-μ-loop rows turned₀ k₀ turned k = 64 - k
+μ-loop rows turned₀ i₀ turned i = 64 - i
 
 loop-holds : tie.Need-loop-holds Inv-loop μ-loop
-loop-holds c = filled-none _ 64 _ (length-replicate {A = ℕ} 64 0)
+loop-holds c = (omega arith, turned-none _ _ (length-replicate {A = ℕ} 64 0) (λ k l. getD-replicate 64 k 0 0 l))
 
-column-requires : tie.Need-column-requires Inv-loop μ-loop
-column-requires c κs = (omega arith, c .before .before .before .good .0 .1 .0 .1)
+mul-put-row : tie.Need-mul-put-row Inv-loop μ-loop
+mul-put-row c = omega arith
 
-mul-turned : tie.Need-mul-turned Inv-loop μ-loop
-mul-turned c = omega arith
+array-read-put-row : tie.Need-array-read-put-row Inv-loop μ-loop
+array-read-put-row c = omega arith
 
-array-write-turned : tie.Need-array-write-turned Inv-loop μ-loop
-array-write-turned c = omega arith
+put-row-requires : tie.Need-put-row-requires Inv-loop μ-loop
+put-row-requires c κs = (c .before .loop-test .taken, c .before .before .loop .inv .1 .size)
 
-add-k : tie.Need-add-k Inv-loop μ-loop
-add-k c = omega arith
+add-i : tie.Need-add-i Inv-loop μ-loop
+add-i c = omega arith
 
 loop-less : tie.Need-loop-less Inv-loop μ-loop
 loop-less c = omega arith
 
 loop-again : tie.Need-loop-again Inv-loop μ-loop
-loop-again c = filled-more (c .column .result) (c .before .before .before .loop .inv) (c .before .before .loop-test .taken) (c .column .ensures)
+loop-again c = (omega arith, turned-more _ _ _ _ (c .before .before .before .loop .inv .1) (c .put-row .ensures))
 
 returns : tie.Need-returns Inv-loop μ-loop
-unfolding transpose
-returns c = filled-all (c .before .loop .k) (c .before .loop .inv) (omega arith)
+returns c = turned-all _ _ (c .before .loop .i) (c .before .loop .inv .1) (c .loop-test .left) (c .before .loop .inv .0) (c .before .before .good .0 .1 .0 .1)
 
 pub transpose-rows-spec : {M : Type 1} → statement M
 transpose-rows-spec =
@@ -45,10 +43,10 @@ transpose-rows-spec =
     Inv-loop
     μ-loop
     loop-holds
-    column-requires
-    mul-turned
-    array-write-turned
-    add-k
+    mul-put-row
+    array-read-put-row
+    put-row-requires
+    add-i
     loop-less
     loop-again
     returns)

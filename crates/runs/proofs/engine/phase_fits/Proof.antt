@@ -11,35 +11,35 @@ enum-told c = search needs
 enum-told-2 : tie.Need-enum-told-2
 enum-told-2 c = search needs
 
-next-candidate-requires : tie.Need-next-candidate-requires
-next-candidate-requires c κs = search needs
+next-candidate-of-requires : tie.Need-next-candidate-of-requires
+next-candidate-of-requires c κs = search needs
 
 enum-known-mode : tie.Need-enum-known-mode
 enum-known-mode c = search needs
 
 returns : tie.Need-returns
-returns c = phase-zero _ _ _ _ _ _ (c .before .before .mode .given .1) (c .if1 .taken)
+returns c = phase-zero _ _ _ _ _ (c .before .before .mode .given .1) (c .if1 .taken)
 
-sub-is-candidate : tie.Need-sub-is-candidate
-sub-is-candidate c = omega arith
+sub-is-candidate-of : tie.Need-sub-is-candidate-of
+sub-is-candidate-of c = omega arith
 
-is-candidate-requires : tie.Need-is-candidate-requires
-is-candidate-requires c κs = search needs
+is-candidate-of-requires : tie.Need-is-candidate-of-requires
+is-candidate-of-requires c κs = search needs
 
 enum-told-3 : tie.Need-enum-told-3
 enum-told-3 c = search needs
 
 returns-2 : tie.Need-returns-2
-returns-2 c = phase-down _ _ _ _ _ (c .enum-told .given .1)
+returns-2 c = phase-down _ _ _ _ (c .enum-told .given .1)
 
 returns-3 : tie.Need-returns-3
-returns-3 c = phase-handed _ _ _ _ _ (c .before .enum-told2 .given .1) (c .before .before .before .pre) _ (c .next-candidate .ensures)
+returns-3 c = phase-handed _ _ _ _ (c .before .enum-told2 .given .1) _ (c .next-candidate-of .ensures)
 
 returns-4 : tie.Need-returns-4
-returns-4 c = phase-back _ _ _ _ _ _ (c .before .before .before .mode .given .1) (c .before .if1 .left) _ (c .is-candidate .ensures)
+returns-4 c = phase-back _ _ _ _ _ (c .before .before .before .mode .given .1) (c .before .if1 .left) _ (c .is-candidate-of .ensures)
 
 returns-5 : tie.Need-returns-5
-returns-5 c = phase-ended _ _ _ _ _ (c .enum-told3 .given .1)
+returns-5 c = phase-ended _ _ _ _ (c .enum-told3 .given .1)
 
 pub phase-fits-spec : {M : Type 1} → statement M
 phase-fits-spec =
@@ -47,11 +47,11 @@ phase-fits-spec =
     (tie.spec
     enum-told
     enum-told-2
-    next-candidate-requires
+    next-candidate-of-requires
     enum-known-mode
     returns
-    sub-is-candidate
-    is-candidate-requires
+    sub-is-candidate-of
+    is-candidate-of-requires
     enum-told-3
     returns-2
     returns-3

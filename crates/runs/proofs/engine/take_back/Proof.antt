@@ -1,21 +1,22 @@
 -- `runs::engine::take_back` meets its contract: without picks the end, else the last pick is taken back (`back-on`).
 use mathlib.Core.Path.{refl}
 use native.Mathlib.Omega.{arith}
+use borrow.Author.Needs.{needs}
 use Rattle.runs.proofs.Stepping.{back-end, LastFacts, last-facts, back-number, back-on}
 use Rattle.runs.proofs.engine.take_back.Statement.{statement}
 use Rattle.runs.proofs.engine.take_back.Tie as tie
 
-facts : (c : tie.Else1) → LastFacts (c .before .args .n) (c .before .args .rows .now) (c .before .args .unpicked .now) (c .before .args .chain .now) (c .before .args .picks .now) (c .before .args .at) (c .before .pre .0) (c .before .pre .1) (c .before .pre .2) (omega arith)
-facts c = last-facts _ _ _ _ _ _ (c .before .pre .0) (c .before .pre .1) (c .before .pre .2) (omega arith)
+facts : (c : tie.Else1) → LastFacts (c .before .args .n) (c .before .args .rows .now) (c .before .args .chain .now) (c .before .args .picks .now) (c .before .args .at) (c .before .pre .0) (c .before .pre .1) (c .before .pre .2) (omega arith)
+facts c = last-facts _ _ _ _ _ (c .before .pre .0) (c .before .pre .1) (c .before .pre .2) (omega arith)
 
 returns : tie.Need-returns
-returns c = back-end _ _ _ _ _ _ (c .before .pre .0) (c .before .pre .1) (c .before .pre .2) (c .if1 .taken)
+returns c = back-end _ _ _ _ _ (c .before .pre .0) (c .before .pre .1) (c .before .pre .2) (c .if1 .taken)
 
 sub-last : tie.Need-sub-last
 sub-last c = omega arith
 
 element-copy-out-number : tie.Need-element-copy-out-number
-element-copy-out-number c = omega (arith, facts (c), c .before .pre .0 .few)
+element-copy-out-number c = omega (arith, facts c, c .before .pre .0 .few)
 
 cast-number : tie.Need-cast-number
 cast-number c = omega (arith, facts (c .before), c .before .before .pre .0 .few)
@@ -26,29 +27,20 @@ sub-g c = omega (arith, facts (c .before), c .before .before .pre .0 .few)
 element-write-picks : tie.Need-element-write-picks
 element-write-picks c = omega (arith, facts (c .before), c .before .before .pre .0 .few)
 
-mul-unpicked : tie.Need-mul-unpicked
-mul-unpicked c = omega (arith, facts (c .before), c .before .before .pre .0 .few)
-
-element-copy-out-unpicked : tie.Need-element-copy-out-unpicked
-element-copy-out-unpicked c = omega (arith, facts (c .before), c .before .before .pre .0 .few)
-
-mul-unpicked-2 : tie.Need-mul-unpicked-2
-mul-unpicked-2 c = omega (arith, facts (c .before .before), c .before .before .before .pre .0 .few)
-
-element-write-unpicked : tie.Need-element-write-unpicked
-element-write-unpicked c = omega (arith, facts (c .before .before), c .before .before .before .pre .0 .few)
-
 mul-chain : tie.Need-mul-chain
-mul-chain c = omega (arith, facts (c .before .before), c .before .before .before .pre .0 .few)
+mul-chain c = omega (arith, facts (c .before), c .before .before .pre .0 .few)
 
 element-write-chain : tie.Need-element-write-chain
-element-write-chain c = omega (arith, facts (c .before .before), c .before .before .before .pre .0 .few)
+element-write-chain c = omega (arith, facts (c .before), c .before .before .pre .0 .few)
 
 left-after-requires : tie.Need-left-after-requires
-left-after-requires c κs = back-number _ _ _ _ _ _ (c .before .before .before .before .before .pre .0) (c .before .before .before .before .before .pre .1) (c .before .before .before .before .before .pre .2) (omega arith) _ _ _ refl refl refl
+left-after-requires c κs = back-number _ _ _ _ _ (c .before .before .before .before .pre .0) (c .before .before .before .before .pre .1) (c .before .before .before .before .pre .2) (omega arith) _ _ _ refl refl refl
+
+with-requires : tie.Need-with-requires
+with-requires c κs = search needs
 
 returns-2 : tie.Need-returns-2
-returns-2 c = back-on _ _ _ _ _ _ (c .before .before .before .before .before .before .pre .0) (c .before .before .before .before .before .before .pre .1) (c .before .before .before .before .before .before .pre .2) (omega arith) _ _ _ refl refl refl _ (c .left-after .ensures)
+returns-2 c = back-on _ _ _ _ _ (c .before .before .before .before .before .before .pre .0) (c .before .before .before .before .before .before .pre .1) (c .before .before .before .before .before .before .pre .2) (omega arith) _ _ _ refl refl refl _ _ (c .with .ensures) (c .before .left-after .ensures)
 
 pub take-back-spec : {M : Type 1} → statement M
 take-back-spec =
@@ -60,11 +52,8 @@ take-back-spec =
     cast-number
     sub-g
     element-write-picks
-    mul-unpicked
-    element-copy-out-unpicked
-    mul-unpicked-2
-    element-write-unpicked
     mul-chain
     element-write-chain
     left-after-requires
+    with-requires
     returns-2)

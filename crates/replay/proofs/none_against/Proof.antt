@@ -1,0 +1,61 @@
+-- `replay::none_against` meets its contract: no place passed is against the picks.
+use mathlib.Core.Path.{_≡_, refl}
+use native.Mathlib.Omega.{arith}
+use borrow.Author.Needs.{needs}
+use Rattle.candidates.proofs.Within.{Passed, passed-none, passed-more}
+use Rattle.replay.proofs.Judging.{Quiet, none-found, none-all}
+use Rattle.replay.proofs.none_against.Statement.{statement}
+use Rattle.replay.proofs.none_against.Tie as tie
+
+abbrev Inv-loop : tie.InvT-loop
+Inv-loop rows unpicked left before last rest₀ rest = Passed (Quiet rows unpicked left before last) unpicked rest
+
+abbrev μ-loop : tie.MeasureT-loop
+μ-loop rows unpicked left before last rest₀ rest = rest
+
+loop-holds : tie.Need-loop-holds Inv-loop μ-loop
+loop-holds c = passed-none _ _ _ refl
+
+first-requires : tie.Need-first-requires Inv-loop μ-loop
+first-requires c κs = search needs
+
+rest-requires : tie.Need-rest-requires Inv-loop μ-loop
+rest-requires c κs = search needs
+
+mul-against : tie.Need-mul-against Inv-loop μ-loop
+mul-against c = omega (arith, c .before .first .ensures .1 (c .before .before .loop-test .taken) .below)
+
+element-copy-out-against : tie.Need-element-copy-out-against Inv-loop μ-loop
+element-copy-out-against c = c .before .first .ensures .1 (c .before .before .loop-test .taken) .below
+
+against-requires : tie.Need-against-requires Inv-loop μ-loop
+against-requires c κs = search needs
+
+returns : tie.Need-returns Inv-loop μ-loop
+returns c = none-found _ _ _ _ _ _ _ _ (c .before .before .before .before .before .before .loop .inv) (c .before .before .before .before .first .ensures .1 (c .before .before .before .before .before .loop-test .taken)) (c .before .against .ensures) (c .if1 .taken)
+
+loop-less : tie.Need-loop-less Inv-loop μ-loop
+loop-less c = c .before .before .before .rest .ensures (c .before .before .before .before .before .loop-test .taken) .fewer
+
+loop-again : tie.Need-loop-again Inv-loop μ-loop
+loop-again c = passed-more _ _ _ _ _ (c .before .before .before .before .before .before .loop .inv) (c .before .before .before .before .first .ensures .0) (c .before .before .before .rest .ensures (c .before .before .before .before .before .loop-test .taken)) (c .before .against .ensures .no (c .if1 .left))
+
+returns-2 : tie.Need-returns-2 Inv-loop μ-loop
+returns-2 c = none-all _ _ _ _ _ _ (c .before .loop .inv) (c .loop-test .left)
+
+pub none-against-spec : {M : Type 1} → statement M
+none-against-spec =
+    tie.close
+    (tie.spec
+    Inv-loop
+    μ-loop
+    loop-holds
+    first-requires
+    rest-requires
+    mul-against
+    element-copy-out-against
+    against-requires
+    returns
+    loop-less
+    loop-again
+    returns-2)

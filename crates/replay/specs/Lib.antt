@@ -1,0 +1,2 @@
+-- What a reader must believe of picks handed in.
+pub mod Picked
