@@ -14,16 +14,16 @@ use Rattle.table.specs.Tables.{Legal, tableRows}
 use Rattle.table.proofs.Padding.{pad-length, pad-getD}
 use Rattle.table.proofs.Places.{row-past, within-sub}
 use Rattle.table.proofs.Legality.{length-rows, row-tableRows}
-use Rattle.walk.specs.Machine.{State, Given, nothing, hands, ends}
-use Rattle.walk.specs.Calls.{Answer, spent, handed, Call, mostBudget}
-use Rattle.walk.specs.Reports.{says, lastOf}
-use Rattle.walk.proofs.Calls.{Paid, cost, cost-lap, cost-pos, call-law}
-use Rattle.walk.proofs.Reports.{calls-whole, calls-spent}
-use Rattle.listing.specs.Lists.{gaugeSide}
-use Rattle.listing.specs.Picks.{candidates}
-use Rattle.listing.specs.Rules.{handOut, callOn, chainOf, ReachedOn}
-use Rattle.listing.proofs.CandidateTree.{candidate-tree, reached-fits}
-use Rattle.listing.proofs.ChainRows.{chainOf-within}
+use Rattle.rules.specs.Machine.{State, Given, nothing, hands, ends}
+use Rattle.rules.specs.Calls.{Answer, spent, handed, Call, mostBudget}
+use Rattle.rules.specs.Reports.{says, lastOf}
+use Rattle.rules.proofs.Calls.{Paid, cost, cost-lap, cost-pos, call-law}
+use Rattle.rules.proofs.Reports.{calls-whole, calls-spent}
+use Rattle.lists.specs.Lists.{gaugeSide}
+use Rattle.lists.specs.Picks.{candidates}
+use Rattle.lists.specs.OnTable.{handOut, callOn, chainOf, ReachedOn}
+use Rattle.lists.proofs.CandidateTree.{candidate-tree, reached-fits}
+use Rattle.lists.proofs.ChainRows.{chainOf-within}
 use Rattle.blocks.specs.Filling.{pairTable}
 
 below : (a b n : ℕ) → n ≤ 64 → a ⊆ b → b < 2 ^ n → a < 2 ^ n

@@ -9,11 +9,11 @@ use lib.ListN.{length, drop, replicate, length-replicate}
 use Rattle.table.specs.declared.Table.{Table}
 use Rattle.table.specs.Tables.{Legal, tableRefusal}
 use Rattle.table.proofs.Legality.{legal-passes}
-use Rattle.walk.specs.Sequences.{factorial}
-use Rattle.walk.specs.Machine.{State, fresh}
-use Rattle.walk.specs.Calls.{Call, mostBudget, answered}
-use Rattle.listing.specs.Lists.{gaugeSide, GaugeList}
-use Rattle.listing.specs.Rules.{ReachedOn, callOn}
+use Rattle.rules.specs.Sequences.{factorial}
+use Rattle.rules.specs.Machine.{State, fresh}
+use Rattle.rules.specs.Calls.{Call, mostBudget, answered}
+use Rattle.lists.specs.Lists.{gaugeSide, GaugeList}
+use Rattle.lists.specs.OnTable.{ReachedOn, callOn}
 use Rattle.runs.specs.Paused.{Value, paused}
 use Rattle.runs.specs.Calling.{PausedAt}
 use Rattle.runs.proofs.Answered.{paused-state}

@@ -9,19 +9,19 @@ use lib.Seq.{take-at, drop-drop, drop-append-add}
 use Rattle.table.specs.declared.Table.{Table}
 use Rattle.table.specs.Tables.{Legal, tableRefusal}
 use Rattle.table.proofs.Legality.{legal-of}
-use Rattle.walk.specs.Machine.{State, fresh}
-use Rattle.walk.specs.Calls.{Answer, refused, spent, handed, end, Call, mostBudget, answered, handouts}
-use Rattle.walk.proofs.Calls.{call-law}
-use Rattle.walk.proofs.Reports.{call-only18}
-use Rattle.listing.specs.Lists.{gaugeSide}
-use Rattle.listing.specs.Picks.{candidates}
-use Rattle.listing.specs.Rules.{handOut, ReachedOn, callOn}
-use Rattle.listing.proofs.CandidateTree.{candidate-tree, reached-fits}
+use Rattle.rules.specs.Machine.{State, fresh}
+use Rattle.rules.specs.Calls.{Answer, refused, spent, handed, end, Call, mostBudget, answered, handouts}
+use Rattle.rules.proofs.Calls.{call-law}
+use Rattle.rules.proofs.Reports.{call-only18}
+use Rattle.lists.specs.Lists.{gaugeSide}
+use Rattle.lists.specs.Picks.{candidates}
+use Rattle.lists.specs.OnTable.{handOut, ReachedOn, callOn}
+use Rattle.lists.proofs.CandidateTree.{candidate-tree, reached-fits}
 use Rattle.runs.specs.Paused.{Value, paused, blankValue}
 use Rattle.runs.specs.Calling.{PausedAt}
 use Rattle.writer.specs.Writing.{writeFile}
 use Rattle.blocks.specs.Filling.{pairTable, files, longest, Filling, made, after, isEnd, hasEnd, Untouched, Fills, Filled}
-use Rattle.blocks.specs.Turning.{Checked, placed, Added, Turned, FillsOn, FullOn}
+use Rattle.blocks.specs.private.Turning.{Checked, placed, Added, Turned, FillsOn, FullOn}
 use Rattle.blocks.proofs.Chains.{never-spent}
 
 -- ---- lists of calls, in two parts

@@ -11,15 +11,15 @@ use lib.Seq.{take-at}
 use Rattle.table.specs.declared.Table.{Table}
 use Rattle.table.specs.Tables.{Legal, tableRefusal}
 use Rattle.table.proofs.Legality.{legal-of, legal-passes}
-use Rattle.walk.specs.Sequences.{factorial}
-use Rattle.walk.specs.Machine.{State, fresh}
-use Rattle.walk.specs.Calls.{Answer, refused, spent, handed, end, Call, handouts}
-use Rattle.listing.specs.Lists.{gaugeSide, GaugeList}
-use Rattle.listing.specs.Rules.{ReachedOn, callsOn}
-use Rattle.listing.specs.Demand.{Demand}
-use Rattle.listing.proofs.Listed.{list-unique}
-use Rattle.listing.proofs.BothSides.{gauge-fair}
-use Rattle.listing.proofs.Demand.{demand3}
+use Rattle.rules.specs.Sequences.{factorial}
+use Rattle.rules.specs.Machine.{State, fresh}
+use Rattle.rules.specs.Calls.{Answer, refused, spent, handed, end, Call, handouts}
+use Rattle.lists.specs.Lists.{gaugeSide, GaugeList}
+use Rattle.lists.specs.OnTable.{ReachedOn, callsOn}
+use Rattle.lists.specs.Demand.{Demand}
+use Rattle.lists.proofs.Listed.{list-unique}
+use Rattle.lists.proofs.BothSides.{gauge-fair}
+use Rattle.lists.proofs.Demand.{demand3}
 use Rattle.runs.specs.Paused.{Value, paused}
 use Rattle.runs.specs.Calling.{PausedAt, told, Calls}
 use Rattle.runs.proofs.Demands.{calls-made}

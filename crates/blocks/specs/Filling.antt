@@ -9,12 +9,12 @@ use lib.ListN.{length, take, drop}
 use Rattle.table.specs.declared.Table.{Table}
 use Rattle.table.specs.Tables.{tableRefusal, padded}
 use Rattle.table.specs.Answers.{verdict}
-use Rattle.walk.specs.Sequences.{factorial}
-use Rattle.walk.specs.Machine.{State, fresh}
-use Rattle.walk.specs.Calls.{Answer, refused, spent, handed, end, Call, callsFrom, stateAfter, handouts}
-use Rattle.listing.specs.Lists.{gaugeSide, GaugeList}
-use Rattle.listing.specs.Picks.{candidates}
-use Rattle.listing.specs.Rules.{handOut}
+use Rattle.rules.specs.Sequences.{factorial}
+use Rattle.rules.specs.Machine.{State, fresh}
+use Rattle.rules.specs.Calls.{Answer, refused, spent, handed, end, Call, callsFrom, stateAfter, handouts}
+use Rattle.lists.specs.Lists.{gaugeSide, GaugeList}
+use Rattle.lists.specs.Picks.{candidates}
+use Rattle.lists.specs.OnTable.{handOut}
 use Rattle.runs.specs.Paused.{Value, paused, blankValue, gaugeValue}
 use Rattle.runs.specs.Calling.{PausedAt}
 use Rattle.writer.specs.Writing.{writeFile}

@@ -18,7 +18,7 @@ ghost use lib.ListN.{length};
 ghost use Rattle.table.specs.Answers.{verdict, number};
 ghost use Rattle.runs.specs.Paused.{gaugeValue, blankValue};
 ghost use Rattle.blocks.specs.Filling.{Filled, filling, CarriesList};
-ghost use Rattle.blocks.specs.Turning.{Checked, FillsOn, FullOn, Put, Turned};
+ghost use Rattle.blocks.specs.private.Turning.{Checked, FillsOn, FullOn, Put, Turned};
 
 // The moves asked of one call: the greatest budget.
 const BUDGET: u64 = 1_000_000;

@@ -23,13 +23,13 @@ use Rattle.table.specs.declared.Refusal.the-variants.{NotAChain}
 use Rattle.table.proofs.Answering.{number-pos, verdict-injective}
 use Rattle.table.proofs.Legality.{ChainFacts, chain-facts, length-rows, row-tableRows, row-chainRows, chain-within}
 use Rattle.judge.specs.Judging.{judgement, Judged}
-use Rattle.judge.specs.Tests.{allNested}
+use Rattle.judge.specs.private.RowTests.{allNested}
 use Rattle.judge.specs.declared.Judgement.{Judgement}
 use Rattle.judge.specs.declared.Judgement.the-variants.{Yes, No, Refused}
 use Rattle.judge.proofs.NestedTest.{chain-of-test, test-of-chain}
-use Rattle.listing.specs.Rules.{chainOf}
-use Rattle.listing.proofs.Growing.{grow, grow-first, first-unique}
-use Rattle.candidates.proofs.AfterPicks.{full, Rows}
+use Rattle.lists.specs.OnTable.{chainOf}
+use Rattle.lists.proofs.Growing.{grow, grow-first, first-unique}
+use Rattle.search.proofs.AfterPicks.{full, Rows}
 use Rattle.table.specs.declared.Verdict.{Verdict}
 use Rattle.extend.specs.declared.Extended.{Extended}
 use Rattle.extend.specs.Extending.{extended, refusedBy, FirstRows, Grown, Extends}

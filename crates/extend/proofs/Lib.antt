@@ -1,4 +1,4 @@
 -- Laws that belong to no one function.
-pub mod Turns
+pub mod PickLoops
 pub mod Picking
 pub mod Answers

@@ -17,19 +17,19 @@ use Rattle.sets.specs.Lists.{allBelow}
 use Rattle.sets.proofs.Tests.{and-l, is-false}
 use Rattle.sets.proofs.Order.{is-subset, zero-sub}
 use Rattle.table.specs.Pairs.{row}
-use Rattle.listing.specs.PickSequence.{isIn}
-use Rattle.listing.specs.Picks.{candidate, remainder, select}
-use Rattle.listing.specs.Rules.{chainOf}
-use Rattle.listing.proofs.Selecting.{head-select, nil-select}
-use Rattle.listing.proofs.Candidates.{cand-of}
-use Rattle.listing.proofs.ChainRows.{length-chainOf, chainOf-snoc}
-use Rattle.listing.proofs.Growing.{covers, fitting, growFrom, grow, grow-end, grow-more}
-use Rattle.candidates.specs.Finding.{remainderIn, candidateIn, First}
+use Rattle.lists.specs.PickSequence.{isIn}
+use Rattle.lists.specs.Picks.{candidate, remainder, select}
+use Rattle.lists.specs.OnTable.{chainOf}
+use Rattle.lists.proofs.Selecting.{head-select, nil-select}
+use Rattle.lists.proofs.Candidates.{cand-of}
+use Rattle.lists.proofs.ChainRows.{length-chainOf, chainOf-snoc}
+use Rattle.lists.proofs.Growing.{covers, fitting, growFrom, grow, grow-end, grow-more}
+use Rattle.search.specs.Finding.{remainderIn, candidateIn, First}
 use Rattle.table.proofs.Padding.{pad-set}
-use Rattle.candidates.proofs.ChainArrays.{chain-none}
-use Rattle.candidates.proofs.AfterPicks.{full, Rows, After, after-fresh, snoc-hit, snoc-miss, remains-unpicked, candidate-in, after-pick}
-use Rattle.extend.specs.Steps.{unionTo, fitsIn}
-use Rattle.extend.proofs.Turns.{union-subset}
+use Rattle.search.proofs.ChainArrays.{chain-none}
+use Rattle.search.proofs.AfterPicks.{full, Rows, After, after-fresh, snoc-hit, snoc-miss, remains-unpicked, candidate-in, after-pick}
+use Rattle.extend.specs.private.PickSteps.{unionTo, fitsIn}
+use Rattle.extend.proofs.PickLoops.{union-subset}
 
 -- ---- what the arrays hold after some turns
 pub record Picked (r s : List ℕ) (n : ℕ) (unpicked owed : List ℕ) (left : ℕ) (rows : List ℕ) (turns : ℕ) : Type 0 where

@@ -1,5 +1,5 @@
 -- Extending a chain (01: "**Growing**: a chain of the table is answered by the first ladder in gauge order that contains it"). *Maximal
--- chain* is 01's "ladder"; the first one that contains a set of pairs is `FirstContaining` of crate `listing`, and there is exactly one for
+-- chain* is 01's "ladder"; the first one that contains a set of pairs is `FirstContaining` of crate `lists`, and there is exactly one for
 -- every chain of the table. So `Extends` leaves one answer to every table and every chain: `extends-unique` in proofs/Answers.antt.
 use mathlib.Core.Path.{_≡_}
 use mathlib.Core.List.{List}
@@ -9,7 +9,7 @@ use Rattle.table.specs.declared.Chain.{Chain}
 use Rattle.table.specs.Chains.{IsChain}
 use Rattle.table.specs.Tables.{tableRows, chainRows, chainRefusal, padded, blankChain}
 use Rattle.table.specs.Answers.{Answer, verdict}
-use Rattle.listing.specs.Growing.{FirstContaining}
+use Rattle.lists.specs.Growing.{FirstContaining}
 use Rattle.extend.specs.declared.Extended.{Extended}
 
 -- how the code's answer reads: 01's number, 0 where nothing is refused, and the chain

@@ -1,9 +1,9 @@
 // Extending a chain of a table to the first maximal chain, in gauge order, that contains it (01: "Growing"). Any table and any chain are
 // taken, however malformed; 10 to 14 are refused in 01's order, and a refusal has the blank chain beside it. No maximal chains are listed:
 // each turn picks the lowest candidate that still leaves room for the rest of the chain, at most 64 turns of at most 64 * 64 steps.
-use candidates;
 use judge;
 use judge::Judgement;
+use search;
 use sets;
 use table::Chain;
 use table::Refusal;
@@ -14,9 +14,9 @@ ghost use Prim.Native.Nat.{_≤_, _<_};
 ghost use Rattle.table.specs.Chains.{IsChain};
 ghost use Rattle.table.specs.Tables.{chainRows, chainRefusal, blankChain};
 ghost use Rattle.table.specs.Answers.{refused};
-ghost use Rattle.candidates.specs.Finding.{First};
+ghost use Rattle.search.specs.Finding.{First};
 ghost use Rattle.extend.specs.Extending.{extended, FirstRows, Extends};
-ghost use Rattle.extend.specs.Steps.{unionTo, fitsIn};
+ghost use Rattle.extend.specs.private.PickSteps.{unionTo, fitsIn};
 
 // A maximal chain, or a refusal with the blank chain. `extended` in specs/Extending.antt reads it.
 pub struct Extended {
@@ -111,7 +111,7 @@ fn fits(unpicked: &[u64; 64], left: u64, n: usize, owed: u64, g: usize) -> bool
     if !sets::subset(owed, unpicked[g] & left) {
         return false;
     }
-    candidates::is_candidate(unpicked, left, n, g)
+    search::is_candidate(unpicked, left, n, g)
 }
 
 // The cases of the first `n` rows.

@@ -11,7 +11,7 @@ use Rattle.table.specs.Chains.{IsChain, IsMaximal}
 use Rattle.table.proofs.Legality.{within-rows}
 use Rattle.table.proofs.Places.{sub-within}
 use Rattle.table.specs.Tables.{rowsWithin}
-use Rattle.judge.specs.Tests.{nested, nestedWith, allNested, narrowed, widest, allWidest}
+use Rattle.judge.specs.private.RowTests.{nested, nestedWith, allNested, narrowed, widest, allWidest}
 use Rattle.judge.proofs.NestedTest.{chain-of-test, test-of-chain}
 use Rattle.judge.proofs.WidestTest.{test-of-maximal}
 

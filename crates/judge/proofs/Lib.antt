@@ -1,6 +1,6 @@
 -- Laws that belong to no one function: the judges' tests decide the definitions.
 pub mod NestedTest
 pub mod WidestTest
-pub mod Turns
+pub mod RowLoops
 pub mod Verdicts
 pub mod KnownChains

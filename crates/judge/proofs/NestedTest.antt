@@ -16,7 +16,7 @@ use Rattle.table.specs.Pairs.{row}
 use Rattle.table.specs.Chains.{IsChain}
 use Rattle.table.proofs.Places.{row-past}
 use Rattle.table.proofs.Nesting.{Nested, chain-nested, nested-chain}
-use Rattle.judge.specs.Tests.{nested, nestedWith, allNested}
+use Rattle.judge.specs.private.RowTests.{nested, nestedWith, allNested}
 
 pub as-true : (b : Bool) → b ≡ true → T b
 as-true b e = rw e tt

@@ -18,7 +18,7 @@ use Rattle.table.specs.declared.Refusal.{Refusal}
 use Rattle.table.proofs.Answering.{number-pos, number-injective}
 use Rattle.table.proofs.Legality.{ChainFacts, chain-facts, length-chainRows, row-chainRows, chain-within, row-tableRows}
 use Rattle.judge.specs.Judging.{judgement, Judged}
-use Rattle.judge.specs.Tests.{nested, nestedWith, allNested, widest, allWidest}
+use Rattle.judge.specs.private.RowTests.{nested, nestedWith, allNested, widest, allWidest}
 use Rattle.judge.specs.declared.Judgement.{Judgement}
 use Rattle.judge.specs.declared.Judgement.the-variants.{Yes, No, Refused}
 use Rattle.judge.proofs.NestedTest.{chain-of-test, test-of-chain}

@@ -21,7 +21,7 @@ use Rattle.table.specs.Pairs.{row, Within}
 use Rattle.table.specs.Chains.{IsChain, IsMaximal}
 use Rattle.table.proofs.Places.{row-past, within-sub, sub-within}
 use Rattle.table.proofs.Nesting.{Nested, chain-nested, nested-chain}
-use Rattle.judge.specs.Tests.{narrowed, widest, allWidest}
+use Rattle.judge.specs.private.RowTests.{narrowed, widest, allWidest}
 use Rattle.judge.proofs.NestedTest.{as-true}
 
 -- ---- the widest row is the greatest lower bound of the table's row and the rows strictly above

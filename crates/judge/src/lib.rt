@@ -11,7 +11,7 @@ ghost use Prim.Native.Nat.{_≤_, _<_};
 ghost use Rattle.table.specs.Chains.{IsChain, IsMaximal};
 ghost use Rattle.table.specs.Tables.{tableRows, chainRows, chainRefusal};
 ghost use Rattle.judge.specs.Judging.{Judged};
-ghost use Rattle.judge.specs.Tests.{nested as isNested, nestedWith, allNested, narrowed as narrowedTo, widest as widestRow, allWidest};
+ghost use Rattle.judge.specs.private.RowTests.{nested as isNested, nestedWith, allNested, narrowed as narrowedTo, widest as widestRow, allWidest};
 
 // What a judge answers. `judgement` in specs/Judging.antt reads it.
 pub enum Judgement {

@@ -1,7 +1,7 @@
--- The known tables of 01, all in one theorem (`known-tables`), and the limits that they attain (`limits-attained`). A table's gauge list is had from the list theorem of crate `listing`: the
+-- The known tables of 01, all in one theorem (`known-tables`), and the limits that they attain (`limits-attained`). A table's gauge list is had from the list theorem of crate `lists`: the
 -- chains of the leaves of the candidates, in order, are the gauge list of any table, and for a table written out they are computed. Pick
 -- sequences, numbers of pairs and moves are computed from their definitions. K6 and K7 are decided by the tests of crate `judge`, and K8 is
--- what the greedy choice of crate `listing` gives.
+-- what the greedy choice of crate `lists` gives.
 use mathlib.Core.Path.{_≡_, refl, subst}
 use mathlib.Core.Logic.{_≢_}
 use mathlib.Core.Bool.{Bool, true, false}
@@ -20,18 +20,18 @@ use Rattle.table.specs.Chains.{IsChain}
 use Rattle.table.specs.Tables.{tableRows, rowsFit, tableRefusal, rowsWithin}
 use Rattle.table.proofs.Legality.{legal-of, within-rows}
 use Rattle.table.proofs.Places.{sub-within}
-use Rattle.judge.specs.Tests.{nested, nestedWith, allNested}
+use Rattle.judge.specs.private.RowTests.{nested, nestedWith, allNested}
 use Rattle.judge.proofs.NestedTest.{chain-of-test}
 use Rattle.judge.proofs.KnownChains.{k6-within, k6-no-chain, k7-within, k7-chain, k7-not-maximal}
-use Rattle.walk.specs.Machine.{fresh, Given, nothing, hands, ends, move, after}
-use Rattle.walk.specs.Calls.{call}
-use Rattle.walk.proofs.Sequences.{All-of}
-use Rattle.listing.specs.PickSequence.{isIn, score, best, takeFrom, pickSeq}
-use Rattle.listing.specs.Lists.{GaugeList}
-use Rattle.listing.specs.Picks.{common, rulesOut, candidate, select, candidates}
-use Rattle.listing.specs.Rules.{chainRow, chainOf}
-use Rattle.listing.proofs.Listed.{chainsInOrder, gauge-list}
-use Rattle.listing.proofs.Growing.{covers, fitting, growFrom, grow, grow-first}
+use Rattle.rules.specs.Machine.{fresh, Given, nothing, hands, ends, move, after}
+use Rattle.rules.specs.Calls.{call}
+use Rattle.rules.proofs.Sequences.{All-of}
+use Rattle.lists.specs.PickSequence.{isIn, score, best, takeFrom, pickSeq}
+use Rattle.lists.specs.Lists.{GaugeList}
+use Rattle.lists.specs.Picks.{common, rulesOut, candidate, select, candidates}
+use Rattle.lists.specs.OnTable.{chainRow, chainOf}
+use Rattle.lists.proofs.Listed.{chainsInOrder, gauge-list}
+use Rattle.lists.proofs.Growing.{covers, fitting, growFrom, grow, grow-first}
 use Rattle.known.specs.KnownTables.{pairs, count, Entry, Shape, Lists, moveOf, k1, k2, k3, k4, k5, k10, Known, K1, K2, K3, K4, K5, K6, K7, K8, K9, K10, Holds, knownTables, AllKnown, Attained}
 
 -- ---- the gauge list of a table, from what is computed

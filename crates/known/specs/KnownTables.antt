@@ -12,14 +12,14 @@ use Rattle.table.specs.declared.Table.{Table}
 use Rattle.table.specs.Pairs.{Within}
 use Rattle.table.specs.Chains.{IsChain, IsMaximal}
 use Rattle.table.specs.Tables.{Legal, tableRows}
-use Rattle.walk.specs.Sequences.{All, factorial}
-use Rattle.walk.specs.Machine.{Down, Handed, Back, Ended, at, fresh, nothing, hands, ends, Move, gives, move, after}
-use Rattle.walk.specs.Calls.{Call, handed, movesUntil, isHandOut, isHandOutOrEnd}
-use Rattle.listing.specs.PickSequence.{pickSeq}
-use Rattle.listing.specs.Lists.{gaugeSide, GaugeList}
-use Rattle.listing.specs.Growing.{FirstContaining}
-use Rattle.listing.specs.Picks.{candidates}
-use Rattle.listing.specs.Rules.{callsOn}
+use Rattle.rules.specs.Sequences.{All, factorial}
+use Rattle.rules.specs.Machine.{Down, Handed, Back, Ended, at, fresh, nothing, hands, ends, Move, gives, move, after}
+use Rattle.rules.specs.Calls.{Call, handed, movesUntil, isHandOut, isHandOutOrEnd}
+use Rattle.lists.specs.PickSequence.{pickSeq}
+use Rattle.lists.specs.Lists.{gaugeSide, GaugeList}
+use Rattle.lists.specs.Growing.{FirstContaining}
+use Rattle.lists.specs.Picks.{candidates}
+use Rattle.lists.specs.OnTable.{callsOn}
 
 -- ---- sets and tables written out
 -- a set of cases by its case numbers: case c is place c - 1

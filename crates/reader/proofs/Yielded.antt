@@ -27,7 +27,7 @@ use Rattle.reader.specs.declared.PairLine.{PairLine}
 use Rattle.reader.specs.declared.PairLine.the-variants.{Pair, Skip as skipPair, Bad as badPair}
 use Rattle.reader.proofs.KindOf.{Bounded, pair-range, size-range}
 use Rattle.table.proofs.Answering.{number-pos}
-use Rattle.reader.proofs.Turns.{file-long}
+use Rattle.reader.proofs.LineLoops.{file-long}
 
 -- the rows of a table of gs gauges and cs cases
 record Rows (gs cs : ℕ) (rows : List ℕ) : Type 0 where

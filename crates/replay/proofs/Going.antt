@@ -20,19 +20,19 @@ use Rattle.sets.proofs.Order.{meet-comm, sub-zero, zero-sub}
 use Rattle.table.specs.Pairs.{row}
 use Rattle.table.specs.Tables.{noRows, padded}
 use Rattle.table.proofs.Places.{row-past}
-use Rattle.walk.specs.Fitting.{Valid}
-use Rattle.walk.proofs.Trees.{valid-kid}
-use Rattle.listing.specs.PickSequence.{isIn}
-use Rattle.listing.specs.Picks.{common, remainder, candidates}
-use Rattle.listing.specs.Rules.{chainOf}
-use Rattle.listing.proofs.Unpicked.{Un, un-nil, isIn-snoc}
-use Rattle.listing.proofs.Remainders.{remainder-left}
-use Rattle.listing.proofs.Candidates.{Cand, mem-candidates}
-use Rattle.listing.proofs.Replaying.{Clear, Stands, stands-none, stands-twin, stands-fewer, twin-needed}
-use Rattle.candidates.specs.Finding.{within}
-use Rattle.candidates.proofs.Within.{clash, length-within, row-in, row-out}
-use Rattle.candidates.proofs.ChainArrays.{chain-none, chain-place}
-use Rattle.candidates.proofs.AfterPicks.{full, After}
+use Rattle.rules.specs.private.Fitting.{Valid}
+use Rattle.rules.proofs.Trees.{valid-kid}
+use Rattle.lists.specs.PickSequence.{isIn}
+use Rattle.lists.specs.Picks.{common, remainder, candidates}
+use Rattle.lists.specs.OnTable.{chainOf}
+use Rattle.lists.proofs.Unpicked.{Un, un-nil, isIn-snoc}
+use Rattle.lists.proofs.Remainders.{remainder-left}
+use Rattle.lists.proofs.Candidates.{Cand, mem-candidates}
+use Rattle.lists.proofs.Replaying.{Clear, Stands, stands-none, stands-twin, stands-fewer, twin-needed}
+use Rattle.search.specs.Finding.{within}
+use Rattle.search.proofs.Within.{clash, length-within, row-in, row-out}
+use Rattle.search.proofs.ChainArrays.{chain-none, chain-place}
+use Rattle.search.proofs.AfterPicks.{full, After}
 use Rattle.replay.specs.Picked.{Arrays, Front, Replays, Goes, Judges, NoneAgainst}
 use Rattle.replay.specs.declared.Replayed.{Replayed}
 use Rattle.replay.specs.declared.Judged.{Judged}

@@ -10,7 +10,7 @@ use borrow.Author.Tests.{ltb-true, ltb-false}
 use Rattle.sets.specs.Sets.{bit}
 use Rattle.sets.specs.First.{Lowest}
 use Rattle.table.specs.Pairs.{row}
-use Rattle.candidates.proofs.Within.{clash, Passed, passed-all}
+use Rattle.search.proofs.Within.{clash, Passed, passed-all}
 use Rattle.replay.specs.Picked.{Goes, Judges, Against, NoneAgainst}
 use Rattle.replay.specs.declared.Judged.{Judged}
 

@@ -5,8 +5,8 @@ use Prim.Native.Nat.{ℕ, zero, suc, _-_, _<_}
 use native.Mathlib.Omega.{arith}
 use lib.ListN.{length, getD, take}
 use lib.Seq.{append-snoc}
-use Rattle.walk.specs.Fitting.{ValidFrom, Valid}
-use Rattle.walk.proofs.Trees.{valid-snoc}
+use Rattle.rules.specs.private.Fitting.{ValidFrom, Valid}
+use Rattle.rules.proofs.Trees.{valid-snoc}
 
 -- ---- numbers and places
 pub length-numbers : (p : List ℕ) → length (map suc p) ≡ length p

@@ -9,11 +9,11 @@ use lib.ListN.{length, take}
 use Rattle.sets.specs.Sets.{bit, _⊆_, lowest}
 use Rattle.table.specs.Pairs.{row}
 use Rattle.table.specs.Tables.{noRows, padded}
-use Rattle.walk.specs.Fitting.{Valid}
-use Rattle.listing.specs.Picks.{candidates}
-use Rattle.listing.specs.Rules.{chainOf}
-use Rattle.candidates.specs.Finding.{within}
-use Rattle.candidates.proofs.AfterPicks.{After}
+use Rattle.rules.specs.private.Fitting.{Valid}
+use Rattle.lists.specs.Picks.{candidates}
+use Rattle.lists.specs.OnTable.{chainOf}
+use Rattle.search.specs.Finding.{within}
+use Rattle.search.proofs.AfterPicks.{After}
 use Rattle.replay.specs.declared.Replayed.{Replayed}
 use Rattle.replay.specs.declared.Judged.{Judged}
 

@@ -1,6 +1,6 @@
 // Picks handed in (01, "Moves of a run"): whether they can have been made one after the other, each a candidate after those before it,
 // judged in one pass over the picks and one over what is unpicked then. Any rows and any picks are taken, and nothing is refused; the
-// theory is proofs/Replaying.antt of crate `listing`.
+// theory is proofs/Replaying.antt of crate `lists`.
 use sets;
 ghost use mathlib.Core.Path.{_≡_};
 ghost use mathlib.Core.Bool.{false};

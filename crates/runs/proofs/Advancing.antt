@@ -4,10 +4,10 @@ use mathlib.Core.List.{List}
 use Prim.Native.Nat.{ℕ, suc, _+_, _-_, _≤_, _<_}
 use native.Mathlib.Omega.{arith}
 use lib.ListN.{take}
-use Rattle.walk.specs.Machine.{State, Move, gives, nothing, hands, ends, move}
-use Rattle.walk.specs.Calls.{spent, Call, result, proceed, carry}
-use Rattle.listing.specs.Picks.{candidates}
-use Rattle.runs.specs.Working.{Ahead, ComesOut, stateOf, Holds, SteppedBy, Stepped, Advanced, reportOf}
+use Rattle.rules.specs.Machine.{State, Move, gives, nothing, hands, ends, move}
+use Rattle.rules.specs.Calls.{spent, Call, result, proceed, carry}
+use Rattle.lists.specs.Picks.{candidates}
+use Rattle.runs.specs.private.Working.{Ahead, ComesOut, stateOf, Holds, SteppedBy, Stepped, Advanced, reportOf}
 use Rattle.runs.specs.declared.engine.Done.the-variants.{HandedOut, Spent, End}
 use Rattle.runs.specs.declared.engine.Spot.{Spot}
 use Rattle.runs.specs.declared.engine.Report.{Report}

@@ -11,21 +11,21 @@ use Rattle.table.specs.declared.Refusal.{Refusal}
 use Rattle.table.specs.declared.Chain.{Chain}
 use Rattle.table.proofs.Answering.{answer-refused, answer-given}
 use Rattle.table.specs.declared.Table.{Table}
-use Rattle.walk.specs.Machine.{Phase, State, at, fresh}
-use Rattle.walk.specs.Calls.{refused, mostBudget}
-use Rattle.walk.proofs.Calls.{call-above, call-within}
-use Rattle.listing.specs.Lists.{Side}
-use Rattle.listing.specs.Picks.{candidates}
-use Rattle.listing.specs.Rules.{handOut, callOn}
-use Rattle.listing.proofs.CandidateTree.{reached-fits}
+use Rattle.rules.specs.Machine.{Phase, State, at, fresh}
+use Rattle.rules.specs.Calls.{refused, mostBudget}
+use Rattle.rules.proofs.Calls.{call-above, call-within}
+use Rattle.lists.specs.Lists.{Side}
+use Rattle.lists.specs.Picks.{candidates}
+use Rattle.lists.specs.OnTable.{handOut, callOn}
+use Rattle.lists.proofs.CandidateTree.{reached-fits}
 use Rattle.runs.specs.Paused.{Value, numbered, paused, blankValue}
 use Rattle.runs.specs.Calling.{Step, refusal, byRules, told, PausedAt, Called}
-use Rattle.runs.specs.Working.{ComesOut, doneAnswer, StandsFor}
+use Rattle.runs.specs.private.Working.{ComesOut, doneAnswer, StandsFor}
 use Rattle.runs.specs.declared.engine.Done.{Done}
 use Rattle.replay.proofs.Numbers.{length-numbers, places-numbers}
 use Rattle.runs.proofs.Padding.{take-padded}
 use Rattle.runs.proofs.Holding.{placed-numbered}
-use Rattle.runs.specs.Working.{placed}
+use Rattle.runs.specs.private.Working.{placed}
 
 -- ---- a paused value has one state
 pub paused-state : (t : Table) (s z : State) → paused t s ≡ paused t z → s ≡ z

@@ -4,17 +4,17 @@ use mathlib.Core.Bool.{Bool, true, false}
 use mathlib.Core.List.{List, map}
 use Prim.Native.Nat.{ℕ, suc, _≤_, _<_}
 use lib.ListN.{length, take}
-use Rattle.walk.specs.Machine.{Phase, State, at}
-use Rattle.walk.specs.Calls.{mostBudget}
-use Rattle.walk.specs.Fitting.{Valid}
-use Rattle.listing.specs.Picks.{candidates}
-use Rattle.runs.specs.Working.{Sized, modePhase, placed, stateOf, HoldsAt, Holds, ComesOut, Advanced, Decides, RestZero, PhaseIn, StandsFor, CarriedBy, CarriesOn, carriedOf}
+use Rattle.rules.specs.Machine.{Phase, State, at}
+use Rattle.rules.specs.Calls.{mostBudget}
+use Rattle.rules.specs.private.Fitting.{Valid}
+use Rattle.lists.specs.Picks.{candidates}
+use Rattle.runs.specs.private.Working.{Sized, modePhase, placed, stateOf, HoldsAt, Holds, ComesOut, Advanced, Decides, RestZero, PhaseIn, StandsFor, CarriedBy, CarriesOn, carriedOf}
 use Rattle.runs.specs.declared.engine.Mode.{Mode}
 use Rattle.runs.specs.declared.engine.Spot.{Spot}
 use Rattle.runs.specs.declared.engine.Fate.{Fate}
 use Rattle.runs.specs.declared.engine.Fate.the-variants.{NotReached, TooLarge, Moves}
 use Rattle.runs.specs.declared.engine.Report.{Report}
-use Rattle.candidates.specs.Finding.{within}
+use Rattle.search.specs.Finding.{within}
 use Rattle.replay.specs.Picked.{Arrays, Front, Replays}
 use Rattle.replay.specs.declared.Replayed.{Replayed}
 use Rattle.table.specs.Tables.{noRows}

@@ -19,17 +19,17 @@ use Rattle.sets.proofs.Tests.{is-true, is-false}
 use Rattle.table.specs.Pairs.{row}
 use Rattle.table.specs.Tables.{noRows}
 use Rattle.table.proofs.Places.{row-past}
-use Rattle.walk.specs.Machine.{Phase, Down, Handed, Back, Ended, State, at}
-use Rattle.walk.specs.Fitting.{ValidFrom, Valid, Fits}
-use Rattle.walk.proofs.Trees.{valid-snoc}
-use Rattle.listing.specs.PickSequence.{isIn}
-use Rattle.listing.specs.Picks.{candidate, candidates}
-use Rattle.listing.proofs.Candidates.{Cand, cand-of, of-cand, mem-candidates, no-candidate, none-candidate}
-use Rattle.listing.proofs.CandidateTree.{candidate-tree}
-use Rattle.candidates.specs.Finding.{candidateIn, First}
-use Rattle.candidates.proofs.AfterPicks.{candidate-wide}
+use Rattle.rules.specs.Machine.{Phase, Down, Handed, Back, Ended, State, at}
+use Rattle.rules.specs.private.Fitting.{ValidFrom, Valid, Fits}
+use Rattle.rules.proofs.Trees.{valid-snoc}
+use Rattle.lists.specs.PickSequence.{isIn}
+use Rattle.lists.specs.Picks.{candidate, candidates}
+use Rattle.lists.proofs.Candidates.{Cand, cand-of, of-cand, mem-candidates, no-candidate, none-candidate}
+use Rattle.lists.proofs.CandidateTree.{candidate-tree}
+use Rattle.search.specs.Finding.{candidateIn, First}
+use Rattle.search.proofs.AfterPicks.{candidate-wide}
 use Rattle.runs.specs.Paused.{numbered}
-use Rattle.runs.specs.Working.{Sized, modePhase, placed, Decides, RestZero, PhaseIn, StandsFor}
+use Rattle.runs.specs.private.Working.{Sized, modePhase, placed, Decides, RestZero, PhaseIn, StandsFor}
 use Rattle.runs.specs.declared.engine.Mode.{Mode}
 use Rattle.runs.specs.declared.engine.Mode.the-variants.{Down as modeDown, Handed as modeHanded, Back as modeBack, Ended as modeEnded}
 use Rattle.replay.specs.Picked.{Front}

@@ -1,5 +1,5 @@
 -- Demand 3 for run calls (`run-demand`): answers that are each what `Called` says, from the fresh value on, are the answers of rules 1 to 5
--- for the same budgets, and of those crate `listing` proves the demand. One proof, for either side. Each call carries it on
+-- for the same budgets, and of those crate `lists` proves the demand. One proof, for either side. Each call carries it on
 -- (`carries-demand`), the two runs share one set (`shares-set`), and there is a list of calls for every list of budgets (`calls-made`).
 use mathlib.Core.Path.{_≡_, refl, sym, ap, ap₂, _∙_, subst}
 use mathlib.Core.List.{List, [], _∷_, _++_, map, List·Memᴰ, List·Memᴰ·head, List·Memᴰ·tail, Memᴰ·map, Memᴰ·of-map}
@@ -10,19 +10,19 @@ use lib.ListN.{length}
 use Rattle.table.specs.Tables.{Legal, tableRefusal}
 use Rattle.table.specs.declared.Table.{Table}
 use Rattle.table.proofs.Legality.{legal-passes}
-use Rattle.walk.specs.Sequences.{All, factorial}
-use Rattle.walk.specs.Machine.{State, fresh}
-use Rattle.walk.specs.Calls.{Answer, refused, spent, handed, end, Call, mostBudget, callsFrom, stateAfter, answered, handouts}
-use Rattle.walk.proofs.Calls.{call-above, call-law}
-use Rattle.walk.proofs.Reports.{call-only18}
-use Rattle.walk.proofs.Ends.{Enough}
-use Rattle.listing.specs.Lists.{Side, gaugeSide, caseSide}
-use Rattle.listing.specs.Picks.{candidates}
-use Rattle.listing.specs.Rules.{handOut, ReachedOn, callOn, callsOn, leftOn}
-use Rattle.listing.specs.Demand.{OneSet}
-use Rattle.listing.proofs.CandidateTree.{candidate-tree, reached-fits}
-use Rattle.listing.proofs.BothSides.{Fair, gauge-fair, case-fair}
-use Rattle.listing.proofs.Demand.{demand3, run-ends, demand-unique, one-set}
+use Rattle.rules.specs.Sequences.{All, factorial}
+use Rattle.rules.specs.Machine.{State, fresh}
+use Rattle.rules.specs.Calls.{Answer, refused, spent, handed, end, Call, mostBudget, callsFrom, stateAfter, answered, handouts}
+use Rattle.rules.proofs.Calls.{call-above, call-law}
+use Rattle.rules.proofs.Reports.{call-only18}
+use Rattle.rules.proofs.Ends.{Enough}
+use Rattle.lists.specs.Lists.{Side, gaugeSide, caseSide}
+use Rattle.lists.specs.Picks.{candidates}
+use Rattle.lists.specs.OnTable.{handOut, ReachedOn, callOn, callsOn, leftOn}
+use Rattle.lists.specs.Demand.{OneSet}
+use Rattle.lists.proofs.CandidateTree.{candidate-tree, reached-fits}
+use Rattle.lists.proofs.BothSides.{Fair, gauge-fair, case-fair}
+use Rattle.lists.proofs.Demand.{demand3, run-ends, demand-unique, one-set}
 use Rattle.runs.specs.Paused.{Value, paused}
 use Rattle.runs.specs.Calling.{Step, byRules, told, kept, Called, Calls, left, RunDemand, KeepsDemand, CarriesDemand, sets, Ends, SharesSet}
 use Rattle.runs.proofs.Answered.{paused-state}

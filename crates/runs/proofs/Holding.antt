@@ -17,21 +17,21 @@ use Rattle.sets.proofs.Tests.{is-false}
 use Rattle.sets.proofs.Order.{meet-comm}
 use Rattle.sets.proofs.Masks.{lowest-up}
 use Rattle.table.specs.Pairs.{row}
-use Rattle.walk.specs.Machine.{Phase, Down, Handed, Back, Ended, State, at, Move, gives, nothing, hands, ends}
-use Rattle.walk.specs.Fitting.{Valid}
-use Rattle.walk.proofs.Trees.{by-last, kid-fits, valid-up, valid-kid, valid-snoc, length-snoc}
-use Rattle.listing.specs.PickSequence.{isIn}
-use Rattle.listing.specs.Picks.{common, remainder, candidates}
-use Rattle.listing.specs.Rules.{chainOf}
-use Rattle.listing.proofs.Candidates.{Cand, mem-candidates}
-use Rattle.listing.proofs.CandidateTree.{candidate-tree}
-use Rattle.listing.proofs.Remainders.{remainder-left, common-snoc}
-use Rattle.listing.proofs.ChainRows.{chainOf-snoc, length-chainOf, row-unpicked}
-use Rattle.candidates.specs.Finding.{within}
-use Rattle.candidates.proofs.ChainArrays.{chain-pick}
-use Rattle.candidates.proofs.AfterPicks.{full, Rows, After, after-pick, after-unpick, remains-unpicked}
+use Rattle.rules.specs.Machine.{Phase, Down, Handed, Back, Ended, State, at, Move, gives, nothing, hands, ends}
+use Rattle.rules.specs.private.Fitting.{Valid}
+use Rattle.rules.proofs.Trees.{by-last, kid-fits, valid-up, valid-kid, valid-snoc, length-snoc}
+use Rattle.lists.specs.PickSequence.{isIn}
+use Rattle.lists.specs.Picks.{common, remainder, candidates}
+use Rattle.lists.specs.OnTable.{chainOf}
+use Rattle.lists.proofs.Candidates.{Cand, mem-candidates}
+use Rattle.lists.proofs.CandidateTree.{candidate-tree}
+use Rattle.lists.proofs.Remainders.{remainder-left, common-snoc}
+use Rattle.lists.proofs.ChainRows.{chainOf-snoc, length-chainOf, row-unpicked}
+use Rattle.search.specs.Finding.{within}
+use Rattle.search.proofs.ChainArrays.{chain-pick}
+use Rattle.search.proofs.AfterPicks.{full, Rows, After, after-pick, after-unpick, remains-unpicked}
 use Rattle.runs.specs.Paused.{numbered}
-use Rattle.runs.specs.Working.{placed, stateOf, HoldsAt, leftAfter, NumberAt, spotDown, Stepped}
+use Rattle.runs.specs.private.Working.{placed, stateOf, HoldsAt, leftAfter, NumberAt, spotDown, Stepped}
 use Rattle.runs.specs.declared.engine.Mode.the-variants.{Back as modeBack}
 use Rattle.runs.specs.declared.engine.Spot.{Spot}
 use Rattle.runs.specs.declared.engine.Moved.the-variants.{On, Out, Over}

@@ -14,9 +14,9 @@ use Rattle.table.specs.declared.Gauge.{Gauge}
 use Rattle.table.specs.declared.Case.{Case}
 use Rattle.table.specs.declared.Verdict.{Verdict}
 use Rattle.table.proofs.Answering.{named, named-number, verdict-injective}
-use Rattle.walk.specs.Machine.{Phase, Down, Handed, Back, Ended, State}
-use Rattle.walk.specs.Calls.{Answer, refused, spent, handed, end}
-use Rattle.listing.specs.Lists.{Side, gaugeSide, caseSide}
+use Rattle.rules.specs.Machine.{Phase, Down, Handed, Back, Ended, State}
+use Rattle.rules.specs.Calls.{Answer, refused, spent, handed, end}
+use Rattle.lists.specs.Lists.{Side, gaugeSide, caseSide}
 use Rattle.runs.specs.declared.Phase.the-variants.{Down as gaugeDown, Handed as gaugeHanded, Back as gaugeBack, Ended as gaugeEnded}
 use Rattle.runs.specs.declared.Phase.{Phase as GaugePhase}
 use Rattle.runs.specs.declared.CasePhase.the-variants.{Down as caseDown, Handed as caseHanded, Back as caseBack, Ended as caseEnded}

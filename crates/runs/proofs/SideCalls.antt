@@ -5,15 +5,15 @@ use mathlib.Core.List.{List}
 use Prim.Native.Nat.{ℕ}
 use lib.ListN.{length, take}
 use Rattle.table.specs.Tables.{chainRows, blankChain, tableRefusal, padded}
-use Rattle.walk.specs.Calls.{spent, handed, end}
+use Rattle.rules.specs.Calls.{spent, handed, end}
 use Rattle.table.specs.declared.Table.{Table}
 use Rattle.table.specs.declared.Chain.{Chain}
-use Rattle.walk.specs.Machine.{Phase, State}
-use Rattle.listing.specs.Lists.{Side}
-use Rattle.listing.specs.Rules.{chainOf, handOut}
+use Rattle.rules.specs.Machine.{Phase, State}
+use Rattle.lists.specs.Lists.{Side}
+use Rattle.lists.specs.OnTable.{chainOf, handOut}
 use Rattle.runs.specs.Paused.{Value}
 use Rattle.runs.specs.Calling.{Step, outcome, refusal, Called}
-use Rattle.runs.specs.Working.{modePhase, doneOutcome, doneChain, CarriedBy, CarriesOn, carriedBy, carriedStep}
+use Rattle.runs.specs.private.Working.{modePhase, doneOutcome, doneChain, CarriedBy, CarriesOn, carriedBy, carriedStep}
 use Rattle.runs.specs.declared.Outcome.{Outcome}
 use Rattle.runs.specs.declared.engine.Mode.{Mode}
 use Rattle.runs.specs.declared.engine.Done.{Done}

@@ -23,13 +23,13 @@ use Rattle.table.proofs.Places.{row-past}
 use Rattle.table.proofs.Transposition.{bit-none, bit-column, length-transpose, cases-transpose, cases-within}
 use Rattle.table.proofs.Legality.{length-rows, legal-cases}
 use Rattle.table.proofs.Sides.{rows-exchanged, exchanged-legal}
-use Rattle.walk.specs.Machine.{Phase, State}
-use Rattle.listing.specs.Lists.{Side, gaugeSide, caseSide}
-use Rattle.listing.specs.Rules.{chainOf, handOut}
-use Rattle.listing.proofs.ChainRows.{length-chainOf, chainOf-within}
+use Rattle.rules.specs.Machine.{Phase, State}
+use Rattle.lists.specs.Lists.{Side, gaugeSide, caseSide}
+use Rattle.lists.specs.OnTable.{chainOf, handOut}
+use Rattle.lists.proofs.ChainRows.{length-chainOf, chainOf-within}
 use Rattle.runs.specs.Paused.{Value, paused}
 use Rattle.runs.specs.Calling.{outcome, byRules}
-use Rattle.runs.specs.Working.{Sized, doneAnswer, doneOutcome, doneChain, StandsFor}
+use Rattle.runs.specs.private.Working.{Sized, doneAnswer, doneOutcome, doneChain, StandsFor}
 use Rattle.runs.specs.declared.engine.Done.{Done}
 use Rattle.runs.specs.declared.engine.Done.the-variants.{HandedOut, Spent, End}
 use Rattle.runs.proofs.Padding.{take-padded}

@@ -14,20 +14,20 @@ use Rattle.sets.specs.Sets.{_⊆_}
 use Rattle.sets.proofs.Order.{zero-sub}
 use Rattle.table.specs.Pairs.{row}
 use Rattle.table.proofs.Places.{row-past}
-use Rattle.walk.specs.Machine.{Phase, Down, Handed, Back, Ended, State, at, Move, gives, ends, cutLast, takeBack, pick, down, back, above, move}
-use Rattle.walk.specs.Fitting.{Valid, Fits}
-use Rattle.walk.proofs.Trees.{cut-snoc}
-use Rattle.listing.specs.Picks.{common, candidates}
-use Rattle.listing.specs.Rules.{chainOf}
-use Rattle.listing.proofs.Candidates.{Cand, cand-of}
-use Rattle.candidates.specs.Finding.{candidateIn, First, within}
-use Rattle.candidates.proofs.Within.{within-without, within-with}
-use Rattle.candidates.proofs.AfterPicks.{full, Rows, After, lowest-found, lowest-none, above-found, above-none, found-candidate}
+use Rattle.rules.specs.Machine.{Phase, Down, Handed, Back, Ended, State, at, Move, gives, ends, cutLast, takeBack, pick, down, back, above, move}
+use Rattle.rules.specs.private.Fitting.{Valid, Fits}
+use Rattle.rules.proofs.Trees.{cut-snoc}
+use Rattle.lists.specs.Picks.{common, candidates}
+use Rattle.lists.specs.OnTable.{chainOf}
+use Rattle.lists.proofs.Candidates.{Cand, cand-of}
+use Rattle.search.specs.Finding.{candidateIn, First, within}
+use Rattle.search.proofs.Within.{within-without, within-with}
+use Rattle.search.proofs.AfterPicks.{full, Rows, After, lowest-found, lowest-none, above-found, above-none, found-candidate}
 use Rattle.sets.specs.First.{Without, With}
 use Rattle.sets.proofs.Tests.{is-false}
-use Rattle.listing.specs.PickSequence.{isIn}
+use Rattle.lists.specs.PickSequence.{isIn}
 use Rattle.runs.specs.Paused.{numbered}
-use Rattle.runs.specs.Working.{Sized, modePhase, placed, stateOf, HoldsAt, Holds, TakesBack, NumberAt, leftAfter, spotDown, Stepped}
+use Rattle.runs.specs.private.Working.{Sized, modePhase, placed, stateOf, HoldsAt, Holds, TakesBack, NumberAt, leftAfter, spotDown, Stepped}
 use Rattle.runs.specs.declared.engine.Mode.{Mode}
 use Rattle.runs.specs.declared.engine.Mode.the-variants.{Down as modeDown, Handed as modeHanded, Back as modeBack, Ended as modeEnded}
 use Rattle.runs.specs.declared.engine.Spot.{Spot}

@@ -1,6 +1,6 @@
 -- Run calls (01, "A run call has a budget ..", refusals 10, 11, 15 and 18) and demand 3 for them. A call's answer, of either side, reads as a
 -- `Step`; `Called` says what it is for every paused value and budget; `Calls` says it of a list of calls, each from the value that the
--- last unrefused call returned; and `KeepsDemand`, which each fresh start promises, is demand 3 of crate `listing` for every such list. Each run
+-- last unrefused call returned; and `KeepsDemand`, which each fresh start promises, is demand 3 of crate `lists` for every such list. Each run
 -- call promises it too (`CarriesDemand`), and the fresh starts promise that the two runs share one set (`SharesSet`).
 use mathlib.Core.Path.{_≡_}
 use mathlib.Core.List.{List, [], _∷_, _++_, map, List·Memᴰ}
@@ -9,11 +9,11 @@ use Rattle.table.specs.Tables.{blankChain, chainRows, tableRefusal, padded}
 use Rattle.table.specs.Answers.{number}
 use Rattle.table.specs.declared.Table.{Table}
 use Rattle.table.specs.declared.Chain.{Chain}
-use Rattle.walk.specs.Machine.{State, fresh}
-use Rattle.walk.specs.Calls.{Answer, refused, spent, handed, end, Call, answered}
-use Rattle.listing.specs.Lists.{Side, gaugeSide, caseSide}
-use Rattle.listing.specs.Rules.{ReachedOn, callOn, leftOn}
-use Rattle.listing.specs.Demand.{Demand, OneSet}
+use Rattle.rules.specs.Machine.{State, fresh}
+use Rattle.rules.specs.Calls.{Answer, refused, spent, handed, end, Call, answered}
+use Rattle.lists.specs.Lists.{Side, gaugeSide, caseSide}
+use Rattle.lists.specs.OnTable.{ReachedOn, callOn, leftOn}
+use Rattle.lists.specs.Demand.{Demand, OneSet}
 use Rattle.runs.specs.Paused.{Value, paused, blankValue, gaugeValue, caseValue}
 use Rattle.runs.specs.declared.Outcome.{Outcome}
 use Rattle.runs.specs.declared.Outcome.the-variants.{HandedOut, Spent, End, Refused}

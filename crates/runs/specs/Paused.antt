@@ -7,7 +7,7 @@ use lib.ListN.{length}
 use Rattle.table.specs.Tables.{noRows, padded, blankTable}
 use Rattle.table.specs.Answers.{Answer, verdict}
 use Rattle.table.specs.declared.Table.{Table}
-use Rattle.walk.specs.Machine.{Phase, Down, Handed, Back, Ended, State}
+use Rattle.rules.specs.Machine.{Phase, Down, Handed, Back, Ended, State}
 use Rattle.runs.specs.declared.Phase.the-variants.{Down as gaugeDown, Handed as gaugeHanded, Back as gaugeBack, Ended as gaugeEnded}
 use Rattle.runs.specs.declared.Phase.{Phase as GaugePhase}
 use Rattle.runs.specs.declared.CasePhase.the-variants.{Down as caseDown, Handed as caseHanded, Back as caseBack, Ended as caseEnded}

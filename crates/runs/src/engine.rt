@@ -1,19 +1,19 @@
 // The core of both runs, on plain numbers: `rows` are the side's rows, of which the first `n` are the table's. A spot is a state of rules 1
 // to 5 with the set of the unpicked gauges; two arrays go along with it: the chain of the picks, which is also where the left cases are
 // found again when a pick is taken back, and the picks by number.
-use candidates;
 use replay;
+use search;
 use sets;
 ghost use mathlib.Core.Path.{_≡_};
 ghost use Prim.Native.Nat.{_+_, _-_, _≤_, _<_};
 ghost use lib.ListN.{length, take, set, getD};
 ghost use lib.Bits.{bitAnd};
 ghost use Rattle.table.specs.Tables.{noRows};
-ghost use Rattle.walk.specs.Machine.{move as moved, takeBack, cutLast};
-ghost use Rattle.listing.specs.Picks.{candidates as candidatesOf};
-ghost use Rattle.candidates.specs.Finding.{within};
+ghost use Rattle.rules.specs.Machine.{move as moved, takeBack, cutLast};
+ghost use Rattle.lists.specs.Picks.{candidates as candidatesOf};
+ghost use Rattle.search.specs.Finding.{within};
 ghost use Rattle.sets.specs.First.{Without};
-ghost use Rattle.runs.specs.Working.{Sized, Holds, stateOf, modePhase, spotDown, Stepped, TakesBack, NumberAt, leftAfter, Advanced, Decides, RestZero, PhaseIn, CarriesOn, reportOf, carriedOf};
+ghost use Rattle.runs.specs.private.Working.{Sized, Holds, stateOf, modePhase, spotDown, Stepped, TakesBack, NumberAt, leftAfter, Advanced, Decides, RestZero, PhaseIn, CarriesOn, reportOf, carriedOf};
 
 // "A run call has a budget from 0 to 1,000,000 moves" (01).
 const MOST_BUDGET: u64 = 1_000_000;
@@ -166,12 +166,12 @@ fn phase_fits(rows: &[u64; 64], unpicked: u64, left: u64, count: usize, mode: Mo
 {
     match mode {
         Mode::Down => true,
-        Mode::Handed => PLACES <= candidates::next_candidate_of(rows, unpicked, left, 0),
+        Mode::Handed => PLACES <= search::next_candidate_of(rows, unpicked, left, 0),
         Mode::Back(number) => {
             if number == 0 {
                 return false;
             }
-            candidates::is_candidate_of(rows, unpicked, left, number - 1)
+            search::is_candidate_of(rows, unpicked, left, number - 1)
         }
         Mode::Ended => count == 0,
     }
@@ -230,7 +230,7 @@ fn step(rows: &[u64; 64], n: usize, chain: &mut [u64; 64], picks: &mut [u8; 64],
     let left = at.left;
     match mode {
         Mode::Down => {
-            let g = candidates::next_candidate_of(rows, unpicked, left, 0);
+            let g = search::next_candidate_of(rows, unpicked, left, 0);
             if g < PLACES {
                 return Moved::On(pick(rows, chain, picks, count, unpicked, left, g));
             }
@@ -243,7 +243,7 @@ fn step(rows: &[u64; 64], n: usize, chain: &mut [u64; 64], picks: &mut [u8; 64],
         }
         Mode::Handed => take_back(rows, n, chain, picks, at),
         Mode::Back(from) => {
-            let g = candidates::next_candidate_of(rows, unpicked, left, from);
+            let g = search::next_candidate_of(rows, unpicked, left, from);
             if g < PLACES {
                 return Moved::On(pick(rows, chain, picks, count, unpicked, left, g));
             }

@@ -16,11 +16,11 @@ use table::Verdict;
 ghost use mathlib.Core.Path.{_≡_};
 ghost use Rattle.table.specs.Tables.{tableRefusal, blankTable, blankChain};
 ghost use Rattle.table.specs.Answers.{answer, number};
-ghost use Rattle.walk.specs.Machine.{fresh};
-ghost use Rattle.listing.specs.Lists.{gaugeSide, caseSide};
+ghost use Rattle.rules.specs.Machine.{fresh};
+ghost use Rattle.lists.specs.Lists.{gaugeSide, caseSide};
 ghost use Rattle.runs.specs.Paused.{gaugePhase, casePhase, gaugeValue, caseValue, gaugeStarted, caseStarted, paused, blankValue};
 ghost use Rattle.runs.specs.Calling.{Called, gaugeStep, caseStep, refusal, KeepsDemand, CarriesDemand, SharesSet};
-ghost use Rattle.runs.specs.Working.{modePhase};
+ghost use Rattle.runs.specs.private.Working.{modePhase};
 
 // The phase of a gauge run (01: "Down, Handed, Back from gauge g, or Ended").
 pub enum Phase {

@@ -18,7 +18,7 @@ use Rattle.sets.proofs.Masks.{below-lowest}
 use Rattle.table.specs.Pairs.{row, Within}
 use Rattle.table.specs.Transposing.{Cases}
 use Rattle.table.specs.Tables.{Legal, tableRows, chainRows, inRange, rowsFit, tableRefusal, rowsWithin, chainRefusal}
-use Rattle.table.specs.Unions.{union}
+use Rattle.table.specs.private.Unions.{union}
 use Rattle.table.specs.declared.Table.{Table}
 use Rattle.table.specs.declared.Chain.{Chain}
 use Rattle.table.proofs.Places.{row-past, sub-within}

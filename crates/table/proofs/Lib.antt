@@ -4,7 +4,7 @@ pub mod Nesting
 pub mod Transposition
 pub mod Turning
 pub mod Legality
-pub mod Steps
+pub mod CheckLoops
 pub mod Answering
 pub mod Sides
 pub mod Padding

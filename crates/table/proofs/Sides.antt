@@ -19,7 +19,7 @@ use Rattle.table.specs.Tables.{Legal, tableRows, transposeTable}
 use Rattle.table.specs.declared.Table.{Table}
 use Rattle.table.proofs.Places.{row-past}
 use Rattle.table.proofs.Transposition.{bit-none, bit-column, length-transpose, transpose-twice}
-use Rattle.table.proofs.Steps.{column-lt}
+use Rattle.table.proofs.CheckLoops.{column-lt}
 use Rattle.table.proofs.Legality.{length-rows, row-tableRows, legal-cases}
 
 -- the rows past the last gauge add nothing to a column

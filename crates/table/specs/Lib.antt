@@ -4,4 +4,4 @@ pub mod Chains
 pub mod Transposing
 pub mod Tables
 pub mod Answers
-pub mod Unions
+pub mod private

@@ -11,7 +11,7 @@ ghost use Rattle.table.specs.Pairs.{Has};
 ghost use Rattle.table.specs.Transposing.{transpose, Puts};
 ghost use Rattle.table.specs.Tables.{inRange, rowsFit, tableRefusal, rowsWithin, chainRefusal, makeTable, blankTable, transposeTable};
 ghost use Rattle.table.specs.Answers.{number, answer, refused, verdict, made};
-ghost use Rattle.table.specs.Unions.{union};
+ghost use Rattle.table.specs.private.Unions.{union};
 
 // A gauge's number, from 1. A gauge number never stands where a case number belongs (01): the two node classes of source 003.
 pub struct Gauge(pub u64);

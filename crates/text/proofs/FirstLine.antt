@@ -11,7 +11,7 @@ use lib.Seq.{length-take-le}
 use lib.Dec.{eqb}
 use borrow.Author.Tests.{eqb-true, eqb-false, ne-eqb, eq-eqb}
 use Rattle.text.specs.Lines.{Line, lines, atCRLF, extend, firstSpan, spanAt}
-use Rattle.text.specs.Steps.{endSize}
+use Rattle.text.specs.private.ScanSteps.{endSize}
 
 -- the bytes of the first line without its end
 unfoldable pub lineLen : List ℕ → ℕ

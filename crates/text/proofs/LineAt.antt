@@ -9,7 +9,7 @@ use lib.ListN.{length, getD, take, drop, drop-of-length-le, length-drop}
 use lib.Seq.{drop-cons, drop-drop}
 use borrow.Author.Tests.{ne-eqb, eq-eqb}
 use Rattle.text.specs.Lines.{lines, spanAt}
-use Rattle.text.specs.Steps.{endSize}
+use Rattle.text.specs.private.ScanSteps.{endSize}
 use Rattle.text.specs.declared.Span.{Span}
 use Rattle.text.proofs.FirstLine.{lineLen, lineSize, lines-first-of, len-end-of, len-more-of, size-end-of, size-more-of, end-le, size-le, len-le-size, size-pos, span-is}
 

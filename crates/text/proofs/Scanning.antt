@@ -14,7 +14,7 @@ use lib.Seq.{drop-cons}
 use lib.Dec.{ltb, leb}
 use borrow.Author.Tests.{ne-eqb, eq-eqb, lt-ltb, le-leb, lt-leb, leb-true}
 use Rattle.text.specs.Fields.{scan, close, isBlank, isDigit, shape, fields}
-use Rattle.text.specs.Steps.{digitOf, rest, Found, FieldSays, FieldAt}
+use Rattle.text.specs.private.ScanSteps.{digitOf, rest, Found, FieldSays, FieldAt}
 use Rattle.text.specs.declared.Fields.the-variants.{Blank, Two, Three, Other}
 use Rattle.text.specs.declared.Field.{Field}
 use Rattle.text.specs.declared.Field.the-variants.{Number, End, Bad}

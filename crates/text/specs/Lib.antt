@@ -2,4 +2,4 @@
 pub mod Lines
 pub mod Fields
 pub mod Bytes
-pub mod Steps
+pub mod private

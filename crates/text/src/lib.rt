@@ -6,7 +6,7 @@ ghost use lib.ListN.{length, drop};
 ghost use Rattle.text.specs.Lines.{spanAt};
 ghost use Rattle.text.specs.Fields.{isBlank, fields};
 ghost use Rattle.text.specs.Bytes.{sameBytes};
-ghost use Rattle.text.specs.Steps.{endSize, digitOf, FieldAt};
+ghost use Rattle.text.specs.private.ScanSteps.{endSize, digitOf, FieldAt};
 
 // The digits that a field has at most (01: "A field is 1 to 9 digits").
 const MOST_DIGITS: u64 = 9;

@@ -5,7 +5,7 @@ use mathlib.Core.List.{List, [], _++_}
 use native.Mathlib.Omega.{arith}
 use lib.ListN.{length, getD, take, length-append, length-take}
 use Rattle.writer.specs.Writing.{digits, GaugeCase, rowPairs, pairLines}
-use Rattle.writer.specs.Steps.{pairBytes, pairsAt, IsTotals}
+use Rattle.writer.specs.private.StoreSteps.{pairBytes, pairsAt, IsTotals}
 use Rattle.writer.proofs.Sizes.{pairs-count, pairs-bytes}
 use Rattle.writer.proofs.PairLines.{pair-length, row-end, row-set, row-clear, row-set-count, row-clear-count, row-end-count, pairLines-append, at-end, at-next}
 use Rattle.writer.specs.declared.Totals.{Totals}

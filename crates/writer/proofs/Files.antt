@@ -14,7 +14,7 @@ use Rattle.table.specs.declared.Refusal.the-variants.{BufferTooShort}
 use Rattle.table.specs.declared.Table.{Table}
 use Rattle.table.proofs.Answering.{number-pos, number-injective, answer-refused, answer-given}
 use Rattle.writer.specs.Writing.{written, digits, pairs, writeFile, writeRefusal, writeAnswer, bufferAfter}
-use Rattle.writer.specs.Steps.{Wrote, pairsAt, rowsFrom, fileBytes, IsTotals}
+use Rattle.writer.specs.private.StoreSteps.{Wrote, pairsAt, rowsFrom, fileBytes, IsTotals}
 use Rattle.writer.specs.declared.Written.{Written}
 use Rattle.writer.specs.declared.Written.the-variants.{Length, Refused}
 use Rattle.writer.specs.declared.Totals.{Totals}

@@ -8,7 +8,7 @@ use lib.ListN.{length, getD, take, drop, length-append, length-take, drop-of-len
 use lib.Seq.{drop-cons, getD-take}
 use borrow.Author.Tests.{eq-eqb, ne-eqb}
 use Rattle.writer.specs.Writing.{digits, GaugeCase, rowPairs, pairsFrom, pairText, pairLines}
-use Rattle.writer.specs.Steps.{pairBytes, pairsAt, rowsFrom}
+use Rattle.writer.specs.private.StoreSteps.{pairBytes, pairsAt, rowsFrom}
 use Rattle.writer.proofs.Stores.{Writing, writing-room}
 
 pub pair-length : (g c : ℕ) → length (pairBytes g c) ≡ length (digits g) + length (digits c) + 2

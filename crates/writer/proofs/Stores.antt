@@ -9,7 +9,7 @@ use native.Mathlib.Nat.{add-zero}
 use lib.ListN.{length, getD, set, drop, length-append, drop-of-length-le}
 use lib.Seq.{sets, length-sets, drop-cons}
 use Rattle.writer.specs.Writing.{digits}
-use Rattle.writer.specs.Steps.{Wrote}
+use Rattle.writer.specs.private.StoreSteps.{Wrote}
 use Rattle.writer.proofs.Decimals.{digits-short, digits-long}
 
 pub sets-append : (l : List ℕ) (i : ℕ) (vs ws : List ℕ) → sets l i (vs ++ ws) ≡ sets (sets l i vs) (i + length vs) ws

@@ -1,3 +1,3 @@
 -- What a reader must believe of writing; `Steps` is what the crate's own steps promise each other, and no public promise cites it.
 pub mod Writing
-pub mod Steps
+pub mod private

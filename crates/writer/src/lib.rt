@@ -4,7 +4,7 @@ ghost use mathlib.Core.Path.{_≡_};
 ghost use Prim.Native.Nat.{_+_, _^_, _≤_, _<_};
 ghost use lib.ListN.{length};
 ghost use Rattle.writer.specs.Writing.{digits, rowPairs, pairLines, writeFile, written, writeAnswer, bufferAfter};
-ghost use Rattle.writer.specs.Steps.{Wrote, fieldBytes, pairBytes, sizeBytes, pairsAt, rowsFrom, fileBytes, Width, IsTotals};
+ghost use Rattle.writer.specs.private.StoreSteps.{Wrote, fieldBytes, pairBytes, sizeBytes, pairsAt, rowsFrom, fileBytes, Width, IsTotals};
 use table::Refusal;
 use table::Table;
 use table::Verdict;

@@ -7,13 +7,13 @@ use native.Mathlib.Omega.{arith}
 use denote.Enum.Declared
 use borrow.Author.Needs.{needs}
 use Rattle.table.specs.Tables.{chainRows}
-use Rattle.walk.specs.Calls.{Answer, refused, handed, spent, end}
+use Rattle.rules.specs.Calls.{Answer, refused, handed, spent, end}
 use Rattle.runs.specs.Paused.{gaugeValue}
 use Rattle.runs.specs.Calling.{outcome, gaugeStep}
 use Rattle.runs.specs.declared.Outcome.{Outcome}
 use Rattle.runs.specs.declared.Outcome.the-variants.{HandedOut, Spent, End, Refused}
 use Rattle.runs.proofs.Outcome.{the-type}
-use Rattle.blocks.proofs.Turns.{checked-refused, checked-passed}
+use Rattle.blocks.proofs.OneTurn.{checked-refused, checked-passed}
 use Rattle.blocks.proofs.check_run.Statement.{statement}
 use Rattle.blocks.proofs.check_run.Tie as tie
 

@@ -9,7 +9,7 @@ use Rattle.table.specs.Answers.{verdict}
 use Rattle.table.proofs.Answering.{number-pos}
 use Rattle.runs.specs.Paused.{Value, gaugeValue}
 use Rattle.blocks.specs.Filling.{Filling, filling, Filled, Item, CarriesList}
-use Rattle.blocks.specs.Turning.{Checked}
+use Rattle.blocks.specs.private.Turning.{Checked}
 use Rattle.blocks.proofs.Fillings.{filled-refused, filled-short, filled-on}
 use Rattle.blocks.proofs.Listing.{carries-list}
 use Rattle.blocks.proofs.fill.Statement.{statement}

@@ -6,12 +6,12 @@ use native.Mathlib.Omega.{arith}
 use lib.ListN.{length}
 use borrow.Author.Needs.{needs}
 use Rattle.table.specs.Tables.{tableRefusal}
-use Rattle.walk.specs.Machine.{State}
-use Rattle.listing.specs.Lists.{gaugeSide}
+use Rattle.rules.specs.Machine.{State}
+use Rattle.lists.specs.Lists.{gaugeSide}
 use Rattle.runs.specs.Paused.{gaugeValue}
 use Rattle.runs.specs.Calling.{PausedAt}
 use Rattle.blocks.specs.Filling.{Filling, filling, longest}
-use Rattle.blocks.specs.Turning.{FillsOn, FullOn}
+use Rattle.blocks.specs.private.Turning.{FillsOn, FullOn}
 use Rattle.blocks.proofs.Fillings.{going, fills-start, fills-on, some-on}
 use Rattle.blocks.proofs.fill_on.Statement.{statement}
 use Rattle.blocks.proofs.fill_on.Tie as tie

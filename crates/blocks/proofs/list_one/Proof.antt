@@ -6,7 +6,7 @@ use Rattle.table.specs.Tables.{chainRows}
 use Rattle.runs.specs.Paused.{gaugeValue}
 use Rattle.runs.specs.Calling.{outcome, gaugeStep}
 use Rattle.runs.specs.declared.Outcome.{Outcome}
-use Rattle.blocks.proofs.Turns.{turned-spent, turned-end, turned-refused, turned-handed}
+use Rattle.blocks.proofs.OneTurn.{turned-spent, turned-end, turned-refused, turned-handed}
 use Rattle.blocks.proofs.list_one.Statement.{statement}
 use Rattle.blocks.proofs.list_one.Tie as tie
 

@@ -6,7 +6,7 @@ use lib.ListN.{length}
 use borrow.Author.Needs.{needs}
 use Rattle.table.specs.declared.Table.{Table}
 use Rattle.writer.specs.Writing.{written}
-use Rattle.blocks.proofs.Turns.{put-fits, put-length, put-refused}
+use Rattle.blocks.proofs.OneTurn.{put-fits, put-length, put-refused}
 use Rattle.blocks.proofs.put_chain.Statement.{statement}
 use Rattle.blocks.proofs.put_chain.Tie as tie
 

@@ -2,7 +2,7 @@
 use native.Mathlib.Omega.{arith}
 use borrow.Author.Tests.{not-true, not-false}
 use borrow.Author.Needs.{needs}
-use Rattle.extend.proofs.Turns.{fits-not, fits-candidate}
+use Rattle.extend.proofs.PickLoops.{fits-not, fits-candidate}
 use Rattle.extend.proofs.fits.Statement.{statement}
 use Rattle.extend.proofs.fits.Tie as tie
 

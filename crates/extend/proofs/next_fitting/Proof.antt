@@ -3,8 +3,8 @@ use Prim.Native.Nat.{ℕ, _≤_, _<_, _-_}
 use mathlib.Core.Path.{_≡_, refl}
 use mathlib.Core.Bool.{false}
 use native.Mathlib.Omega.{arith}
-use Rattle.candidates.proofs.Turns.{first-found, first-none, below-next}
-use Rattle.extend.specs.Steps.{fitsIn}
+use Rattle.search.proofs.SearchLoops.{first-found, first-none, below-next}
+use Rattle.extend.specs.private.PickSteps.{fitsIn}
 use Rattle.extend.proofs.next_fitting.Statement.{statement}
 use Rattle.extend.proofs.next_fitting.Tie as tie
 

@@ -2,8 +2,8 @@
 use Prim.Native.Nat.{_≤_, _-_}
 use mathlib.Core.Path.{_≡_}
 use native.Mathlib.Omega.{arith}
-use Rattle.extend.specs.Steps.{unionTo}
-use Rattle.extend.proofs.Turns.{union-start, union-more, union-done}
+use Rattle.extend.specs.private.PickSteps.{unionTo}
+use Rattle.extend.proofs.PickLoops.{union-start, union-more, union-done}
 use Rattle.extend.proofs.union_to.Statement.{statement}
 use Rattle.extend.proofs.union_to.Tie as tie
 

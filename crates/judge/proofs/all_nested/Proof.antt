@@ -6,7 +6,7 @@ use native.Mathlib.Omega.{arith}
 use borrow.Author.Tests.{not-true, not-false}
 use Rattle.sets.specs.Lists.{allBelow}
 use Rattle.sets.proofs.Tabulated.{all-none, all-more, all-fails, all-done}
-use Rattle.judge.specs.Tests.{nestedWith, allNested}
+use Rattle.judge.specs.private.RowTests.{nestedWith, allNested}
 use Rattle.judge.proofs.all_nested.Statement.{statement}
 use Rattle.judge.proofs.all_nested.Tie as tie
 

@@ -8,8 +8,8 @@ use lib.Dec.{eqb}
 use Rattle.sets.specs.Lists.{allBelow}
 use Rattle.sets.proofs.Tabulated.{all-none, all-more, all-fails, all-done}
 use Rattle.table.specs.Pairs.{row}
-use Rattle.judge.proofs.Turns.{widest-test}
-use Rattle.judge.specs.Tests.{widest, allWidest}
+use Rattle.judge.proofs.RowLoops.{widest-test}
+use Rattle.judge.specs.private.RowTests.{widest, allWidest}
 use Rattle.judge.proofs.all_widest.Statement.{statement}
 use Rattle.judge.proofs.all_widest.Tie as tie
 

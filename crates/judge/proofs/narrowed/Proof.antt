@@ -1,7 +1,7 @@
 -- `judge::narrowed` meets its contract: each answer computes from the tests that led to it.
 use borrow.Author.Tests.{not-true, not-false}
 use borrow.Author.Needs.{needs}
-use Rattle.judge.proofs.Turns.{narrow-out, narrow-same, narrow-in}
+use Rattle.judge.proofs.RowLoops.{narrow-out, narrow-same, narrow-in}
 use Rattle.judge.proofs.narrowed.Statement.{statement}
 use Rattle.judge.proofs.narrowed.Tie as tie
 

@@ -1,6 +1,6 @@
 -- `judge::nested` meets its contract: each answer computes from the inclusions that led to it.
 use borrow.Author.Needs.{needs}
-use Rattle.judge.proofs.Turns.{nested-up, nested-down}
+use Rattle.judge.proofs.RowLoops.{nested-up, nested-down}
 use Rattle.judge.proofs.nested.Statement.{statement}
 use Rattle.judge.proofs.nested.Tie as tie
 

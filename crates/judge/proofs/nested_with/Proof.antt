@@ -8,7 +8,7 @@ use borrow.Author.Needs.{needs}
 use Rattle.sets.specs.Lists.{allBelow}
 use Rattle.sets.proofs.Tabulated.{all-none, all-more, all-fails, all-done}
 use Rattle.table.specs.Pairs.{row}
-use Rattle.judge.specs.Tests.{nested, nestedWith}
+use Rattle.judge.specs.private.RowTests.{nested, nestedWith}
 use Rattle.judge.proofs.nested_with.Statement.{statement}
 use Rattle.judge.proofs.nested_with.Tie as tie
 

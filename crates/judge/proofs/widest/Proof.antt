@@ -3,8 +3,8 @@ use Prim.Native.Nat.{_≤_, _-_}
 use mathlib.Core.Path.{_≡_, ap, _∙_}
 use native.Mathlib.Omega.{arith}
 use borrow.Author.Needs.{needs}
-use Rattle.judge.specs.Tests.{widest}
-use Rattle.judge.proofs.Turns.{widest-start, widest-more}
+use Rattle.judge.specs.private.RowTests.{widest}
+use Rattle.judge.proofs.RowLoops.{widest-start, widest-more}
 use Rattle.judge.proofs.widest.Statement.{statement}
 use Rattle.judge.proofs.widest.Tie as tie
 

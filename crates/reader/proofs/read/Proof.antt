@@ -1,9 +1,9 @@
--- `reader::read` meets its contract: the file as a whole, its first line, and then the lines behind it, each by its law of `Turns`.
+-- `reader::read` meets its contract: the file as a whole, its first line, and then the lines behind it, each by its law of `LineLoops`.
 use mathlib.Core.Path.{_∙_}
 use native.Mathlib.Omega.{arith}
 use borrow.Author.Tests.{not-true, not-false}
 use Rattle.text.proofs.LineAt.{Inside, inside}
-use Rattle.reader.proofs.Turns.{file-long, file-other, file-head}
+use Rattle.reader.proofs.LineLoops.{file-long, file-other, file-head}
 use borrow.Author.Needs.{needs}
 use Rattle.reader.proofs.read.Statement.{statement}
 use Rattle.reader.proofs.read.Tie as tie

@@ -7,7 +7,7 @@ use lib.ListN.{length, drop}
 use Rattle.text.specs.Lines.{lines}
 use Rattle.reader.specs.Reading.{readHead}
 use Rattle.text.proofs.LineAt.{Inside, inside}
-use Rattle.reader.proofs.Turns.{HeadTurn, head-absent, head-skip, head-bad, head-range, head-size}
+use Rattle.reader.proofs.LineLoops.{HeadTurn, head-absent, head-skip, head-bad, head-range, head-size}
 use Rattle.reader.proofs.read_head.Statement.{statement}
 use Rattle.reader.proofs.read_head.Tie as tie
 

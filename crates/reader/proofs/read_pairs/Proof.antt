@@ -9,7 +9,7 @@ use Rattle.reader.specs.Reading.{readPairs}
 use Rattle.table.specs.Tables.{noRows}
 use Rattle.reader.proofs.KindOf.{Bounded}
 use Rattle.text.proofs.LineAt.{Inside, inside}
-use Rattle.reader.proofs.Turns.{PairTurn, pairs-done, pairs-fewer, turn-skip, turn-bad, turn-range, turn-repeated, turn-more, turn-pair}
+use Rattle.reader.proofs.LineLoops.{PairTurn, pairs-done, pairs-fewer, turn-skip, turn-bad, turn-range, turn-repeated, turn-more, turn-pair}
 use Rattle.reader.proofs.read_pairs.Statement.{statement}
 use Rattle.reader.proofs.read_pairs.Tie as tie
 

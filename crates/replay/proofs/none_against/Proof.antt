@@ -2,7 +2,7 @@
 use mathlib.Core.Path.{_≡_, refl}
 use native.Mathlib.Omega.{arith}
 use borrow.Author.Needs.{needs}
-use Rattle.candidates.proofs.Within.{Passed, passed-none, passed-more}
+use Rattle.search.proofs.Within.{Passed, passed-none, passed-more}
 use Rattle.replay.proofs.Judging.{Quiet, none-found, none-all}
 use Rattle.replay.proofs.none_against.Statement.{statement}
 use Rattle.replay.proofs.none_against.Tie as tie

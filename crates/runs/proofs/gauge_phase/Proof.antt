@@ -1,7 +1,7 @@
 -- `runs::gauge_phase` meets its contract: each mode has its phase.
 use mathlib.Core.Path.{sym, ap}
 use borrow.Author.Needs.{needs}
-use Rattle.runs.specs.Working.{modePhase}
+use Rattle.runs.specs.private.Working.{modePhase}
 use Rattle.runs.proofs.gauge_phase.Statement.{statement}
 use Rattle.runs.proofs.gauge_phase.Tie as tie
 

@@ -9,9 +9,9 @@ use Rattle.table.specs.Transposing.{transpose}
 use Rattle.table.specs.Tables.{Legal, tableRefusal}
 use Rattle.table.proofs.Answering.{number-pos, verdict-refused, verdict-accepted}
 use Rattle.table.proofs.Legality.{legal-of}
-use Rattle.listing.specs.Lists.{caseSide}
-use Rattle.runs.specs.Working.{Sized}
-use Rattle.listing.proofs.BothSides.{case-fair}
+use Rattle.lists.specs.Lists.{caseSide}
+use Rattle.runs.specs.private.Working.{Sized}
+use Rattle.lists.proofs.BothSides.{case-fair}
 use Rattle.runs.specs.Paused.{caseValue}
 use Rattle.runs.specs.Calling.{Step, Called, CarriesDemand}
 use Rattle.runs.specs.declared.engine.Fate.the-variants.{NotReached, TooLarge}

@@ -6,8 +6,8 @@ use lib.ListN.{length}
 use Rattle.table.specs.Tables.{Legal, tableRefusal}
 use Rattle.table.proofs.Answering.{number-pos, verdict-refused, verdict-accepted}
 use Rattle.table.proofs.Legality.{legal-of}
-use Rattle.listing.specs.Lists.{gaugeSide}
-use Rattle.listing.proofs.BothSides.{gauge-fair}
+use Rattle.lists.specs.Lists.{gaugeSide}
+use Rattle.lists.proofs.BothSides.{gauge-fair}
 use Rattle.runs.specs.Paused.{gaugeValue}
 use Rattle.runs.specs.Calling.{Step, Called, CarriesDemand}
 use Rattle.runs.specs.declared.engine.Fate.the-variants.{NotReached, TooLarge}

@@ -6,9 +6,9 @@ use lib.ListN.{length}
 use Rattle.table.specs.Tables.{Legal, tableRefusal}
 use Rattle.table.proofs.Answering.{number-pos, verdict-refused, verdict-accepted}
 use Rattle.table.proofs.Legality.{legal-of}
-use Rattle.walk.specs.Machine.{fresh}
-use Rattle.listing.specs.Lists.{caseSide}
-use Rattle.listing.proofs.BothSides.{case-fair}
+use Rattle.rules.specs.Machine.{fresh}
+use Rattle.lists.specs.Lists.{caseSide}
+use Rattle.lists.proofs.BothSides.{case-fair}
 use Rattle.runs.specs.Paused.{Value, paused}
 use Rattle.runs.specs.Calling.{KeepsDemand, SharesSet}
 use Rattle.runs.proofs.Answered.{start-refused, start-given}

@@ -6,7 +6,7 @@ use borrow.Author.Needs.{needs}
 use borrow.Author.Tests.{not-true, not-false}
 use lib.ListN.{drop}
 use Rattle.table.specs.Tables.{rowsWithin}
-use Rattle.table.proofs.Steps.{within-no, within-yes, within-done}
+use Rattle.table.proofs.CheckLoops.{within-no, within-yes, within-done}
 use Rattle.table.proofs.rows_within.Statement.{statement}
 use Rattle.table.proofs.rows_within.Tie as tie
 

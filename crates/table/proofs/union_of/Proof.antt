@@ -5,8 +5,8 @@ use native.Mathlib.Omega.{arith}
 use lib.Seq.{slice}
 use Rattle.sets.specs.Sets.{join}
 use Rattle.sets.proofs.Joins.{none-join}
-use Rattle.table.specs.Unions.{union}
-use Rattle.table.proofs.Steps.{union-more, union-done}
+use Rattle.table.specs.private.Unions.{union}
+use Rattle.table.proofs.CheckLoops.{union-more, union-done}
 use Rattle.table.proofs.union_of.Statement.{statement}
 use Rattle.table.proofs.union_of.Tie as tie
 

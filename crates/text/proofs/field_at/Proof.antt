@@ -5,7 +5,7 @@ use borrow.Author.Needs.{needs}
 use native.Mathlib.Omega.{arith}
 use lib.ListN.{length, drop}
 use Rattle.text.specs.Fields.{scan}
-use Rattle.text.specs.Steps.{rest}
+use Rattle.text.specs.private.ScanSteps.{rest}
 use Rattle.text.proofs.Scanning.{number-at, skip-at, scan-digit-at, scan-bad-at, scan-long-at, last-at, none-at, digits-small, digits-more}
 use Rattle.text.proofs.field_at.Statement.{statement}
 use Rattle.text.proofs.field_at.Tie as tie

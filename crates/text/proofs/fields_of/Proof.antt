@@ -4,7 +4,7 @@ use mathlib.Core.List.{[], _∷_}
 use mathlib.Core.Logic.{⊎-elim}
 use native.Mathlib.Omega.{arith}
 use denote.Enum.Declared
-use Rattle.text.specs.Steps.{Found}
+use Rattle.text.specs.private.ScanSteps.{Found}
 use Rattle.text.proofs.Scanning.{NoNumber, NoEnd, field-number, fields-blank, fields-none, fields-one, fields-two, fields-two-bad, fields-three, fields-more}
 use Rattle.text.specs.declared.Field.{Field}
 use Rattle.text.specs.declared.Field.the-variants.{Number, End, Bad}

@@ -3,7 +3,7 @@ use Prim.Native.Nat.{_+_, _-_, _≤_}
 use mathlib.Core.Path.{_≡_}
 use native.Mathlib.Omega.{arith}
 use Rattle.table.specs.declared.Table.{Table}
-use Rattle.writer.specs.Steps.{pairsAt}
+use Rattle.writer.specs.private.StoreSteps.{pairsAt}
 use Rattle.writer.proofs.Counting.{Counting, Small, counting-start, counting-row, counting-rows-done, counting-small}
 use borrow.Author.Needs.{needs}
 use lib.ListN.{length}

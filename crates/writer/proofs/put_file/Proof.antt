@@ -3,7 +3,7 @@ use Prim.Native.Nat.{ℕ, _+_, _≤_}
 use mathlib.Core.List.{List, _++_}
 use native.Mathlib.Omega.{arith}
 use lib.ListN.{length}
-use Rattle.writer.specs.Steps.{sizeBytes, rowsFrom}
+use Rattle.writer.specs.private.StoreSteps.{sizeBytes, rowsFrom}
 use Rattle.writer.proofs.Stores.{front-room, rest-room, wrote-both}
 use borrow.Author.Needs.{needs}
 use Rattle.writer.proofs.put_file.Statement.{statement}

@@ -1,6 +1,6 @@
 -- `writer::put_pair` meets its contract: the line is two fields, one behind the other.
 use native.Mathlib.Omega.{arith}
-use Rattle.writer.specs.Steps.{fieldBytes}
+use Rattle.writer.specs.private.StoreSteps.{fieldBytes}
 use Rattle.writer.proofs.Stores.{front-room, rest-room, wrote-both}
 use borrow.Author.Needs.{needs}
 use Rattle.writer.proofs.put_pair.Statement.{statement}

@@ -3,7 +3,7 @@ use mathlib.Core.Path.{_≡_}
 use lib.ListN.{length}
 use Prim.Native.Nat.{_-_, _≤_}
 use native.Mathlib.Omega.{arith}
-use Rattle.writer.specs.Steps.{rowsFrom}
+use Rattle.writer.specs.private.StoreSteps.{rowsFrom}
 use Rattle.writer.proofs.Stores.{Writing, writing-start, writing-step, writing-done}
 use Rattle.writer.proofs.PairLines.{rows-end, rows-next, rows-room}
 use borrow.Author.Needs.{needs}

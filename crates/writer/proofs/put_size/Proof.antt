@@ -1,7 +1,7 @@
 -- `writer::put_size` meets its contract: the line is three fields, one behind the other.
 use mathlib.Core.List.{_++_}
 use native.Mathlib.Omega.{arith}
-use Rattle.writer.specs.Steps.{fieldBytes}
+use Rattle.writer.specs.private.StoreSteps.{fieldBytes}
 use Rattle.writer.proofs.Stores.{front-room, rest-room, wrote-both}
 use borrow.Author.Needs.{needs}
 use Rattle.writer.proofs.put_size.Statement.{statement}

@@ -3,7 +3,7 @@ use Prim.Native.Nat.{_-_}
 use native.Mathlib.Omega.{arith}
 use borrow.Author.Needs.{needs}
 use lib.ListN.{take}
-use Rattle.runs.specs.Working.{Holds, stateOf, Ahead}
+use Rattle.runs.specs.private.Working.{Holds, stateOf, Ahead}
 use Rattle.runs.proofs.Advancing.{ahead-none, turn-on, turn-out, turn-over, turn-spent, advanced-as}
 use Rattle.runs.proofs.engine.advance.Statement.{statement}
 use Rattle.runs.proofs.engine.advance.Tie as tie

@@ -3,7 +3,7 @@ use Prim.Native.Nat.{_≤_, _-_}
 use lib.ListN.{getD}
 use native.Mathlib.Omega.{arith}
 use borrow.Author.Tests.{eq-eqb, ne-eqb}
-use Rattle.runs.specs.Working.{leftAfter}
+use Rattle.runs.specs.private.Working.{leftAfter}
 use Rattle.runs.proofs.engine.left_after.Statement.{statement}
 use Rattle.runs.proofs.engine.left_after.Tie as tie
 

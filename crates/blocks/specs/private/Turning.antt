@@ -1,0 +1,53 @@
+-- What the private steps promise: the check of a value, a set written at a place, and one turn, which is one call and the file of what it
+-- hands out.
+use mathlib.Core.Path.{_≡_}
+use mathlib.Core.Bool.{Bool, false}
+use mathlib.Core.List.{List, [], _∷_, _++_}
+use Prim.Native.Nat.{ℕ, _+_, _≤_, _<_}
+use lib.ListN.{length, take, drop}
+use Rattle.table.specs.declared.Table.{Table}
+use Rattle.table.specs.Tables.{tableRefusal}
+use Rattle.rules.specs.Machine.{State}
+use Rattle.rules.specs.Calls.{Call, mostBudget, answered}
+use Rattle.lists.specs.Lists.{gaugeSide}
+use Rattle.lists.specs.OnTable.{callOn}
+use Rattle.runs.specs.Paused.{Value, paused}
+use Rattle.runs.specs.Calling.{PausedAt}
+use Rattle.writer.specs.Writing.{writeFile}
+use Rattle.blocks.specs.Filling.{files, longest, isEnd, Filling, Fills}
+
+-- n is 01's number for the paused value v, or 0
+pub record Checked (v : Value) (n : ℕ) : Type 0 where
+  pub table : 0 < tableRefusal (v .table) → n ≡ tableRefusal (v .table)
+  pub value : tableRefusal (v .table) ≡ 0 → ((s : State) → PausedAt gaugeSide v s → ⊥) → n ≡ 15
+  pub legal : tableRefusal (v .table) ≡ 0 → (s : State) → PausedAt gaugeSide v s → n ≡ 0
+
+-- the buffer with the bytes vs at the place at
+abbrev pub placed : List ℕ → ℕ → List ℕ → List ℕ
+placed l at vs = take at l ++ (vs ++ drop (at + length vs) l)
+
+-- the file of t, where it passes its check and has room, is at the place at, and next is the place behind it
+pub record Put (t : Table) (before : List ℕ) (at : ℕ) (next : ℕ) (now : List ℕ) : Type 0 where
+  pub inside : next ≤ length before
+  pub file : tableRefusal t ≡ 0 → at + length (writeFile t) ≤ length before → (next ≡ at + length (writeFile t)) × (now ≡ placed before at (writeFile t))
+
+-- the call c, made on t: its file, if it hands one out, stands at the place at, and w, next and over are what it leaves
+pub record Added (t : Table) (c : Call) (before : List ℕ) (at : ℕ) (w : Value) (next : ℕ) (over : Bool) (now : List ℕ) : Type 0 where
+  pub place : next ≡ at + length (files t (answered (c .answer) []))
+  pub bytes : now ≡ placed before at (files t (answered (c .answer) []))
+  pub value : w ≡ paused t (c .next)
+  pub ends : over ≡ isEnd (c .answer)
+
+-- one turn
+pub record Turned (v : Value) (before : List ℕ) (at : ℕ) (w : Value) (next : ℕ) (over : Bool) (now : List ℕ) : Type 0 where
+  pub inside : next ≤ length before
+  pub adds : tableRefusal (v .table) ≡ 0 → (s : State) → PausedAt gaugeSide v s → at + longest ≤ length before
+      → Added (v .table) (callOn (gaugeSide (v .table)) mostBudget s) before at w next over now
+
+-- the turns of a block, where the value is legal and the buffer is long enough
+abbrev pub FillsOn : Value → List ℕ → Filling → List ℕ → Type 0
+FillsOn v before f now = tableRefusal (v .table) ≡ 0 → (s : State) → PausedAt gaugeSide v s → longest ≤ length before → Fills (v .table) s before f now
+
+-- and it is full unless it is over
+abbrev pub FullOn : Value → List ℕ → ℕ → Bool → Type 0
+FullOn v before used over = tableRefusal (v .table) ≡ 0 → (s : State) → PausedAt gaugeSide v s → longest ≤ length before → over ≡ false → length before < used + longest

@@ -1,5 +1,0 @@
--- Laws that belong to no one function.
-pub mod Turns
-pub mod Within
-pub mod AfterPicks
-pub mod ChainArrays

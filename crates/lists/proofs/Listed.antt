@@ -1,0 +1,75 @@
+-- The list theorem: the chains of the leaves, in the order of the leaves, are the gauge list of the rows (`gauge-list`). Before it, what
+-- holds of every list of a table, whatever its key: no other list is (`list-unique`), and two have the same members. How many they are is bounded
+-- by n! for n rows.
+use mathlib.Core.Path.{_≡_, sym, subst}
+use mathlib.Core.Logic.{_↔_}
+use mathlib.Core.List.{List, [], _∷_, map, List·Memᴰ, Memᴰ·cast, Memᴰ·map, Memᴰ·of-map}
+use Prim.Native.Nat.{ℕ, _≤_}
+use native.Mathlib.Omega.{arith}
+use lib.ListN.{length}
+use Rattle.table.specs.Chains.{IsMaximal}
+use Rattle.rules.specs.Sequences.{All, Sorted, Before, factorial}
+use Rattle.rules.proofs.Sequences.{All-of, Sorted-map, before-irrefl, before-trans, sorted-unique, distinct-length}
+use Rattle.rules.proofs.Trees.{leaves}
+use Rattle.rules.proofs.Leaves.{leaves-ascend, leaf-iff, leaf-count}
+use Rattle.lists.specs.PickSequence.{pickSeq, Precedes}
+use Rattle.lists.specs.Lists.{SideList}
+use Rattle.lists.specs.Picks.{candidates}
+use Rattle.lists.specs.OnTable.{chainOf}
+use Rattle.lists.proofs.Candidates.{IsLeaf}
+use Rattle.lists.proofs.CandidateTree.{candidate-tree, candidates-few}
+use Rattle.lists.proofs.Maximal.{leaf-maximal, maximal-leaf, maximal-chainOf, leaf-pickSeq}
+
+-- ---- any list of a table
+module _ {r : List ℕ} {key : List ℕ → List ℕ} where
+  pub list-unique : (xs ys : List (List ℕ)) → SideList r key xs → SideList r key ys → xs ≡ ys
+  list-unique xs ys a b =
+      sorted-unique (λ (x y : List ℕ). Precedes (key x) (key y)) (λ x. before-irrefl (pickSeq (key x)))
+      (λ x y z. before-trans (pickSeq (key x)) (pickSeq (key y)) (pickSeq (key z))) xs ys (a .ascends) (b .ascends)
+      (λ x. (λ m. b .members x .1 (a .members x .0 m), λ m. a .members x .1 (b .members x .0 m)))
+
+-- two lists of one table, whatever the keys: the same members, so equally many
+module _ {r : List ℕ} {key key′ : List ℕ → List ℕ} (xs ys : List (List ℕ)) (a : SideList r key xs) (b : SideList r key′ ys) where
+  pub lists-same : (x : List ℕ) → List·Memᴰ x xs ↔ List·Memᴰ x ys
+  lists-same x = (λ m. b .members x .1 (a .members x .0 m), λ m. a .members x .1 (b .members x .0 m))
+
+  pub lists-length : length xs ≡ length ys
+  lists-length = omega (arith, distinct-length xs ys (a .once) (λ x m. lists-same x .0 m), distinct-length ys xs (b .once) (λ x m. lists-same x .1 m))
+
+-- a list that ascends has no set twice
+pub listed : {r : List ℕ} {key : List ℕ → List ℕ} (xs : List (List ℕ)) → ((x : List ℕ) → List·Memᴰ x xs ↔ IsMaximal r x) → Sorted (λ (x y : List ℕ). Precedes (key x) (key y)) xs → SideList r key xs
+listed {r} {key} xs m a = record { members = m; once = Sorted-map (λ x y h e. before-irrefl (pickSeq (key y)) (rw e at h)) xs a; ascends = a }
+
+-- ---- the list of rows
+module _ (r : List ℕ) where
+  -- the leaves of the candidates, and their chains
+  abbrev pub picksInOrder : List (List ℕ)
+  picksInOrder = leaves (candidates r) (length r) []
+
+  abbrev pub chainsInOrder : List (List ℕ)
+  chainsInOrder = map (chainOf r) picksInOrder
+
+  leaf-of : (p : List ℕ) → List·Memᴰ p picksInOrder ↔ IsLeaf r p
+  leaf-of p = leaf-iff (candidates r) (length r) (candidate-tree r) p
+
+  chains-ascend : (l : List (List ℕ)) → All (IsLeaf r) l → Sorted Before l → Sorted Precedes (map (chainOf r) l)
+  chains-ascend [] h s = tt
+  chains-ascend (p ∷ l) h s = (after l h.1 s.0, chains-ascend l h.1 s.1)
+    where
+      after : (m : List (List ℕ)) → All (IsLeaf r) m → All (Before p) m → All (Precedes (chainOf r p)) (map (chainOf r) m)
+      after [] a b = tt
+      after (q ∷ m) a b = (rw (leaf-pickSeq r p h.0, leaf-pickSeq r q a.0) b.0, after m a.1 b.1)
+
+  -- ---- the gauge list
+  pub gauge-list : SideList r (λ x. x) chainsInOrder
+  gauge-list = listed chainsInOrder (λ x. (into x, onto x)) (chains-ascend picksInOrder (All-of (IsLeaf r) picksInOrder (λ p m. leaf-of p .0 m)) (leaves-ascend (candidates r) (length r) (candidate-tree r)))
+    where
+      into : (x : List ℕ) → List·Memᴰ x chainsInOrder → IsMaximal r x
+      into x m = let k = Memᴰ·of-map (chainOf r) picksInOrder m in subst (IsMaximal r) (k .2) (leaf-maximal r (k .0) (leaf-of (k .0) .0 (k .1)))
+
+      onto : (x : List ℕ) → IsMaximal r x → List·Memᴰ x chainsInOrder
+      onto x m = Memᴰ·cast (sym (maximal-chainOf r x m)) (Memᴰ·map (chainOf r) (leaf-of (pickSeq x) .1 (maximal-leaf r x m)))
+
+  -- no more leaves than orders of the rows
+  pub leaves-few : length picksInOrder ≤ factorial (length r)
+  leaves-few = leaf-count (candidates r) (length r) (candidates-few r)

@@ -1,0 +1,47 @@
+-- A machine that is called on ends: a call with a budget of 2 n + 1 moves or more hands out or ends, so one such call more than there are
+-- leaves makes some call answer `end`. So what calls hand out is not only a front of the leaves but, in the end, all of them.
+use mathlib.Core.Path.{_≡_, refl, ap}
+use mathlib.Core.Logic.{_≢_}
+use mathlib.Core.List.{List, [], _∷_, map, List·Memᴰ, List·Memᴰ·head, List·Memᴰ·tail}
+use Prim.Native.Nat.{ℕ, _+_, _*_, _≤_, _<_}
+use native.Mathlib.Omega.{arith}
+use lib.ListN.{length, length-map}
+use Rattle.rules.specs.Sequences.{All}
+use Rattle.rules.specs.Machine.{State, fresh}
+use Rattle.rules.specs.Calls.{Answer, refused, spent, handed, end, Call, mostBudget, handouts, call, callsFrom, calls}
+use Rattle.rules.specs.private.Fitting.{Fits}
+use Rattle.rules.proofs.Trees.{Tree, leaves}
+use Rattle.rules.proofs.Calls.{Paid, cost, cost-pos, cost-lap, ahead, call-law, ahead-fresh, calls-complete}
+use Rattle.rules.proofs.Reports.{call-only18, call-spent}
+
+-- a budget that is not refused, and enough for the next hand-out or end
+pub record Enough (n b : ℕ) : Type 0 where
+  pub low : 2 * n + 1 ≤ b
+  pub high : b ≤ mostBudget
+
+module _ (kids : List ℕ → List ℕ) (out : List ℕ → List ℕ) (n : ℕ) (t : Tree kids n) where
+  call-enough : (b : ℕ) (s : State) → Fits kids (s .picks) (s .phase) → Enough n b → call kids out b s .answer ≢ spent
+  call-enough b s h l e =
+      let p : Paid spent (call kids out b s .moves) (cost n (call kids out b s .next .picks) (call kids out b s .next .phase)) (cost n (s .picks) (s .phase)) = rw e at (call-law kids out n t b s h .paid) in
+      omega (arith, l .low, call-spent kids out b s (l .high) .only e .0, cost-lap kids n t (s .picks) (s .phase) h, cost-pos n (call kids out b s .next .picks) (call kids out b s .next .phase))
+
+  end-from : (bs : List ℕ) (s : State) → Fits kids (s .picks) (s .phase) → All (Enough n) bs → length (ahead kids out n s) < length bs → (c : Call) × List·Memᴰ c (callsFrom kids out bs s) × (c .answer ≡ end)
+  end-from [] s h a l = absurd (omega arith)
+  end-from (b ∷ bs) s h a l = go (end-from bs (call kids out b s .next) (call-law kids out n t b s h .fits) a.1) (call kids out b s .answer) refl
+    where
+      go : (length (ahead kids out n (call kids out b s .next)) < length bs → (c : Call) × List·Memᴰ c (callsFrom kids out bs (call kids out b s .next)) × (c .answer ≡ end))
+          → (x : Answer) → call kids out b s .answer ≡ x → (c : Call) × List·Memᴰ c (callsFrom kids out (b ∷ bs) s) × (c .answer ≡ end)
+      go on (refused k) e = absurd (call-only18 kids out b s .else (a .0 .high) k e)
+      go on spent e = absurd (call-enough b s h a.0 e)
+      go on (handed p) e =
+          let k : p ∷ ahead kids out n (call kids out b s .next) ≡ ahead kids out n s = rw e at (call-law kids out n t b s h .keeps) in
+          let x = on (omega (arith, ap length k)) in
+          (x.0, List·Memᴰ·tail (x.1), x.2)
+      go on end e = (call kids out b s, List·Memᴰ·head refl, e)
+
+  -- with enough calls, one ends, and the sets handed out are those of all the leaves
+  pub calls-end : (bs : List ℕ) → All (Enough n) bs → length (leaves kids n []) < length bs → (c : Call) × List·Memᴰ c (calls kids out bs) × (c .answer ≡ end)
+  calls-end bs a l = end-from bs fresh tt a (omega (arith, ap length (ahead-fresh kids out n t), length-map (leaves kids n []) out))
+
+  pub calls-all : (bs : List ℕ) → All (Enough n) bs → length (leaves kids n []) < length bs → handouts (calls kids out bs) ≡ map out (leaves kids n [])
+  calls-all bs a l = let c = calls-end bs a l in calls-complete kids out n t bs (c .0) (c .1) (c .2)

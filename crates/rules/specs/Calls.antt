@@ -1,0 +1,84 @@
+-- Calls of a run with a budget, and lists of them (01, "A run call has a budget .." and the paragraph on demand 3): `kids` as in
+-- Machine.antt, and `out p` is the set that is handed out for the picks p. A call's record has its answer, its moves, and the state that
+-- the next call gets.
+use mathlib.Core.Bool.{Bool, true, false, cond}
+use mathlib.Core.List.{List, [], _∷_}
+use Prim.Native.Nat.{ℕ, zero, suc, _+_}
+use lib.Dec.{ltb}
+use Rattle.rules.specs.Machine.{State, fresh, Given, nothing, hands, ends, move}
+
+pub data Answer : Type 0 where
+  refused : ℕ → Answer
+  spent : Answer
+  handed : List ℕ → Answer
+  end : Answer
+
+pub record Call : Type 0 where
+  pub answer : Answer
+  pub moves : ℕ
+  pub next : State
+
+abbrev pub result : Answer → ℕ → State → Call
+result a k s = record { answer = a; moves = k; next = s }
+
+-- "A run call has a budget from 0 to 1,000,000 moves"
+abbrev pub mostBudget : ℕ
+mostBudget = 1000000
+
+module _ (kids : List ℕ → List ℕ) (out : List ℕ → List ℕ) where
+  -- a first move that gave g and led to s, and after it, where nothing was given, what `more` answers
+  abbrev pub proceed : (State → Call) → Given → State → Call
+  proceed more nothing s = result (more s .answer) (suc (more s .moves)) (more s .next)
+  proceed more (hands p) s = result (handed (out p)) 1 s
+  proceed more ends s = result end 1 s
+
+  -- up to b moves: "It stops after the first hand-out or end, and reports the moves made and the next paused value"
+  abbrev pub carry : ℕ → State → Call
+  carry zero s = result spent 0 s
+  carry (suc b) s = proceed (carry b) (move kids s .given) (move kids s .next)
+
+  -- one call; "18 above 1,000,000", which makes no move and leaves the state as it is
+  unfoldable pub call : ℕ → State → Call
+  call b s = cond (ltb mostBudget b) (result (refused 18) 0 s) (carry b s)
+
+  -- "Each call gets the paused value that the last unrefused call returned, or the fresh one where there is none": calls from s on
+  abbrev pub callsFrom : List ℕ → State → List Call
+  callsFrom [] s = []
+  callsFrom (b ∷ bs) s = call b s ∷ callsFrom bs (call b s .next)
+
+  abbrev pub calls : List ℕ → List Call
+  calls bs = callsFrom bs fresh
+
+  -- the state after calls from s on
+  abbrev pub stateAfter : List ℕ → State → State
+  stateAfter [] s = s
+  stateAfter (b ∷ bs) s = stateAfter bs (call b s .next)
+
+-- ---- what is read off a list of calls
+-- what the answers hand out, in turn
+abbrev pub answered : Answer → List (List ℕ) → List (List ℕ)
+answered (refused k) l = l
+answered spent l = l
+answered (handed x) l = x ∷ l
+answered end l = l
+
+abbrev pub handouts : List Call → List (List ℕ)
+handouts [] = []
+handouts (c ∷ cs) = answered (c .answer) (handouts cs)
+
+-- the moves of these calls up to and with the first whose answer `stops`; all of them where none does
+abbrev pub movesUntil : (Answer → Bool) → List Call → ℕ
+movesUntil stops [] = 0
+movesUntil stops (c ∷ cs) = c .moves + cond (stops (c .answer)) 0 (movesUntil stops cs)
+
+abbrev pub isHandOut : Answer → Bool
+isHandOut (refused k) = false
+isHandOut spent = false
+isHandOut (handed x) = true
+isHandOut end = false
+
+abbrev pub isHandOutOrEnd : Answer → Bool
+isHandOutOrEnd (refused k) = false
+isHandOutOrEnd spent = false
+isHandOutOrEnd (handed x) = true
+isHandOutOrEnd end = true

@@ -1,0 +1,49 @@
+-- What a call says of its moves (01, "A run call has a budget .. It answers "spent" exactly when .."), for a call c with the budget b from
+-- the state x, and of each call of a list. Demand 3 in crate `lists` claims these of every call.
+use mathlib.Core.Path.{_≡_}
+use mathlib.Core.Logic.{_≢_}
+use mathlib.Core.List.{List, [], _∷_}
+use Prim.Native.Nat.{ℕ, zero, suc, _-_, _≤_, _<_}
+use Rattle.rules.specs.Machine.{State, Given, nothing, hands, ends, move, after}
+use Rattle.rules.specs.Calls.{Answer, refused, spent, handed, end, Call, result, mostBudget}
+
+-- P holds of each call, with its budget and the state that it gets; x is the state that the first gets
+abbrev pub EachCall : (ℕ → State → Call → Type 0) → List ℕ → State → List Call → Type 0
+EachCall P [] x [] = Unit {0}
+EachCall P [] x (c ∷ cs) = ⊥
+EachCall P (b ∷ bs) x [] = ⊥
+EachCall P (b ∷ bs) x (c ∷ cs) = P b x c × EachCall P bs (c .next) cs
+
+-- refused exactly where the budget is above 1,000,000, and then with 18, no move, and the state as it was
+pub record Only18 (b : ℕ) (x : State) (c : Call) : Type 0 where
+  pub above : mostBudget < b → c ≡ result (refused 18) 0 x
+  pub else : b ≤ mostBudget → (k : ℕ) → c .answer ≢ refused k
+
+-- the answer where the last move gave g
+abbrev pub says : (List ℕ → List ℕ) → Given → Answer
+says out nothing = spent
+says out (hands p) = handed (out p)
+says out ends = end
+
+module _ (kids : List ℕ → List ℕ) where
+  -- none of the first k moves from the state x is a hand-out or an end
+  abbrev pub Quiet : ℕ → State → Type 0
+  Quiet k x = (i : ℕ) → i < k → move kids (after kids i x) .given ≡ nothing
+
+  -- what the last of k moves from the state x gives; nothing where none is made
+  abbrev pub lastOf : ℕ → State → Given
+  lastOf zero x = nothing
+  lastOf (suc k) x = move kids (after kids k x) .given
+
+  -- the whole budget of moves is made, unless a hand-out or an end, the first one, is the last move made; the answer says what that move gave
+  pub record Whole (out : List ℕ → List ℕ) (b : ℕ) (x : State) (c : Call) : Type 0 where
+    pub most : c .moves ≤ b
+    pub leads : c .next ≡ after kids (c .moves) x
+    pub sooner : Quiet (c .moves - 1) x
+    pub last : c .answer ≡ says out (lastOf (c .moves) x)
+    pub stops : c .moves < b → lastOf (c .moves) x ≢ nothing
+
+  -- "spent" exactly when as many moves as the budget were made and none was a hand-out or an end
+  pub record Spent (b : ℕ) (x : State) (c : Call) : Type 0 where
+    pub only : c .answer ≡ spent → (c .moves ≡ b) × Quiet b x
+    pub always : c .moves ≡ b → Quiet b x → c .answer ≡ spent

@@ -1,0 +1,23 @@
+-- `candidates::is_candidate_of` meets its contract: a place outside the set is no candidate, and one in it is asked.
+use mathlib.Core.Path.{_≡_, sym, _∙_}
+use borrow.Author.Tests.{not-true, not-false}
+use borrow.Author.Needs.{needs}
+use Rattle.sets.proofs.OnePlace.{in-places}
+use Rattle.search.proofs.Within.{of-absent}
+use Rattle.search.proofs.is_candidate_of.Statement.{statement}
+use Rattle.search.proofs.is_candidate_of.Tie as tie
+
+has-requires : tie.Need-has-requires
+has-requires c κs = search needs
+
+returns : tie.Need-returns
+returns c = of-absent _ _ _ _ (sym (c .before .has .ensures) ∙ not-true _ (c .if1 .taken))
+
+stands-requires : tie.Need-stands-requires
+stands-requires c κs = (in-places _ _ (c .before .before .fits .set .fits) (sym (c .before .has .ensures) ∙ not-false _ (c .if1 .left)), sym (c .before .has .ensures) ∙ not-false _ (c .if1 .left))
+
+returns-2 : tie.Need-returns-2
+returns-2 c = c .stands .ensures
+
+pub is-candidate-of-spec : {M : Type 1} → statement M
+is-candidate-of-spec = tie.close (tie.spec has-requires returns stands-requires returns-2)

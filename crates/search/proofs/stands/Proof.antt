@@ -1,0 +1,78 @@
+-- `candidates::stands` meets its contract: no place of the set that was passed rules the gauge out.
+use mathlib.Core.Path.{_≡_, refl, sym, _∙_}
+use mathlib.Core.Bool.{false}
+use Prim.Native.Nat.{ℕ}
+use native.Mathlib.Omega.{arith}
+use borrow.Author.Needs.{needs}
+use lib.Bits.{bitAnd}
+use lib.Dec.{ltb}
+use Rattle.table.specs.Pairs.{row}
+use Rattle.search.specs.Finding.{blocks}
+use Rattle.search.proofs.Within.{Passed, passed-none, passed-more, passed-all, of-empty, of-blocked, of-clear}
+use Rattle.search.proofs.stands.Statement.{statement}
+use Rattle.search.proofs.stands.Tie as tie
+
+abbrev Inv-loop : tie.InvT-loop
+Inv-loop rows set left g own rest₀ rest = Passed (λ (h : ℕ). blocks (bitAnd (row rows g) left) (bitAnd (row rows h) left) (ltb h g) ≡ false) set rest
+
+abbrev μ-loop : tie.MeasureT-loop
+μ-loop rows set left g own rest₀ rest = rest
+
+mul-own : tie.Need-mul-own Inv-loop μ-loop
+mul-own c = omega arith
+
+element-copy-out-own : tie.Need-element-copy-out-own Inv-loop μ-loop
+element-copy-out-own c = omega arith
+
+returns : tie.Need-returns Inv-loop μ-loop
+returns c = of-empty _ _ _ _ (c .before .before .pre .0) (c .before .before .pre .1) (c .if1 .taken)
+
+loop-holds : tie.Need-loop-holds Inv-loop μ-loop
+loop-holds c = passed-none _ _ _ refl
+
+first-requires : tie.Need-first-requires Inv-loop μ-loop
+first-requires c κs = search needs
+
+rest-requires : tie.Need-rest-requires Inv-loop μ-loop
+rest-requires c κs = search needs
+
+mul-blocks : tie.Need-mul-blocks Inv-loop μ-loop
+mul-blocks c = omega (arith, c .before .first .ensures .1 (c .before .before .loop-test .taken) .below)
+
+element-copy-out-blocks : tie.Need-element-copy-out-blocks Inv-loop μ-loop
+element-copy-out-blocks c = c .before .first .ensures .1 (c .before .before .loop-test .taken) .below
+
+blocks-requires : tie.Need-blocks-requires Inv-loop μ-loop
+blocks-requires c κs = search needs
+
+returns-2 : tie.Need-returns-2 Inv-loop μ-loop
+returns-2 c = of-blocked _ _ _ _ (c .before .before .before .before .before .before .before .before .before .pre .0) (c .before .before .before .before .before .before .before .before .before .pre .1) (c .before .before .before .before .before .before .before .if1 .left) _ _ (c .before .before .before .before .first .ensures .1 (c .before .before .before .before .before .loop-test .taken) .below) (c .before .before .before .before .before .before .loop .inv .within _ (c .before .before .before .before .first .ensures .1 (c .before .before .before .before .before .loop-test .taken) .here)) (c .before .blocks2 .ensures) (c .if2 .taken)
+
+loop-less : tie.Need-loop-less Inv-loop μ-loop
+loop-less c = c .before .before .before .rest .ensures (c .before .before .before .before .before .loop-test .taken) .fewer
+
+loop-again : tie.Need-loop-again Inv-loop μ-loop
+loop-again c = passed-more _ _ _ _ _ (c .before .before .before .before .before .before .loop .inv) (c .before .before .before .before .first .ensures .0) (c .before .before .before .rest .ensures (c .before .before .before .before .before .loop-test .taken)) (sym (c .before .blocks2 .ensures) ∙ c .if2 .left)
+
+returns-3 : tie.Need-returns-3 Inv-loop μ-loop
+returns-3 c = of-clear _ _ _ _ (c .before .before .before .before .pre .0) (c .before .before .before .before .pre .1) (c .before .before .if1 .left) (passed-all _ _ _ (c .before .loop .inv) (c .loop-test .left))
+
+pub stands-spec : {M : Type 1} → statement M
+stands-spec =
+    tie.close
+    (tie.spec
+    Inv-loop
+    μ-loop
+    mul-own
+    element-copy-out-own
+    returns
+    loop-holds
+    first-requires
+    rest-requires
+    mul-blocks
+    element-copy-out-blocks
+    blocks-requires
+    returns-2
+    loop-less
+    loop-again
+    returns-3)

@@ -1,0 +1,118 @@
+// Finding candidates (01, "Moves of a run"), once for both runs and for growing: whether a place is one, and the lowest from a place on.
+// `unpicked` holds the row of each unpicked gauge and nothing for a picked one, so that no step asks which gauges are picked, and `left` is
+// the set of left cases; proofs/AfterPicks.antt says that these are then 01's candidates. Any numbers are taken, and nothing is refused.
+use sets;
+ghost use mathlib.Core.Path.{_≡_};
+ghost use Prim.Native.Nat.{_<_, min};
+ghost use mathlib.Core.Bool.{true};
+ghost use Rattle.sets.specs.Sets.{bit};
+ghost use Rattle.search.specs.Finding.{blocks as blocksIn, candidateIn, First, within};
+
+// The places that there can be.
+const PLACES: usize = 64;
+
+// Whether place `g` is one of the first `n`, and its gauge a candidate among them.
+pub fn is_candidate(unpicked: &[u64; 64], left: u64, n: usize, g: usize) -> bool
+    ensures { λ r. ⌜ r ≡ candidateIn (now (unpicked .entry)) left n g ⌝ }
+{
+    let most = at_most_places(n);
+    if most <= g {
+        return false;
+    }
+    let own = unpicked[g] & left;
+    if own == 0 {
+        return false;
+    }
+    let mut h = 0;
+    while h < most {
+        if blocks(own, unpicked[h] & left, h < g) {
+            return false;
+        }
+        h += 1;
+    }
+    true
+}
+
+// The lowest candidate from place `from` on, of the first `n` places; the number of these places where there is none.
+pub fn next_candidate(unpicked: &[u64; 64], left: u64, n: usize, from: usize) -> usize
+    ensures { λ r. ⌜ First (candidateIn (now (unpicked .entry)) left n) from (min n 64) r ⌝ }
+{
+    let most = at_most_places(n);
+    let mut g = from;
+    while g < most {
+        if is_candidate(unpicked, left, n, g) {
+            return g;
+        }
+        g += 1;
+    }
+    most
+}
+
+// `n`, or 64 where it is larger.
+fn at_most_places(n: usize) -> usize
+    ensures { λ r. ⌜ r ≡ min n 64 ⌝ }
+{
+    if n < PLACES {
+        return n;
+    }
+    PLACES
+}
+
+// An unpicked gauge with the remainder `other` rules out one with the remainder `own`: it has more cases, or the same and is lower.
+fn blocks(own: u64, other: u64, lower: bool) -> bool
+    ensures { λ r. ⌜ r ≡ blocksIn own other lower ⌝ }
+{
+    if !sets::subset(own, other) {
+        return false;
+    }
+    if own != other {
+        return true;
+    }
+    lower
+}
+
+// The same where the unpicked gauges are a set of places beside the rows: whether place `g` is in the set, and its gauge a candidate among
+// those of the set.
+pub fn is_candidate_of(rows: &[u64; 64], set: u64, left: u64, g: usize) -> bool
+    ensures { λ r. ⌜ r ≡ candidateIn (within set (now (rows .entry))) left 64 g ⌝ }
+{
+    if !sets::has(set, g as u64) {
+        return false;
+    }
+    stands(rows, set, left, g)
+}
+
+// The lowest candidate from place `from` on, of the places in the set; 64 where there is none.
+pub fn next_candidate_of(rows: &[u64; 64], set: u64, left: u64, from: usize) -> usize
+    ensures { λ r. ⌜ First (candidateIn (within set (now (rows .entry))) left 64) from 64 r ⌝ }
+{
+    let mut rest = sets::upper(set, from as u64);
+    while rest != 0 {
+        let g = sets::first(rest);
+        rest = sets::rest(rest);
+        if stands(rows, set, left, g) {
+            return g;
+        }
+    }
+    PLACES
+}
+
+// A place of the set: something is left of its gauge, and no gauge of the set rules it out.
+fn stands(rows: &[u64; 64], set: u64, left: u64, g: usize) -> bool
+    requires { ⌜ (g < 64) × (bit set g ≡ true) ⌝ }
+    ensures { λ r. ⌜ r ≡ candidateIn (within set (now (rows .entry))) left 64 g ⌝ }
+{
+    let own = rows[g] & left;
+    if own == 0 {
+        return false;
+    }
+    let mut rest = set;
+    while rest != 0 {
+        let h = sets::first(rest);
+        rest = sets::rest(rest);
+        if blocks(own, rows[h] & left, h < g) {
+            return false;
+        }
+    }
+    true
+}
