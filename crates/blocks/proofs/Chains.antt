@@ -15,7 +15,7 @@ use Rattle.table.proofs.Padding.{pad-length, pad-getD}
 use Rattle.table.proofs.Places.{row-past, within-sub}
 use Rattle.table.proofs.Legality.{length-rows, row-tableRows}
 use Rattle.rules.specs.Machine.{State, Given, nothing, hands, ends}
-use Rattle.rules.specs.Calls.{Answer, spent, handed, Call, mostBudget}
+use Rattle.rules.specs.Calls.{Reply, spent, handed, Call, mostBudget}
 use Rattle.rules.specs.Reports.{says, lastOf}
 use Rattle.rules.proofs.Calls.{Paid, cost, cost-lap, cost-pos, call-law}
 use Rattle.rules.proofs.Reports.{calls-whole, calls-spent}

@@ -10,7 +10,7 @@ use Rattle.table.specs.declared.Table.{Table}
 use Rattle.table.specs.Tables.{Legal, tableRefusal}
 use Rattle.table.proofs.Legality.{legal-of}
 use Rattle.rules.specs.Machine.{State, fresh}
-use Rattle.rules.specs.Calls.{Answer, refused, spent, handed, end, Call, mostBudget, answered, handouts}
+use Rattle.rules.specs.Calls.{Reply, refused, spent, handed, end, Call, mostBudget, answered, handouts}
 use Rattle.rules.proofs.Calls.{call-law}
 use Rattle.rules.proofs.Reports.{call-only18}
 use Rattle.lists.specs.Lists.{gaugeSide}
@@ -29,7 +29,7 @@ pub files-append : (t : Table) (xs ys : List (List ℕ)) → files t (xs ++ ys) 
 files-append t [] ys = refl
 files-append t (x ∷ xs) ys = rw (files-append t xs ys) (sym (append-assoc (writeFile (pairTable t x)) (files t xs) (files t ys)))
 
-answered-append : (a : Answer) (xs ys : List (List ℕ)) → answered a (xs ++ ys) ≡ answered a xs ++ ys
+answered-append : (a : Reply) (xs ys : List (List ℕ)) → answered a (xs ++ ys) ≡ answered a xs ++ ys
 answered-append (refused n) xs ys = refl
 answered-append spent xs ys = refl
 answered-append (handed x) xs ys = refl
@@ -84,7 +84,7 @@ pub added-some : (t : Table) → Legal t → (s : State) → ReachedOn (gaugeSid
 added-some t l s h e =
     go (callOn (gaugeSide t) mostBudget s .answer) (never-spent t l s h) (call-only18 (candidates (gaugeSide t .rows)) (handOut (gaugeSide t)) mostBudget s .else (omega arith)) e
   where
-    go : (a : Answer) → (a ≡ spent → ⊥) → ((n : ℕ) → a ≡ refused n → ⊥) → isEnd a ≡ false → 0 < length (files t (answered a []))
+    go : (a : Reply) → (a ≡ spent → ⊥) → ((n : ℕ) → a ≡ refused n → ⊥) → isEnd a ≡ false → 0 < length (files t (answered a []))
     go (refused n) x r e = absurd (r n refl)
     go spent x r e = absurd (x refl)
     go (handed x) y r e = omega (arith, length-append (writeFile (pairTable t x)) [], file-pos (pairTable t x))

@@ -13,7 +13,7 @@ use Rattle.table.specs.Tables.{Legal, tableRefusal}
 use Rattle.table.proofs.Legality.{legal-of, legal-passes}
 use Rattle.rules.specs.Sequences.{factorial}
 use Rattle.rules.specs.Machine.{State, fresh}
-use Rattle.rules.specs.Calls.{Answer, refused, spent, handed, end, Call, handouts}
+use Rattle.rules.specs.Calls.{Reply, refused, spent, handed, end, Call, handouts}
 use Rattle.lists.specs.Lists.{gaugeSide, GaugeList}
 use Rattle.lists.specs.OnTable.{ReachedOn, callsOn}
 use Rattle.lists.specs.Demand.{Demand}
@@ -27,7 +27,7 @@ use Rattle.blocks.specs.Filling.{files, longest, Filling, made, after, i
 use Rattle.blocks.proofs.Fillings.{files-append, handouts-append, hasEnd-append, made-append, reached-after}
 
 -- a call that answered end
-end-of : (a : Answer) → isEnd a ≡ true → a ≡ end
+end-of : (a : Reply) → isEnd a ≡ true → a ≡ end
 end-of (refused n) e = let z : _≡_ {A = ℕ} 0 1 = cc in absurd (omega arith)
 end-of spent e = let z : _≡_ {A = ℕ} 0 1 = cc in absurd (omega arith)
 end-of (handed x) e = let z : _≡_ {A = ℕ} 0 1 = cc in absurd (omega arith)

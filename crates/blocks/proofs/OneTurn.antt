@@ -19,7 +19,7 @@ use Rattle.table.specs.declared.Refusal.the-variants.{BufferTooShort}
 use Rattle.table.proofs.Answering.{number-pos}
 use Rattle.table.proofs.Legality.{legal-of, legal-passes}
 use Rattle.rules.specs.Machine.{State}
-use Rattle.rules.specs.Calls.{Answer, refused, spent, handed, end, Call, mostBudget, answered}
+use Rattle.rules.specs.Calls.{Reply, refused, spent, handed, end, Call, mostBudget, answered}
 use Rattle.rules.proofs.Reports.{call-only18}
 use Rattle.lists.specs.Lists.{gaugeSide}
 use Rattle.lists.specs.Picks.{candidates}
@@ -34,7 +34,7 @@ use Rattle.blocks.specs.private.Turning.{Checked, placed, Put, Added, Tu
 use Rattle.blocks.proofs.Chains.{pair-legal, handed-within}
 
 -- ---- what the rules give for a call
-pub told-answer : (t : Table) (a : Answer) (k : ℕ) (s : State) → byRules t a k s .answer ≡ a
+pub told-answer : (t : Table) (a : Reply) (k : ℕ) (s : State) → byRules t a k s .answer ≡ a
 told-answer t (refused n) k s = refl
 told-answer t spent k s = refl
 told-answer t (handed x) k s = refl
@@ -50,8 +50,8 @@ module _ (v : Value) (b : ℕ) (r : Step) (c : Called gaugeSide v b r) (ok : tab
   pub same-answer : made .answer ≡ r .answer
   same-answer = sym (ap (λ (x : Step). x .answer) by-rules ∙ told-answer (v .table) (made .answer) (made .moves) (made .next))
 
-  pub as-answered : (a : Answer) → r .answer ≡ a → r ≡ byRules (v .table) a (made .moves) (made .next)
-  as-answered a e = by-rules ∙ ap (λ (x : Answer). byRules (v .table) x (made .moves) (made .next)) (same-answer ∙ e)
+  pub as-answered : (a : Reply) → r .answer ≡ a → r ≡ byRules (v .table) a (made .moves) (made .next)
+  as-answered a e = by-rules ∙ ap (λ (x : Reply). byRules (v .table) x (made .moves) (made .next)) (same-answer ∙ e)
 
   pub never-refused : b ≤ mostBudget → (n : ℕ) → r .answer ≡ refused n → ⊥
   never-refused l n e = call-only18 (candidates (gaugeSide (v .table) .rows)) (handOut (gaugeSide (v .table))) b s .else l n (same-answer ∙ e)

@@ -11,7 +11,7 @@ use Rattle.table.specs.Tables.{tableRefusal, padded}
 use Rattle.table.specs.Answers.{verdict}
 use Rattle.rules.specs.Sequences.{factorial}
 use Rattle.rules.specs.Machine.{State, fresh}
-use Rattle.rules.specs.Calls.{Answer, refused, spent, handed, end, Call, callsFrom, stateAfter, handouts}
+use Rattle.rules.specs.Calls.{Reply, refused, spent, handed, end, Call, callsFrom, stateAfter, handouts}
 use Rattle.lists.specs.Lists.{gaugeSide, GaugeList}
 use Rattle.lists.specs.Picks.{candidates}
 use Rattle.lists.specs.OnTable.{handOut}
@@ -53,7 +53,7 @@ made t bs s = callsFrom (candidates (gaugeSide t .rows)) (handOut (gaugeSide t))
 abbrev pub after : Table → List ℕ → State → State
 after t bs s = stateAfter (candidates (gaugeSide t .rows)) (handOut (gaugeSide t)) bs s
 
-abbrev pub isEnd : Answer → Bool
+abbrev pub isEnd : Reply → Bool
 isEnd (refused n) = false
 isEnd spent = false
 isEnd (handed x) = false

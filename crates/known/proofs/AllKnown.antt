@@ -32,7 +32,7 @@ use Rattle.lists.specs.Picks.{common, rulesOut, candidate, select, candidates}
 use Rattle.lists.specs.OnTable.{chainRow, chainOf}
 use Rattle.lists.proofs.Listed.{chainsInOrder, gauge-list}
 use Rattle.lists.proofs.Growing.{covers, fitting, growFrom, grow, grow-first}
-use Rattle.known.specs.KnownTables.{pairs, count, Entry, Shape, Lists, moveOf, k1, k2, k3, k4, k5, k10, Known, K1, K2, K3, K4, K5, K6, K7, K8, K9, K10, Holds, knownTables, AllKnown, Attained}
+use Rattle.known.specs.KnownTables.{pairs, count, Entry, Shape, Lists, moveOf, k1, k2, k3, k4, k5, k10, Known, K1, K2, K3, K4, K5, K6, K7, K8, K9, K10, Claim, knownTables, AllKnown, Attained}
 
 -- ---- the gauge list of a table, from what is computed
 module _ (t : Table) (g l : ℕ) where
@@ -74,7 +74,7 @@ none-ends t n h k l b =
     no-end (moveOf t k .given) (all-at (λ i. goesOn (move (candidates (tableRows t)) (after (candidates (tableRows t)) i fresh) .given)) n (k - 1) h (omega arith))
 
 -- ---- all of them
-holds : (k : Known) → Holds k
+holds : (k : Known) → Claim k
 unfolding tableRefusal rowsFit candidates select candidate rulesOut common isIn isProperSubset isSubset meet allBelow chainOf chainRow tabulate pickSeq takeFrom best score ones onesIn grow growFrom fitting covers k8 goesOn
 holds K1 = lists k1 _ _ _ (shape k1 _ _ refl refl refl refl) refl refl refl
 holds K2 = lists k2 _ _ _ (shape k2 _ _ refl refl refl refl) refl refl refl
@@ -100,7 +100,7 @@ listed K9 = List·Memᴰ·tail (List·Memᴰ·tail (List·Memᴰ·tail (List·Me
 listed K10 = List·Memᴰ·tail (List·Memᴰ·tail (List·Memᴰ·tail (List·Memᴰ·tail (List·Memᴰ·tail (List·Memᴰ·tail (List·Memᴰ·tail (List·Memᴰ·tail (List·Memᴰ·tail (List·Memᴰ·head refl)))))))))
 
 pub known-tables : AllKnown
-known-tables = record { complete = listed; holds = All-of Holds knownTables (λ k m. holds k) }
+known-tables = record { complete = listed; holds = All-of Claim knownTables (λ k m. holds k) }
 
 -- ---- the limits
 pub limits-attained : Attained

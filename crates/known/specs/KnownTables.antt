@@ -127,11 +127,11 @@ pub data Known : Type 0 where
   K9 : Known
   K10 : Known
 
-abbrev pub Holds : Known → Type 0
+abbrev pub Claim : Known → Type 0
 -- "ladders 1:1, then 2:2"
-Holds K1 = Lists k1 2 2 (entry ((1 ∷ []) ∷ [] ∷ []) (1 ∷ []) 1 ∷ entry ([] ∷ (2 ∷ []) ∷ []) (2 ∷ []) 1 ∷ [])
+Claim K1 = Lists k1 2 2 (entry ((1 ∷ []) ∷ [] ∷ []) (1 ∷ []) 1 ∷ entry ([] ∷ (2 ∷ []) ∷ []) (2 ∷ []) 1 ∷ [])
 -- "six ladders, picks (1,2) (1,3) (2,1) (2,3) (3,1) (3,2), three pairs each"
-Holds K2 =
+Claim K2 =
     Lists k2 3 3
     (entry ((2 ∷ 3 ∷ []) ∷ (3 ∷ []) ∷ [] ∷ []) (1 ∷ 2 ∷ []) 3
     ∷ entry ((2 ∷ 3 ∷ []) ∷ [] ∷ (2 ∷ []) ∷ []) (1 ∷ 3 ∷ []) 3
@@ -141,25 +141,25 @@ Holds K2 =
     ∷ entry ([] ∷ (1 ∷ []) ∷ (1 ∷ 2 ∷ []) ∷ []) (3 ∷ 2 ∷ []) 3
     ∷ [])
 -- "two ladders, picks (1,2,3) with five pairs and (3,1,2) with four"
-Holds K3 =
+Claim K3 =
     Lists k3 3 3
     (entry ((1 ∷ 2 ∷ []) ∷ (1 ∷ 2 ∷ []) ∷ (2 ∷ []) ∷ []) (1 ∷ 2 ∷ 3 ∷ []) 5
     ∷ entry ((2 ∷ []) ∷ (2 ∷ []) ∷ (2 ∷ 3 ∷ []) ∷ []) (3 ∷ 1 ∷ 2 ∷ []) 4
     ∷ [])
 -- "one ladder, all four pairs"
-Holds K4 = Lists k4 2 2 (entry ((1 ∷ 2 ∷ []) ∷ (1 ∷ 2 ∷ []) ∷ []) (1 ∷ 2 ∷ []) 4 ∷ [])
+Claim K4 = Lists k4 2 2 (entry ((1 ∷ 2 ∷ []) ∷ (1 ∷ 2 ∷ []) ∷ []) (1 ∷ 2 ∷ []) 4 ∷ [])
 -- "one empty ladder; move 1 hands out, move 2 ends"
-Holds K5 = Lists k5 2 3 (entry ([] ∷ [] ∷ []) [] 0 ∷ []) × (moveOf k5 1 .given ≡ hands []) × (moveOf k5 2 .given ≡ ends)
+Claim K5 = Lists k5 2 3 (entry ([] ∷ [] ∷ []) [] 0 ∷ []) × (moveOf k5 1 .given ≡ hands []) × (moveOf k5 2 .given ≡ ends)
 -- "1:2, 2:3, 3:1 in K2: not a chain"
-Holds K6 = NoChain k2 (pairs ((2 ∷ []) ∷ (3 ∷ []) ∷ (1 ∷ []) ∷ []))
+Claim K6 = NoChain k2 (pairs ((2 ∷ []) ∷ (3 ∷ []) ∷ (1 ∷ []) ∷ []))
 -- "1:2, 1:3 in K2: a chain, no ladder"
-Holds K7 = NotMaximal k2 (pairs ((2 ∷ 3 ∷ []) ∷ [] ∷ [] ∷ []))
+Claim K7 = NotMaximal k2 (pairs ((2 ∷ 3 ∷ []) ∷ [] ∷ [] ∷ []))
 -- "3:2 in K2 grows to 1:2, 1:3, 3:2"
-Holds K8 = Grows k2 (pairs ([] ∷ [] ∷ (2 ∷ []) ∷ [])) (pairs ((2 ∷ 3 ∷ []) ∷ [] ∷ (2 ∷ []) ∷ []))
+Claim K8 = Grows k2 (pairs ([] ∷ [] ∷ (2 ∷ []) ∷ [])) (pairs ((2 ∷ 3 ∷ []) ∷ [] ∷ (2 ∷ []) ∷ []))
 -- "K2's gauge run first ends with move 25"
-Holds K9 = FirstEnd k2 25
+Claim K9 = FirstEnd k2 25
 -- "pick, hand out, take back, end"; gauge 1 is row index 0
-Holds K10 =
+Claim K10 =
     Shape k10 1 1 × (moveOf k10 1 ≡ gives nothing (at (0 ∷ []) Down)) × (moveOf k10 2 ≡ gives (hands (0 ∷ [])) (at (0 ∷ []) Handed))
     × (moveOf k10 3 ≡ gives nothing (at [] (Back 0))) × (moveOf k10 4 ≡ gives ends (at [] Ended))
 
@@ -169,7 +169,7 @@ knownTables = K1 ∷ K2 ∷ K3 ∷ K4 ∷ K5 ∷ K6 ∷ K7 ∷ K8 ∷ K9 ∷ K10
 -- all ten are in it, and each of them holds
 pub record AllKnown : Type 0 where
   pub complete : (k : Known) → List·Memᴰ k knownTables
-  pub holds : All Holds knownTables
+  pub holds : All Claim knownTables
 
 -- ---- the limits of demand 3 are attained, whatever the budgets, a refused one among them
 pub record Attained : Type 0 where

@@ -23,8 +23,8 @@ use Rattle.lists.proofs.Listed.{picksInOrder, chainsInOrder, listed, li
 
 pub record Fair (t : Table) (s : Side) : Type 0 where
   pub counted : length (s .rows) ≡ s .count
-  pub over : (x : List ℕ) → IsMaximal (tableRows t) x → IsMaximal (s .rows) (s .key x) × (s .back (s .key x) ≡ x)
-  pub home : (y : List ℕ) → IsMaximal (s .rows) y → IsMaximal (tableRows t) (s .back y) × (s .key (s .back y) ≡ y)
+  pub over : (x : List ℕ) → IsMaximal (tableRows t) x → IsMaximal (s .rows) (s .key x) × (s .byGauges (s .key x) ≡ x)
+  pub home : (y : List ℕ) → IsMaximal (s .rows) y → IsMaximal (tableRows t) (s .byGauges y) × (s .key (s .byGauges y) ≡ y)
 
 pub gauge-fair : (t : Table) → Legal t → Fair t (gaugeSide t)
 gauge-fair t l = record { counted = length-rows t l; over = λ x m. (m, refl); home = λ y m. (m, refl) }
@@ -66,7 +66,7 @@ module _ (t : Table) (s : Side) (f : Fair t s) where
   sideList = map (handOut s) (picksInOrder (s .rows))
 
   pub side-list : SideList (tableRows t) (s .key) sideList
-  side-list = subst (SideList (tableRows t) (s .key)) (map-map (s .back) (chainOf (s .rows)) (picksInOrder (s .rows))) (listed (map (s .back) own) (λ x. (into x, onto x)) ascends)
+  side-list = subst (SideList (tableRows t) (s .key)) (map-map (s .byGauges) (chainOf (s .rows)) (picksInOrder (s .rows))) (listed (map (s .byGauges) own) (λ x. (into x, onto x)) ascends)
     where
       own : List (List ℕ)
       own = chainsInOrder (s .rows)
@@ -74,14 +74,14 @@ module _ (t : Table) (s : Side) (f : Fair t s) where
       own-maximal : (y : List ℕ) → List·Memᴰ y own → IsMaximal (s .rows) y
       own-maximal y m = gauge-list (s .rows) .members y .0 m
 
-      into : (x : List ℕ) → List·Memᴰ x (map (s .back) own) → IsMaximal (tableRows t) x
-      into x m = let z = Memᴰ·of-map (s .back) own m in subst (IsMaximal (tableRows t)) (z .2) (f .home (z .0) (own-maximal (z .0) (z .1)) .0)
+      into : (x : List ℕ) → List·Memᴰ x (map (s .byGauges) own) → IsMaximal (tableRows t) x
+      into x m = let z = Memᴰ·of-map (s .byGauges) own m in subst (IsMaximal (tableRows t)) (z .2) (f .home (z .0) (own-maximal (z .0) (z .1)) .0)
 
-      onto : (x : List ℕ) → IsMaximal (tableRows t) x → List·Memᴰ x (map (s .back) own)
-      onto x m = Memᴰ·cast (sym (f .over x m .1)) (Memᴰ·map (s .back) (gauge-list (s .rows) .members (s .key x) .1 (f .over x m .0)))
+      onto : (x : List ℕ) → IsMaximal (tableRows t) x → List·Memᴰ x (map (s .byGauges) own)
+      onto x m = Memᴰ·cast (sym (f .over x m .1)) (Memᴰ·map (s .byGauges) (gauge-list (s .rows) .members (s .key x) .1 (f .over x m .0)))
 
-      ascends : Sorted (λ (x y : List ℕ). Precedes (s .key x) (s .key y)) (map (s .back) own)
-      ascends = sorted-back Precedes (s .back) (s .key) own (All-of (λ (y : List ℕ). s .key (s .back y) ≡ y) own (λ y m. f .home y (own-maximal y m) .1)) (gauge-list (s .rows) .ascends)
+      ascends : Sorted (λ (x y : List ℕ). Precedes (s .key x) (s .key y)) (map (s .byGauges) own)
+      ascends = sorted-back Precedes (s .byGauges) (s .key) own (All-of (λ (y : List ℕ). s .key (s .byGauges y) ≡ y) own (λ y m. f .home y (own-maximal y m) .1)) (gauge-list (s .rows) .ascends)
 
   -- no list of the table is longer than there are orders of what the side can pick
   few-by : {key : List ℕ → List ℕ} (xs : List (List ℕ)) → SideList (tableRows t) key xs → length xs ≤ factorial (s .count)

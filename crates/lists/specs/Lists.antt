@@ -18,19 +18,19 @@ pub record SideList (r : List ℕ) (key : List ℕ → List ℕ) (xs : List (Lis
   pub ascends : Sorted (λ (x y : List ℕ). Precedes (key x) (key y)) xs
 
 -- One side of a table: how many numbers can be picked, and the rows that its run works on; `key` has a set of the table's pairs as the side
--- sees it, and `back` gives a set of the side's pairs back by gauge rows.
+-- sees it, and `byGauges` gives a set of the side's pairs back by gauge rows.
 pub record Side : Type 0 where
   pub count : ℕ
   pub rows : List ℕ
   pub key : List ℕ → List ℕ
-  pub back : List ℕ → List ℕ
+  pub byGauges : List ℕ → List ℕ
 
 abbrev pub gaugeSide : Table → Side
-gaugeSide t = record { count = t .gauges; rows = tableRows t; key = λ x. x; back = λ x. x }
+gaugeSide t = record { count = t .gauges; rows = tableRows t; key = λ x. x; byGauges = λ x. x }
 
 -- "The **case run** does the same on the table with gauges and cases exchanged; its ladders are given back by gauge rows"
 abbrev pub caseSide : Table → Side
-caseSide t = record { count = t .cases; rows = transpose (t .cases) (tableRows t); key = transpose (t .cases); back = transpose (t .gauges) }
+caseSide t = record { count = t .cases; rows = transpose (t .cases) (tableRows t); key = transpose (t .cases); byGauges = transpose (t .gauges) }
 
 -- "ascending by pick sequence .. The case run likewise by cases"
 abbrev pub GaugeList : Table → List (List ℕ) → Type 0

@@ -23,7 +23,7 @@ chainOf r p = tabulate (chainRow r [] p) (length r)
 
 -- the set that a side's run hands out for the picks p, by gauge rows
 abbrev pub handOut : Side → List ℕ → List ℕ
-handOut s p = s .back (chainOf (s .rows) p)
+handOut s p = s .byGauges (chainOf (s .rows) p)
 
 -- the values that 15 does not refuse: "15 a value that no number of moves, 0 included, from a fresh start on its table leads to"
 abbrev pub ReachedOn : Side → State → Type 0

@@ -13,7 +13,7 @@ use lib.Dec.{ltb}
 use lib.ListN.{length}
 use borrow.Author.Tests.{lt-ltb, le-ltb}
 use Rattle.rules.specs.Machine.{cutLast, Phase, Down, Handed, Back, Ended, State, Given, nothing, hands, ends, at, fresh, takeBack, down, back, above, step, move}
-use Rattle.rules.specs.Calls.{Answer, refused, spent, handed, end, Call, result, mostBudget, answered, handouts, movesUntil, isHandOut, isHandOutOrEnd, proceed, carry, call, callsFrom, calls, stateAfter}
+use Rattle.rules.specs.Calls.{Reply, refused, spent, handed, end, Call, result, mostBudget, answered, handouts, movesUntil, isHandOut, isHandOutOrEnd, proceed, carry, call, callsFrom, calls, stateAfter}
 use Rattle.rules.specs.private.Fitting.{Fits}
 use Rattle.rules.proofs.Trees.{by-last, cut-snoc, length-snoc, Tree, leaves, kid-fits}
 use Rattle.rules.proofs.Progress.{rest, listed, move-rest, move-fits}
@@ -31,13 +31,13 @@ Closes (hands p) s = Unit {0}
 Closes ends s = s ≡ at [] Ended
 
 -- k moves, from a state of cost d to one of cost c
-abbrev pub Paid : Answer → ℕ → ℕ → ℕ → Type 0
+abbrev pub Paid : Reply → ℕ → ℕ → ℕ → Type 0
 Paid (refused j) k c d = k + c ≤ d
 Paid spent k c d = k + c ≤ d
 Paid (handed x) k c d = k ≤ d
 Paid end k c d = k ≤ d
 
-abbrev pub Closed : Answer → State → Type 0
+abbrev pub Closed : Reply → State → Type 0
 Closed (refused j) s = Unit {0}
 Closed spent s = Unit {0}
 Closed (handed x) s = Unit {0}
@@ -138,7 +138,7 @@ module _ (kids : List ℕ → List ℕ) (out : List ℕ → List ℕ) where
       pub closed : Closed (c .answer) (c .next)
 
 -- no end, and Down again where no hand-out came
-abbrev StaysDown : Answer → State → Type 0
+abbrev StaysDown : Reply → State → Type 0
 StaysDown (refused j) s = (p : List ℕ) × (s ≡ at p Down)
 StaysDown spent s = (p : List ℕ) × (s ≡ at p Down)
 StaysDown (handed x) s = Unit {0}
@@ -162,13 +162,13 @@ module _ (kids : List ℕ → List ℕ) (out : List ℕ → List ℕ) where
       go true = (p, refl)
       go false = carry-down b p
 
-paid-one : (a : Answer) (k c d d′ : ℕ) → suc d′ ≤ d → Paid a k c d′ → Paid a (suc k) c d
+paid-one : (a : Reply) (k c d d′ : ℕ) → suc d′ ≤ d → Paid a k c d′ → Paid a (suc k) c d
 paid-one (refused j) k c d d′ l h = omega arith
 paid-one spent k c d d′ l h = omega arith
 paid-one (handed x) k c d d′ l h = omega arith
 paid-one end k c d d′ l h = omega arith
 
-answered-append : (a : Answer) (l m : List (List ℕ)) → answered a l ++ m ≡ answered a (l ++ m)
+answered-append : (a : Reply) (l m : List (List ℕ)) → answered a l ++ m ≡ answered a (l ++ m)
 answered-append (refused j) l m = refl
 answered-append spent l m = refl
 answered-append (handed x) l m = refl
@@ -243,7 +243,7 @@ module _ (kids : List ℕ → List ℕ) (out : List ℕ → List ℕ) (n : ℕ) 
       let l = call-law b s h in
       go (call kids out b s .answer) (call kids out b s .moves) _ _ _ (l .paid) (moves-cost bs (call kids out b s .next) (l .fits))
     where
-      go : (a : Answer) (k c d more : ℕ) → Paid a k c d → more ≤ c → k + cond (isHandOutOrEnd a) 0 more ≤ d
+      go : (a : Reply) (k c d more : ℕ) → Paid a k c d → more ≤ c → k + cond (isHandOutOrEnd a) 0 more ≤ d
       go (refused j) k c d more p m = omega arith
       go spent k c d more p m = omega arith
       go (handed x) k c d more p m = omega arith
@@ -254,7 +254,7 @@ module _ (kids : List ℕ → List ℕ) (out : List ℕ → List ℕ) (n : ℕ) 
   start-same [] p = refl
   start-same (b ∷ bs) p = go (call kids out b (at p Down) .answer) (call kids out b (at p Down) .next) (call-down kids out b p) (start-same bs)
     where
-      go : (a : Answer) (s : State) → StaysDown a s → ((q : List ℕ) → movesUntil isHandOut (callsFrom kids out bs (at q Down)) ≡ movesUntil isHandOutOrEnd (callsFrom kids out bs (at q Down)))
+      go : (a : Reply) (s : State) → StaysDown a s → ((q : List ℕ) → movesUntil isHandOut (callsFrom kids out bs (at q Down)) ≡ movesUntil isHandOutOrEnd (callsFrom kids out bs (at q Down)))
           → call kids out b (at p Down) .moves + cond (isHandOut a) 0 (movesUntil isHandOut (callsFrom kids out bs s)) ≡ call kids out b (at p Down) .moves + cond (isHandOutOrEnd a) 0 (movesUntil isHandOutOrEnd (callsFrom kids out bs s))
       go (refused j) s d on = rw (d .1) (ap (λ (m : ℕ). call kids out b (at p Down) .moves + m) (on (d .0)))
       go spent s d on = rw (d .1) (ap (λ (m : ℕ). call kids out b (at p Down) .moves + m) (on (d .0)))

@@ -8,7 +8,7 @@ use native.Mathlib.Omega.{arith}
 use lib.ListN.{length, length-map}
 use Rattle.rules.specs.Sequences.{All}
 use Rattle.rules.specs.Machine.{State, fresh}
-use Rattle.rules.specs.Calls.{Answer, refused, spent, handed, end, Call, mostBudget, handouts, call, callsFrom, calls}
+use Rattle.rules.specs.Calls.{Reply, refused, spent, handed, end, Call, mostBudget, handouts, call, callsFrom, calls}
 use Rattle.rules.specs.private.Fitting.{Fits}
 use Rattle.rules.proofs.Trees.{Tree, leaves}
 use Rattle.rules.proofs.Calls.{Paid, cost, cost-pos, cost-lap, ahead, call-law, ahead-fresh, calls-complete}
@@ -30,7 +30,7 @@ module _ (kids : List ℕ → List ℕ) (out : List ℕ → List ℕ) (n : ℕ) 
   end-from (b ∷ bs) s h a l = go (end-from bs (call kids out b s .next) (call-law kids out n t b s h .fits) a.1) (call kids out b s .answer) refl
     where
       go : (length (ahead kids out n (call kids out b s .next)) < length bs → (c : Call) × List·Memᴰ c (callsFrom kids out bs (call kids out b s .next)) × (c .answer ≡ end))
-          → (x : Answer) → call kids out b s .answer ≡ x → (c : Call) × List·Memᴰ c (callsFrom kids out (b ∷ bs) s) × (c .answer ≡ end)
+          → (x : Reply) → call kids out b s .answer ≡ x → (c : Call) × List·Memᴰ c (callsFrom kids out (b ∷ bs) s) × (c .answer ≡ end)
       go on (refused k) e = absurd (call-only18 kids out b s .else (a .0 .high) k e)
       go on spent e = absurd (call-enough b s h a.0 e)
       go on (handed p) e =

@@ -8,7 +8,7 @@ use Prim.Native.Nat.{ℕ, zero, suc, _-_, _≤_, _<_}
 use native.Mathlib.Decide.{ℕ-discrete, decLt, decLe}
 use native.Mathlib.Omega.{arith}
 use Rattle.rules.specs.Machine.{State, Given, nothing, hands, ends, move, after}
-use Rattle.rules.specs.Calls.{Answer, refused, spent, handed, end, Call, result, mostBudget, proceed, carry, call, callsFrom}
+use Rattle.rules.specs.Calls.{Reply, refused, spent, handed, end, Call, result, mostBudget, proceed, carry, call, callsFrom}
 use Rattle.rules.specs.Reports.{EachCall, Only18, says, Quiet, lastOf, Whole, Spent}
 use Rattle.rules.proofs.Calls.{call-above, call-within}
 
@@ -65,7 +65,7 @@ module _ (kids : List ℕ → List ℕ) where
 
     -- the moves determine the call
     whole-is : c ≡ result (says out (lastOf kids (c .moves) s)) (c .moves) (after kids (c .moves) s)
-    whole-is = ap₂ (λ (a : Answer) (x : State). result a (c .moves) x) (w .last) (w .leads)
+    whole-is = ap₂ (λ (a : Reply) (x : State). result a (c .moves) x) (w .last) (w .leads)
 
     -- and no other call makes more
     whole-most : (d : Call) → Whole kids out b s d → c .moves < d .moves → ⊥

@@ -7,18 +7,18 @@ use Prim.Native.Nat.{ℕ, zero, suc, _+_}
 use lib.Dec.{ltb}
 use Rattle.rules.specs.Machine.{State, fresh, Given, nothing, hands, ends, move}
 
-pub data Answer : Type 0 where
-  refused : ℕ → Answer
-  spent : Answer
-  handed : List ℕ → Answer
-  end : Answer
+pub data Reply : Type 0 where
+  refused : ℕ → Reply
+  spent : Reply
+  handed : List ℕ → Reply
+  end : Reply
 
 pub record Call : Type 0 where
-  pub answer : Answer
+  pub answer : Reply
   pub moves : ℕ
   pub next : State
 
-abbrev pub result : Answer → ℕ → State → Call
+abbrev pub result : Reply → ℕ → State → Call
 result a k s = record { answer = a; moves = k; next = s }
 
 -- "A run call has a budget from 0 to 1,000,000 moves"
@@ -56,7 +56,7 @@ module _ (kids : List ℕ → List ℕ) (out : List ℕ → List ℕ) where
 
 -- ---- what is read off a list of calls
 -- what the answers hand out, in turn
-abbrev pub answered : Answer → List (List ℕ) → List (List ℕ)
+abbrev pub answered : Reply → List (List ℕ) → List (List ℕ)
 answered (refused k) l = l
 answered spent l = l
 answered (handed x) l = x ∷ l
@@ -67,17 +67,17 @@ handouts [] = []
 handouts (c ∷ cs) = answered (c .answer) (handouts cs)
 
 -- the moves of these calls up to and with the first whose answer `stops`; all of them where none does
-abbrev pub movesUntil : (Answer → Bool) → List Call → ℕ
+abbrev pub movesUntil : (Reply → Bool) → List Call → ℕ
 movesUntil stops [] = 0
 movesUntil stops (c ∷ cs) = c .moves + cond (stops (c .answer)) 0 (movesUntil stops cs)
 
-abbrev pub isHandOut : Answer → Bool
+abbrev pub isHandOut : Reply → Bool
 isHandOut (refused k) = false
 isHandOut spent = false
 isHandOut (handed x) = true
 isHandOut end = false
 
-abbrev pub isHandOutOrEnd : Answer → Bool
+abbrev pub isHandOutOrEnd : Reply → Bool
 isHandOutOrEnd (refused k) = false
 isHandOutOrEnd spent = false
 isHandOutOrEnd (handed x) = true

@@ -5,7 +5,7 @@ use mathlib.Core.Logic.{_≢_}
 use mathlib.Core.List.{List, [], _∷_}
 use Prim.Native.Nat.{ℕ, zero, suc, _-_, _≤_, _<_}
 use Rattle.rules.specs.Machine.{State, Given, nothing, hands, ends, move, after}
-use Rattle.rules.specs.Calls.{Answer, refused, spent, handed, end, Call, result, mostBudget}
+use Rattle.rules.specs.Calls.{Reply, refused, spent, handed, end, Call, result, mostBudget}
 
 -- P holds of each call, with its budget and the state that it gets; x is the state that the first gets
 abbrev pub EachCall : (ℕ → State → Call → Type 0) → List ℕ → State → List Call → Type 0
@@ -20,7 +20,7 @@ pub record Only18 (b : ℕ) (x : State) (c : Call) : Type 0 where
   pub else : b ≤ mostBudget → (k : ℕ) → c .answer ≢ refused k
 
 -- the answer where the last move gave g
-abbrev pub says : (List ℕ → List ℕ) → Given → Answer
+abbrev pub says : (List ℕ → List ℕ) → Given → Reply
 says out nothing = spent
 says out (hands p) = handed (out p)
 says out ends = end

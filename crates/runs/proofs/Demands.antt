@@ -12,7 +12,7 @@ use Rattle.table.specs.declared.Table.{Table}
 use Rattle.table.proofs.Legality.{legal-passes}
 use Rattle.rules.specs.Sequences.{All, factorial}
 use Rattle.rules.specs.Machine.{State, fresh}
-use Rattle.rules.specs.Calls.{Answer, refused, spent, handed, end, Call, mostBudget, callsFrom, stateAfter, answered, handouts}
+use Rattle.rules.specs.Calls.{Reply, refused, spent, handed, end, Call, mostBudget, callsFrom, stateAfter, answered, handouts}
 use Rattle.rules.proofs.Calls.{call-above, call-law}
 use Rattle.rules.proofs.Reports.{call-only18}
 use Rattle.rules.proofs.Ends.{Enough}
@@ -40,7 +40,7 @@ module _ (side : Table → Side) (t : Table) (ok : tableRefusal t ≡ 0) where
       go (no l) = ap (λ (c : Call). c .next) (call-above (candidates (here .rows)) (handOut here) b s (omega arith))
 
   -- the value that the next call gets is the paused value of the state that the rules lead to
-  kept-value : (a : Answer) (k : ℕ) (s y : State) → ((n : ℕ) → a ≡ refused n → y ≡ s) → kept (byRules t a k y .answer) (paused t s) (byRules t a k y .next) ≡ paused t y
+  kept-value : (a : Reply) (k : ℕ) (s y : State) → ((n : ℕ) → a ≡ refused n → y ≡ s) → kept (byRules t a k y .answer) (paused t s) (byRules t a k y .next) ≡ paused t y
   kept-value (refused n) k s y h = ap (paused t) (sym (h n refl))
   kept-value spent k s y h = refl
   kept-value (handed x) k s y h = refl
@@ -101,12 +101,12 @@ calls-more side v (a ∷ bs) (q ∷ rs) b r c d = (c .0, calls-more side (kept (
 
 -- a refused call at the end changes nothing, and where every call is refused the first value is left
 pub left-refused : (v : Value) (rs : List Step) (r : Step) (n : ℕ) → r .answer ≡ refused n → left v (rs ++ (r ∷ [])) ≡ left v rs
-left-refused v [] r n e = ap (λ (a : Answer). kept a v (r .next)) e
+left-refused v [] r n e = ap (λ (a : Reply). kept a v (r .next)) e
 left-refused v (q ∷ rs) r n e = left-refused (kept (q .answer) v (q .next)) rs r n e
 
 pub left-all-refused : (v : Value) (rs : List Step) → ((r : Step) → List·Memᴰ r rs → (n : ℕ) × (r .answer ≡ refused n)) → left v rs ≡ v
 left-all-refused v [] h = refl
-left-all-refused v (r ∷ rs) h = ap (λ (w : Value). left w rs) (ap (λ (a : Answer). kept a v (r .next)) (h r (List·Memᴰ·head refl) .1)) ∙ left-all-refused v rs (λ q m. h q (List·Memᴰ·tail m))
+left-all-refused v (r ∷ rs) h = ap (λ (w : Value). left w rs) (ap (λ (a : Reply). kept a v (r .next)) (h r (List·Memᴰ·head refl) .1)) ∙ left-all-refused v rs (λ q m. h q (List·Memᴰ·tail m))
 
 -- ---- the promises
 module _ (side : Table → Side) (t : Table) (l : Legal t) (f : Fair t (side t)) where
@@ -127,7 +127,7 @@ carries-demand side v b r h c ok bs rs cs e =
     (calls-more side (paused (v .table) fresh) bs rs b r cs (subst (λ (w : Value). Called side w b r) (sym e) c))
 
 -- ---- the two runs
-told-answer : (t : Table) (a : Answer) (k : ℕ) (s : State) → byRules t a k s .answer ≡ a
+told-answer : (t : Table) (a : Reply) (k : ℕ) (s : State) → byRules t a k s .answer ≡ a
 told-answer t (refused n) k s = refl
 told-answer t spent k s = refl
 told-answer t (handed x) k s = refl

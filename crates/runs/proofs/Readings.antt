@@ -15,7 +15,7 @@ use Rattle.table.specs.declared.Case.{Case}
 use Rattle.table.specs.declared.Verdict.{Verdict}
 use Rattle.table.proofs.Answering.{named, named-number, verdict-injective}
 use Rattle.rules.specs.Machine.{Phase, Down, Handed, Back, Ended, State}
-use Rattle.rules.specs.Calls.{Answer, refused, spent, handed, end}
+use Rattle.rules.specs.Calls.{Reply, refused, spent, handed, end}
 use Rattle.lists.specs.Lists.{Side, gaugeSide, caseSide}
 use Rattle.runs.specs.declared.Phase.the-variants.{Down as gaugeDown, Handed as gaugeHanded, Back as gaugeBack, Ended as gaugeEnded}
 use Rattle.runs.specs.declared.Phase.{Phase as GaugePhase}
@@ -33,22 +33,22 @@ use Rattle.runs.specs.Paused.{Value, gaugePhase, casePhase, gaugeValue, 
 use Rattle.runs.specs.Calling.{Step, outcome, gaugeStep, caseStep, PausedAt, Called}
 
 -- ---- an answer, and a phase, from its kind and its numbers
-kind : Answer → ℕ
+kind : Reply → ℕ
 kind (refused n) = 0
 kind spent = 1
 kind (handed x) = 2
 kind end = 3
 
-numbers : Answer → List ℕ
+numbers : Reply → List ℕ
 numbers (refused n) = n ∷ []
 numbers spent = []
 numbers (handed x) = x
 numbers end = []
 
-answerOf : ℕ → List ℕ → Answer
+answerOf : ℕ → List ℕ → Reply
 answerOf k x = getD (refused (getD x 0 0) ∷ spent ∷ handed x ∷ end ∷ []) k end
 
-answer-of : (a : Answer) → answerOf (kind a) (numbers a) ≡ a
+answer-of : (a : Reply) → answerOf (kind a) (numbers a) ≡ a
 unfolding answerOf kind numbers
 answer-of (refused n) = refl
 answer-of spent = refl
@@ -84,7 +84,7 @@ table-same g h c d r q a b e = rw (a, b, e)
 value-same : (t u : Table) (p q : List ℕ) (n m : ℕ) (f e : Phase) → t ≡ u → p ≡ q → n ≡ m → f ≡ e → _≡_ {A = Value} (record { table = t; picks = p; count = n; phase = f }) (record { table = u; picks = q; count = m; phase = e })
 value-same t u p q n m f e a b c d = rw (a, b, c, d)
 
-step-same : (a b : Answer) (k l : ℕ) (c d : Chain) (v w : Value) → a ≡ b → k ≡ l → c ≡ d → v ≡ w → _≡_ {A = Step} (record { answer = a; moves = k; chain = c; next = v }) (record { answer = b; moves = l; chain = d; next = w })
+step-same : (a b : Reply) (k l : ℕ) (c d : Chain) (v w : Value) → a ≡ b → k ≡ l → c ≡ d → v ≡ w → _≡_ {A = Step} (record { answer = a; moves = k; chain = c; next = v }) (record { answer = b; moves = l; chain = d; next = w })
 step-same a b k l c d v w x y z u = rw (x, y, z, u)
 
 -- two steps that are not different are equal
@@ -124,7 +124,7 @@ called-unique side v b r q a c = step-settled r q (λ n. go n (ℕ-discrete (tab
 injective : {A B : Type 0} (read : A → B) (back : B → A) → ((x : A) → back (read x) ≡ x) → (x y : A) → read x ≡ read y → x ≡ y
 injective read back h x y e = sym (h x) ∙ ap back e ∙ h y
 
-outcomeOf : Answer → Outcome
+outcomeOf : Reply → Outcome
 outcomeOf (refused n) = Refused (named n)
 outcomeOf spent = Spent
 outcomeOf (handed x) = HandedOut

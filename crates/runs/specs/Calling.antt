@@ -10,7 +10,7 @@ use Rattle.table.specs.Answers.{number}
 use Rattle.table.specs.declared.Table.{Table}
 use Rattle.table.specs.declared.Chain.{Chain}
 use Rattle.rules.specs.Machine.{State, fresh}
-use Rattle.rules.specs.Calls.{Answer, refused, spent, handed, end, Call, answered}
+use Rattle.rules.specs.Calls.{Reply, refused, spent, handed, end, Call, answered}
 use Rattle.lists.specs.Lists.{Side, gaugeSide, caseSide}
 use Rattle.lists.specs.OnTable.{ReachedOn, callOn, leftOn}
 use Rattle.lists.specs.Demand.{Demand, OneSet}
@@ -22,14 +22,14 @@ use Rattle.runs.specs.declared.CaseStep.{CaseStep}
 
 -- the answer of a call: 01's answer, the moves, the chain by gauge rows, and the next paused value
 pub record Step : Type 0 where
-  pub answer : Answer
+  pub answer : Reply
   pub moves : ℕ
   pub chain : Chain
   pub next : Value
 
 -- ---- how the two structs read
 -- 01's answer for each outcome: a refusal by its number, a hand-out by its rows
-abbrev pub outcome : Outcome → List ℕ → Answer
+abbrev pub outcome : Outcome → List ℕ → Reply
 outcome HandedOut rows = handed rows
 outcome Spent rows = spent
 outcome End rows = end
@@ -47,7 +47,7 @@ abbrev pub refusal : ℕ → Step
 refusal n = record { answer = refused n; moves = 0; chain = blankChain; next = blankValue }
 
 -- what the rules give for a call on the table t: the chain stands by gauge rows where one is handed out, and is blank elsewhere
-abbrev pub byRules : Table → Answer → ℕ → State → Step
+abbrev pub byRules : Table → Reply → ℕ → State → Step
 byRules t (refused n) k s = refusal n
 byRules t spent k s = record { answer = spent; moves = k; chain = blankChain; next = paused t s }
 byRules t (handed x) k s = record { answer = handed x; moves = k; chain = record { gauges = t .gauges; rows = padded x }; next = paused t s }
@@ -70,7 +70,7 @@ pub record Called (side : Table → Side) (v : Value) (b : ℕ) (r : Step) : Typ
 
 -- ---- a list of calls
 -- the value that the next call gets: a refused call changes nothing
-abbrev pub kept : Answer → Value → Value → Value
+abbrev pub kept : Reply → Value → Value → Value
 kept (refused n) v next = v
 kept spent v next = next
 kept (handed x) v next = next

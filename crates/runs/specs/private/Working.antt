@@ -10,7 +10,7 @@ use Rattle.table.specs.Tables.{padded, chainRows, blankChain}
 use Rattle.sets.specs.Sets.{_⊆_, lowest}
 use Rattle.table.specs.Pairs.{row}
 use Rattle.rules.specs.Machine.{Phase, Down, Handed, Back, Ended, State, Move, gives, nothing, hands, ends}
-use Rattle.rules.specs.Calls.{Answer, spent, handed, end, result, carry, mostBudget}
+use Rattle.rules.specs.Calls.{Reply, spent, handed, end, result, carry, mostBudget}
 use Rattle.rules.specs.private.Fitting.{Valid, Fits}
 use Rattle.lists.specs.Picks.{candidates}
 use Rattle.lists.specs.OnTable.{chainOf}
@@ -101,7 +101,7 @@ leftAfter c k count = cond (eqb count 0) (2 ^ 64 - 1) (getD c (getD k (count - 1
 
 -- ---- a call's moves
 -- 01's answer for how the moves came out, at the state y that they led to, where `out` says what is handed out
-abbrev pub doneAnswer : (List ℕ → List ℕ) → Done → State → Answer
+abbrev pub doneAnswer : (List ℕ → List ℕ) → Done → State → Reply
 doneAnswer out HandedOut y = handed (out (y .picks))
 doneAnswer out Spent y = spent
 doneAnswer out End y = end
