@@ -13,10 +13,10 @@ use borrow.Author.Tests.{lt-ltb, ne-eqb}
 use Rattle.table.specs.declared.Table.{Table}
 use Rattle.table.specs.declared.Chain.{Chain}
 use Rattle.table.specs.Tables.{Legal, tableRefusal, padded, chainRows}
-use Rattle.table.specs.Answers.{Answer as Reading, number}
-use Rattle.table.specs.declared.Refusal.{Refusal}
-use Rattle.table.specs.declared.Refusal.the-variants.{BufferTooShort}
-use Rattle.table.proofs.Answering.{number-pos}
+use Rattle.refusals.specs.Answers.{Answer as Reading, number}
+use Rattle.refusals.specs.declared.Refusal.{Refusal}
+use Rattle.refusals.specs.declared.Refusal.the-variants.{BufferTooShort}
+use Rattle.refusals.proofs.Answering.{number-pos}
 use Rattle.table.proofs.Legality.{legal-of, legal-passes}
 use Rattle.rules.specs.Machine.{State}
 use Rattle.rules.specs.Calls.{Reply, refused, spent, handed, end, Call, mostBudget, answered}

@@ -8,7 +8,7 @@ use Prim.Native.Nat.{ℕ, _+_, _≤_, _<_, min}
 use lib.ListN.{length, take, drop}
 use Rattle.table.specs.declared.Table.{Table}
 use Rattle.table.specs.Tables.{tableRefusal, padded}
-use Rattle.table.specs.Answers.{verdict}
+use Rattle.refusals.specs.Answers.{verdict}
 use Rattle.rules.specs.Sequences.{factorial}
 use Rattle.rules.specs.Machine.{State, fresh}
 use Rattle.rules.specs.Calls.{Reply, refused, spent, handed, end, Call, callsFrom, stateAfter, handouts}

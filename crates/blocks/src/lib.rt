@@ -1,21 +1,21 @@
 // Blocks of files: a lent buffer is filled with the files of the sets that successive calls of the gauge run hand out, as many as have room
 // for sure, and the blocks one after another are the files of the gauge list. No public function has a `requires`; nothing outside the
 // lent buffer is kept.
+use refusals::Refusal;
+use refusals::Verdict;
 use runs;
 use runs::GaugeRun;
 use runs::Outcome;
 use runs::Phase;
 use table::Chain;
-use table::Refusal;
 use table::Table;
-use table::Verdict;
 use writer;
 use writer::Written;
 ghost use mathlib.Core.Path.{_≡_};
 ghost use mathlib.Core.Bool.{false};
 ghost use Prim.Native.Nat.{_≤_};
 ghost use lib.ListN.{length};
-ghost use Rattle.table.specs.Answers.{verdict, number};
+ghost use Rattle.refusals.specs.Answers.{verdict, number};
 ghost use Rattle.runs.specs.Paused.{gaugeValue, blankValue};
 ghost use Rattle.blocks.specs.Filling.{Filled, filling, CarriesList};
 ghost use Rattle.blocks.specs.private.Turning.{Checked, FillsOn, FullOn, Put, Turned};

@@ -15,12 +15,12 @@ use Rattle.sets.proofs.Masks.{below-lowest}
 use Rattle.table.specs.Pairs.{row}
 use Rattle.table.specs.Chains.{IsChain}
 use Rattle.table.specs.Tables.{Legal, tableRows, chainRows, chainRefusal, padded, blankChain}
-use Rattle.table.specs.Answers.{number, Answer, refused}
+use Rattle.refusals.specs.Answers.{number, Answer, refused}
 use Rattle.table.specs.declared.Table.{Table}
 use Rattle.table.specs.declared.Chain.{Chain}
-use Rattle.table.specs.declared.Refusal.{Refusal}
-use Rattle.table.specs.declared.Refusal.the-variants.{NotAChain}
-use Rattle.table.proofs.Answering.{number-pos, verdict-injective}
+use Rattle.refusals.specs.declared.Refusal.{Refusal}
+use Rattle.refusals.specs.declared.Refusal.the-variants.{NotAChain}
+use Rattle.refusals.proofs.Answering.{number-pos, verdict-injective}
 use Rattle.table.proofs.Legality.{ChainFacts, chain-facts, length-rows, row-tableRows, row-chainRows, chain-within}
 use Rattle.judge.specs.Judging.{judgement, Judged}
 use Rattle.judge.specs.private.RowTests.{allNested}
@@ -30,7 +30,7 @@ use Rattle.judge.proofs.NestedTest.{chain-of-test, test-of-chain}
 use Rattle.lists.specs.OnTable.{chainOf}
 use Rattle.lists.proofs.Growing.{grow, grow-first, first-unique}
 use Rattle.search.proofs.AfterPicks.{full, Rows}
-use Rattle.table.specs.declared.Verdict.{Verdict}
+use Rattle.refusals.specs.declared.Verdict.{Verdict}
 use Rattle.extend.specs.declared.Extended.{Extended}
 use Rattle.extend.specs.Extending.{extended, refusedBy, FirstRows, Grown, Extends}
 use Rattle.extend.proofs.Picking.{Picked, picked-start}

@@ -8,7 +8,7 @@ use Rattle.table.specs.declared.Table.{Table}
 use Rattle.table.specs.declared.Chain.{Chain}
 use Rattle.table.specs.Chains.{IsChain}
 use Rattle.table.specs.Tables.{tableRows, chainRows, chainRefusal, padded, blankChain}
-use Rattle.table.specs.Answers.{Answer, verdict}
+use Rattle.refusals.specs.Answers.{Answer, verdict}
 use Rattle.lists.specs.Growing.{FirstContaining}
 use Rattle.extend.specs.declared.Extended.{Extended}
 

@@ -3,17 +3,17 @@
 // each turn picks the lowest candidate that still leaves room for the rest of the chain, at most 64 turns of at most 64 * 64 steps.
 use judge;
 use judge::Judgement;
+use refusals::Refusal;
+use refusals::Verdict;
 use search;
 use sets;
 use table::Chain;
-use table::Refusal;
 use table::Table;
-use table::Verdict;
 ghost use mathlib.Core.Path.{_≡_};
 ghost use Prim.Native.Nat.{_≤_, _<_};
 ghost use Rattle.table.specs.Chains.{IsChain};
 ghost use Rattle.table.specs.Tables.{chainRows, chainRefusal, blankChain};
-ghost use Rattle.table.specs.Answers.{refused};
+ghost use Rattle.refusals.specs.Answers.{refused};
 ghost use Rattle.search.specs.Finding.{First};
 ghost use Rattle.extend.specs.Extending.{extended, FirstRows, Extends};
 ghost use Rattle.extend.specs.private.PickSteps.{unionTo, fitsIn};

@@ -11,11 +11,11 @@ use Rattle.sets.specs.Lists.{allBelow}
 use Rattle.table.specs.Pairs.{row}
 use Rattle.table.specs.Chains.{IsChain, IsMaximal}
 use Rattle.table.specs.Tables.{tableRows, chainRows, chainRefusal}
-use Rattle.table.specs.Answers.{number, Answer}
+use Rattle.refusals.specs.Answers.{number, Answer}
 use Rattle.table.specs.declared.Table.{Table}
 use Rattle.table.specs.declared.Chain.{Chain}
-use Rattle.table.specs.declared.Refusal.{Refusal}
-use Rattle.table.proofs.Answering.{number-pos, number-injective}
+use Rattle.refusals.specs.declared.Refusal.{Refusal}
+use Rattle.refusals.proofs.Answering.{number-pos, number-injective}
 use Rattle.table.proofs.Legality.{ChainFacts, chain-facts, length-chainRows, row-chainRows, chain-within, row-tableRows}
 use Rattle.judge.specs.Judging.{judgement, Judged}
 use Rattle.judge.specs.private.RowTests.{nested, nestedWith, allNested, widest, allWidest}

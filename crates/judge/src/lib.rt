@@ -1,11 +1,11 @@
 // The two judges: whether a set of pairs is a chain of its table, and whether it is a maximal chain (01: a ladder). Each takes any
 // table and any chain, however malformed, and refuses 10 to 13 in 01's order. At most 64 * 64 steps on sets of cases.
+use refusals::Refusal;
+use refusals::Verdict;
 use sets;
 use table;
 use table::Chain;
-use table::Refusal;
 use table::Table;
-use table::Verdict;
 ghost use mathlib.Core.Path.{_≡_};
 ghost use Prim.Native.Nat.{_≤_, _<_};
 ghost use Rattle.table.specs.Chains.{IsChain, IsMaximal};

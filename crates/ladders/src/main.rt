@@ -7,8 +7,8 @@ use libc::EPIPE;
 use libc::STDERR_FILENO;
 use libc::STDIN_FILENO;
 use libc::STDOUT_FILENO;
+use refusals::Verdict;
 use table::Table;
-use table::Verdict;
 
 fn main() {
     // One byte more than the longest file: a longer input is refused without reading it all.
@@ -32,7 +32,7 @@ fn answer(file: &[u8], n: usize) {
     let verdict = made.verdict;
     let t = made.table;
     match verdict {
-        Verdict::Refused(why) => say_refused(table::refusal_number(why)),
+        Verdict::Refused(why) => say_refused(refusals::refusal_number(why)),
         Verdict::Accepted => list(t),
     }
 }

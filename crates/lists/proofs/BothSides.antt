@@ -10,9 +10,10 @@ use native.Mathlib.Omega.{arith}
 use lib.ListN.{length, length-map}
 use Rattle.table.specs.declared.Table.{Table}
 use Rattle.table.specs.Chains.{IsMaximal}
-use Rattle.table.specs.Transposing.{transpose, Cases}
+use Rattle.table.specs.Pairs.{Cases}
+use Rattle.transpose.specs.Transposing.{transpose}
 use Rattle.table.specs.Tables.{Legal, tableRows}
-use Rattle.table.proofs.Transposition.{length-transpose, cases-transpose, cases-within, transpose-twice, maximal-transpose}
+use Rattle.transpose.proofs.Transposition.{length-transpose, cases-transpose, cases-within, transpose-twice, maximal-transpose}
 use Rattle.table.proofs.Legality.{length-rows, legal-cases}
 use Rattle.rules.specs.Sequences.{All, Sorted, factorial}
 use Rattle.rules.proofs.Sequences.{All-of}

@@ -7,7 +7,7 @@ use Prim.Native.Nat.{ℕ}
 use Rattle.table.specs.declared.Table.{Table}
 use Rattle.table.specs.Chains.{IsMaximal}
 use Rattle.table.specs.Tables.{tableRows}
-use Rattle.table.specs.Transposing.{transpose}
+use Rattle.transpose.specs.Transposing.{transpose}
 use Rattle.rules.specs.Sequences.{Sorted}
 use Rattle.lists.specs.PickSequence.{Precedes}
 

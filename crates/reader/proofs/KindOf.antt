@@ -14,7 +14,7 @@ use Rattle.table.specs.Tables.{inRange}
 use Rattle.table.proofs.Legality.{range-is}
 use Rattle.table.specs.declared.Gauge.{Gauge}
 use Rattle.table.specs.declared.Case.{Case}
-use Rattle.table.specs.declared.Refusal.the-variants.{LineTooLong, SizeFields, SizeRange, PairFields, PairRange}
+use Rattle.refusals.specs.declared.Refusal.the-variants.{LineTooLong, SizeFields, SizeRange, PairFields, PairRange}
 use Rattle.reader.specs.Kinds.{isComment, sizeOf, headLine, pairOf, pairLine}
 use Rattle.text.specs.declared.Fields.{Fields}
 use Rattle.text.specs.declared.Fields.the-variants.{Blank, Two, Three, Other}

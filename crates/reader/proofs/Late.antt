@@ -7,11 +7,11 @@ use mathlib.Core.Bool.{Bool, true, false, cond}
 use native.Mathlib.Omega.{arith}
 use lib.Dec.{eqb}
 use borrow.Author.Tests.{eqb-true}
-use Rattle.table.specs.Answers.{Answer, number}
-use Rattle.table.specs.declared.Refusal.{Refusal}
-use Rattle.table.specs.declared.Refusal.the-variants.{LineTooLong, PairFields, PairRepeated, PairCount}
+use Rattle.refusals.specs.Answers.{Answer, number}
+use Rattle.refusals.specs.declared.Refusal.{Refusal}
+use Rattle.refusals.specs.declared.Refusal.the-variants.{LineTooLong, PairFields, PairRepeated, PairCount}
 use Rattle.table.specs.declared.Table.{Table}
-use Rattle.table.proofs.Answering.{number-pos}
+use Rattle.refusals.proofs.Answering.{number-pos}
 use Rattle.text.specs.Lines.{Line}
 use Rattle.text.specs.Fields.{scan, fields}
 use Rattle.text.specs.declared.Fields.the-variants.{Other}

@@ -12,11 +12,11 @@ use mathlib.Core.Logic.{⊎-elim}
 use native.Mathlib.Nat.{eq-zero-or-pos}
 use Rattle.table.specs.Pairs.{row}
 use Rattle.table.specs.Tables.{noRows}
-use Rattle.table.specs.Answers.{Answer}
+use Rattle.refusals.specs.Answers.{Answer}
 use Rattle.table.specs.declared.Gauge.{Gauge}
 use Rattle.table.specs.declared.Case.{Case}
-use Rattle.table.specs.declared.Refusal.{Refusal}
-use Rattle.table.specs.declared.Refusal.the-variants.{FileTooLong, NotTheBanner, SizeFields, PairRepeated, PairCount}
+use Rattle.refusals.specs.declared.Refusal.{Refusal}
+use Rattle.refusals.specs.declared.Refusal.the-variants.{FileTooLong, NotTheBanner, SizeFields, PairRepeated, PairCount}
 use Rattle.table.specs.declared.Table.{Table}
 use Rattle.text.specs.Lines.{lines, spanAt}
 use Rattle.text.proofs.LineAt.{lines-at}

@@ -13,14 +13,15 @@ use lib.Seq.{drop-nil}
 use lib.Dec.{eqb, ltb}
 use borrow.Author.Tests.{ne-eqb, eq-eqb, eqb-false, lt-ltb, le-ltb}
 use denote.Ref.{RefT, ptr, now}
-use Rattle.table.specs.Answers.{Answer, number, refused, verdict, made}
-use Rattle.table.specs.declared.Refusal.{Refusal}
+use Rattle.refusals.specs.Answers.{Answer, number, refused, verdict}
+use Rattle.table.specs.Tables.{made}
+use Rattle.refusals.specs.declared.Refusal.{Refusal}
 use Rattle.table.specs.declared.Table.{Table}
 use Rattle.table.specs.declared.Made.{Made}
-use Rattle.table.specs.declared.Verdict.the-variants.{Accepted, Refused}
+use Rattle.refusals.specs.declared.Verdict.the-variants.{Accepted, Refused}
 use Rattle.text.specs.Lines.{Line, lines, spanAt, atCRLF, extend}
 use Rattle.text.proofs.LineAt.{inside, lines-at}
-use Rattle.table.proofs.Answering.{number-pos, number-injective}
+use Rattle.refusals.proofs.Answering.{number-pos, number-injective}
 use Rattle.reader.specs.Kinds.{isComment}
 use Rattle.reader.specs.Reading.{readFile}
 use Rattle.reader.specs.Comments.{Part, Shows, noPart, found, noComment, commentFrom, commentLines, commentAt}

@@ -14,9 +14,9 @@ use lib.Bits.{or-lt}
 use Rattle.sets.specs.Sets.{join}
 use Rattle.table.specs.Pairs.{row}
 use Rattle.table.specs.Tables.{Legal, noRows}
-use Rattle.table.specs.Answers.{Answer, number}
-use Rattle.table.specs.declared.Refusal.{Refusal}
-use Rattle.table.specs.declared.Refusal.the-variants.{FileTooLong, NotTheBanner, SizeFields, PairRepeated, PairCount}
+use Rattle.refusals.specs.Answers.{Answer, number}
+use Rattle.refusals.specs.declared.Refusal.{Refusal}
+use Rattle.refusals.specs.declared.Refusal.the-variants.{FileTooLong, NotTheBanner, SizeFields, PairRepeated, PairCount}
 use Rattle.table.specs.declared.Table.{Table}
 use Rattle.text.specs.Lines.{Line, lines}
 use Rattle.reader.specs.Kinds.{isBanner, headLine, pairLine}
@@ -26,7 +26,7 @@ use Rattle.reader.specs.declared.HeadLine.the-variants.{Size, Skip as sk
 use Rattle.reader.specs.declared.PairLine.{PairLine}
 use Rattle.reader.specs.declared.PairLine.the-variants.{Pair, Skip as skipPair, Bad as badPair}
 use Rattle.reader.proofs.KindOf.{Bounded, pair-range, size-range}
-use Rattle.table.proofs.Answering.{number-pos}
+use Rattle.refusals.proofs.Answering.{number-pos}
 use Rattle.reader.proofs.LineLoops.{file-long}
 
 -- the rows of a table of gs gauges and cs cases

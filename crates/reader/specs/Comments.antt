@@ -8,8 +8,8 @@ use mathlib.Core.Bool.{true, false, cond}
 use lib.ListN.{length, take, drop}
 use lib.Dec.{ltb, eqb}
 use denote.Ref.{RefT, ptr, now}
-use Rattle.table.specs.Answers.{Answer, refused}
-use Rattle.table.specs.declared.Refusal.the-variants.{NoSuchComment}
+use Rattle.refusals.specs.Answers.{Answer, refused}
+use Rattle.refusals.specs.declared.Refusal.the-variants.{NoSuchComment}
 use Rattle.text.specs.Lines.{Line, lines}
 use Rattle.reader.specs.Kinds.{isComment}
 use Rattle.reader.specs.Reading.{readFile}

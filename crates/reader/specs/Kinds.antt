@@ -7,7 +7,7 @@ use mathlib.Core.Bool.{Bool, false, cond, _&&_}
 use lib.ListN.{length}
 use lib.Dec.{ltb, eqb}
 use Rattle.table.specs.Tables.{inRange}
-use Rattle.table.specs.declared.Refusal.the-variants.{LineTooLong, SizeFields, SizeRange, PairFields, PairRange}
+use Rattle.refusals.specs.declared.Refusal.the-variants.{LineTooLong, SizeFields, SizeRange, PairFields, PairRange}
 use Rattle.text.specs.Fields.{fields}
 use Rattle.text.specs.Bytes.{sameBytes}
 use Rattle.text.specs.declared.Fields.{Fields}

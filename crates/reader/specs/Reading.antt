@@ -8,10 +8,10 @@ use lib.Dec.{ltb, eqb}
 use Rattle.sets.specs.Sets.{bit, join}
 use Rattle.table.specs.Pairs.{row}
 use Rattle.table.specs.Tables.{noRows, blankTable}
-use Rattle.table.specs.Answers.{Answer, refused}
+use Rattle.refusals.specs.Answers.{Answer, refused}
 use Rattle.table.specs.declared.Table.{Table}
-use Rattle.table.specs.declared.Refusal.{Refusal}
-use Rattle.table.specs.declared.Refusal.the-variants.{FileTooLong, NotTheBanner, SizeFields, PairRepeated, PairCount}
+use Rattle.refusals.specs.declared.Refusal.{Refusal}
+use Rattle.refusals.specs.declared.Refusal.the-variants.{FileTooLong, NotTheBanner, SizeFields, PairRepeated, PairCount}
 use Rattle.text.specs.Lines.{Line, lines}
 use Rattle.reader.specs.Kinds.{isBanner, headLine, pairLine}
 use Rattle.reader.specs.declared.HeadLine.the-variants.{Size, Skip as skipHead, Bad as badHead}

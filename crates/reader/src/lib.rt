@@ -3,18 +3,17 @@
 ghost use mathlib.Core.Path.{_≡_};
 ghost use Prim.Native.Nat.{_≤_};
 ghost use lib.ListN.{length, drop};
-ghost use Rattle.table.specs.Tables.{noRows};
-ghost use Rattle.table.specs.Answers.{made};
+ghost use Rattle.table.specs.Tables.{noRows, made};
 ghost use Rattle.text.specs.Lines.{lines};
 ghost use Rattle.reader.specs.Kinds.{isBanner, isComment, headLine, pairLine};
 ghost use Rattle.reader.specs.Reading.{accepted, withCase, readPairs, readHead, readFile};
 ghost use Rattle.reader.specs.Comments.{Shows, found, commentFrom, commentAt};
+use refusals::Refusal;
+use refusals::Verdict;
 use table::Case;
 use table::Gauge;
 use table::Made;
-use table::Refusal;
 use table::Table;
-use table::Verdict;
 use text::Fields;
 
 // 01: "A line has at most 1,024 bytes without its end, a file at most 65,536."

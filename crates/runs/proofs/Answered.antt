@@ -6,10 +6,10 @@ use Prim.Native.Nat.{ℕ, suc, _-_, _≤_, _<_}
 use native.Mathlib.Omega.{arith}
 use lib.ListN.{length, take}
 use Rattle.table.specs.Tables.{tableRefusal, blankTable, padded, blankChain}
-use Rattle.table.specs.Answers.{number, answer}
-use Rattle.table.specs.declared.Refusal.{Refusal}
+use Rattle.refusals.specs.Answers.{number, answer}
+use Rattle.refusals.specs.declared.Refusal.{Refusal}
 use Rattle.table.specs.declared.Chain.{Chain}
-use Rattle.table.proofs.Answering.{answer-refused, answer-given}
+use Rattle.refusals.proofs.Answering.{answer-refused, answer-given}
 use Rattle.table.specs.declared.Table.{Table}
 use Rattle.rules.specs.Machine.{Phase, State, at, fresh}
 use Rattle.rules.specs.Calls.{refused, mostBudget}
@@ -20,12 +20,11 @@ use Rattle.lists.specs.OnTable.{handOut, callOn}
 use Rattle.lists.proofs.CandidateTree.{reached-fits}
 use Rattle.runs.specs.Paused.{Value, numbered, paused, blankValue}
 use Rattle.runs.specs.Calling.{Step, refusal, byRules, told, PausedAt, Called}
-use Rattle.runs.specs.private.Working.{ComesOut, doneAnswer, StandsFor}
+use Rattle.runs.specs.private.Working.{ComesOut, doneAnswer, StandsFor, placed}
 use Rattle.runs.specs.declared.engine.Done.{Done}
 use Rattle.replay.proofs.Numbers.{length-numbers, places-numbers}
 use Rattle.runs.proofs.Padding.{take-padded}
 use Rattle.runs.proofs.Holding.{placed-numbered}
-use Rattle.runs.specs.private.Working.{placed}
 
 -- ---- a paused value has one state
 pub paused-state : (t : Table) (s z : State) → paused t s ≡ paused t z → s ≡ z

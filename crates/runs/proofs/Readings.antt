@@ -7,13 +7,13 @@ use native.Mathlib.Decide.{ℕ-discrete}
 use native.Mathlib.Omega.{arith}
 use lib.ListN.{getD}
 use Rattle.table.specs.Tables.{chainRows, tableRefusal}
-use Rattle.table.specs.Answers.{Answer as Reading}
+use Rattle.refusals.specs.Answers.{Answer as Reading}
 use Rattle.table.specs.declared.Table.{Table}
 use Rattle.table.specs.declared.Chain.{Chain}
 use Rattle.table.specs.declared.Gauge.{Gauge}
 use Rattle.table.specs.declared.Case.{Case}
-use Rattle.table.specs.declared.Verdict.{Verdict}
-use Rattle.table.proofs.Answering.{named, named-number, verdict-injective}
+use Rattle.refusals.specs.declared.Verdict.{Verdict}
+use Rattle.refusals.proofs.Answering.{named, named-number, verdict-injective}
 use Rattle.rules.specs.Machine.{Phase, Down, Handed, Back, Ended, State}
 use Rattle.rules.specs.Calls.{Reply, refused, spent, handed, end}
 use Rattle.lists.specs.Lists.{Side, gaugeSide, caseSide}

@@ -15,14 +15,15 @@ use Rattle.sets.proofs.Tests.{is-false}
 use Rattle.sets.proofs.Order.{eq-of-bits, subset-is}
 use Rattle.sets.proofs.Masks.{below-lowest}
 use Rattle.sets.proofs.Tabulated.{getD-tabulate}
-use Rattle.table.specs.Pairs.{row}
-use Rattle.table.specs.Transposing.{column, transpose, Cases}
-use Rattle.table.specs.Tables.{Legal, tableRows, transposeTable, padded}
+use Rattle.sets.proofs.OnePlace.{none-in}
+use Rattle.table.specs.Pairs.{row, Cases}
+use Rattle.transpose.specs.Transposing.{column, transpose, transposeTable}
+use Rattle.table.specs.Tables.{Legal, tableRows, padded}
 use Rattle.table.specs.declared.Table.{Table}
 use Rattle.table.proofs.Places.{row-past}
-use Rattle.table.proofs.Transposition.{bit-none, bit-column, length-transpose, cases-transpose, cases-within}
+use Rattle.transpose.proofs.Transposition.{bit-column, length-transpose, cases-transpose, cases-within}
 use Rattle.table.proofs.Legality.{length-rows, legal-cases}
-use Rattle.table.proofs.Sides.{rows-exchanged, exchanged-legal}
+use Rattle.transpose.proofs.Sides.{rows-exchanged, exchanged-legal}
 use Rattle.rules.specs.Machine.{Phase, State}
 use Rattle.lists.specs.Lists.{Side, gaugeSide, caseSide}
 use Rattle.lists.specs.OnTable.{chainOf, handOut}
@@ -53,7 +54,7 @@ transpose-padded g x h cs =
     pad-ext (transpose 64 (padded x)) (transpose g x) (length-transpose 64 (padded x)) (omega (arith, length-transpose g x)) (λ k. go k (decLt k 64) (decLt k g))
   where
     empty : (k : ℕ) → ¬ (k < g) → column x k ≡ 0
-    empty k n = eq-of-bits (column x k) 0 (λ i. bit-column x k i ∙ is-false (bit (row x i) k) (not-T (bit (row x i) k) (λ b. n (cs i k b))) ∙ sym (bit-none i))
+    empty k n = eq-of-bits (column x k) 0 (λ i. bit-column x k i ∙ is-false (bit (row x i) k) (not-T (bit (row x i) k) (λ b. n (cs i k b))) ∙ sym (none-in i))
 
     go : (k : ℕ) → Dec (k < 64) → Dec (k < g) → getD (transpose 64 (padded x)) k 0 ≡ getD (transpose g x) k 0
     go k (yes a) (yes b) = getD-tabulate (column (padded x)) 64 k a ∙ padded-column x k ∙ sym (getD-tabulate (column x) g k b)

@@ -6,7 +6,7 @@ use mathlib.Core.Path.{_≡_}
 use mathlib.Core.List.{List, [], _∷_, _++_, map, List·Memᴰ}
 use Prim.Native.Nat.{ℕ, _<_}
 use Rattle.table.specs.Tables.{blankChain, chainRows, tableRefusal, padded}
-use Rattle.table.specs.Answers.{number}
+use Rattle.refusals.specs.Answers.{number}
 use Rattle.table.specs.declared.Table.{Table}
 use Rattle.table.specs.declared.Chain.{Chain}
 use Rattle.rules.specs.Machine.{State, fresh}

@@ -5,7 +5,7 @@ use mathlib.Core.List.{List, map}
 use Prim.Native.Nat.{ℕ, suc}
 use lib.ListN.{length}
 use Rattle.table.specs.Tables.{noRows, padded, blankTable}
-use Rattle.table.specs.Answers.{Answer, verdict}
+use Rattle.refusals.specs.Answers.{Answer, verdict}
 use Rattle.table.specs.declared.Table.{Table}
 use Rattle.rules.specs.Machine.{Phase, Down, Handed, Back, Ended, State}
 use Rattle.runs.specs.declared.Phase.the-variants.{Down as gaugeDown, Handed as gaugeHanded, Back as gaugeBack, Ended as gaugeEnded}

@@ -6,16 +6,16 @@ mod engine;
 use engine::Done;
 use engine::Fate;
 use engine::Mode;
+use refusals::Refusal;
+use refusals::Verdict;
 use table;
 use table::Case;
 use table::Chain;
 use table::Gauge;
-use table::Refusal;
 use table::Table;
-use table::Verdict;
 ghost use mathlib.Core.Path.{_≡_};
 ghost use Rattle.table.specs.Tables.{tableRefusal, blankTable, blankChain};
-ghost use Rattle.table.specs.Answers.{answer, number};
+ghost use Rattle.refusals.specs.Answers.{answer, number};
 ghost use Rattle.rules.specs.Machine.{fresh};
 ghost use Rattle.lists.specs.Lists.{gaugeSide, caseSide};
 ghost use Rattle.runs.specs.Paused.{gaugePhase, casePhase, gaugeValue, caseValue, gaugeStarted, caseStarted, paused, blankValue};
@@ -210,7 +210,7 @@ pub fn run_cases(p: CaseRun, budget: u64) -> CaseStep
         return case_refusal(why);
     }
     let given = t.rows;
-    let rows = table::transpose_rows(given);
+    let rows = transpose::transpose_rows(given);
     let mut chain = [0u64; 64];
     let mut picks = p.picks;
     let phase = p.phase;
@@ -236,7 +236,7 @@ pub fn run_cases(p: CaseRun, budget: u64) -> CaseStep
             };
             match done {
                 Done::HandedOut => {
-                    let turned = table::transpose_rows(chain);
+                    let turned = transpose::transpose_rows(chain);
                     return CaseStep {
                         outcome: Outcome::HandedOut,
                         moves: made.moves,

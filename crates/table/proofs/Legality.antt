@@ -3,7 +3,7 @@
 use mathlib.Core.Path.{_≡_, refl, sym, ap, ap₂, _∙_, subst, subst₂}
 use mathlib.Core.Bool.{Bool, true, false, _&&_, cond}
 use mathlib.Core.List.{List, [], _∷_}
-use Prim.Native.Nat.{ℕ, zero, suc, _-_, _^_, _≤_, _<_}
+use Prim.Native.Nat.{ℕ, zero, suc, _^_, _≤_, _<_}
 use native.Mathlib.Omega.{arith}
 use native.Mathlib.Decide.{decLt}
 use lib.Dec.{eqb, ltb, leb}
@@ -15,14 +15,12 @@ use Rattle.sets.specs.Sets.{_⊆_, isSubset, lowest}
 use Rattle.sets.proofs.Order.{subset-is, is-subset, zero-sub, sub-zero}
 use Rattle.sets.proofs.Joins.{join-subset, join-empty}
 use Rattle.sets.proofs.Masks.{below-lowest}
-use Rattle.table.specs.Pairs.{row, Within}
-use Rattle.table.specs.Transposing.{Cases}
+use Rattle.table.specs.Pairs.{row, Within, Cases}
 use Rattle.table.specs.Tables.{Legal, tableRows, chainRows, inRange, rowsFit, tableRefusal, rowsWithin, chainRefusal}
 use Rattle.table.specs.private.Unions.{union}
 use Rattle.table.specs.declared.Table.{Table}
 use Rattle.table.specs.declared.Chain.{Chain}
-use Rattle.table.proofs.Places.{row-past, sub-within}
-use Rattle.table.proofs.Transposition.{small-cases}
+use Rattle.table.proofs.Places.{row-past, sub-within, small-cases}
 
 pub both : (a b : Bool) → (a && b) ≡ true → (a ≡ true) × (b ≡ true)
 both true b e = (refl, e)

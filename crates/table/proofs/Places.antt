@@ -5,16 +5,17 @@ use mathlib.Core.Logic.{_⊎_, inl, inr, _↔_}
 use mathlib.Core.Bool.{Bool, true, false}
 use mathlib.Core.List.{List, [], _∷_}
 use Prim.Native.Nat.{ℕ, zero, suc, _-_, _^_, _≤_, _<_}
-use native.Mathlib.Nat.{not-suc-le-zero, le-of-suc-le-suc, zero-div}
-use native.Mathlib.Decide.{decLe}
+use native.Mathlib.Nat.{not-suc-le-zero, le-of-suc-le-suc, zero-div, div-eq-of-lt, lt-of-lt-of-le}
+use native.Mathlib.Decide.{decLe, decLt}
 use native.Mathlib.Omega.{arith}
 use lib.Dec.{T}
 use lib.ListN.{length}
 use Rattle.sets.specs.Sets.{bit, _⊆_}
 use Rattle.sets.proofs.Tests.{is-true}
 use Rattle.sets.proofs.Order.{sub-bit, bits-sub}
-use Rattle.table.specs.Pairs.{row, Has, Within}
+use Rattle.table.specs.Pairs.{row, Has, Within, Cases}
 use Rattle.table.specs.Chains.{IsChain}
+use lib.Pow.{pow-mono}
 
 no-bit : (k : ℕ) → T (bit 0 k) → ⊥
 unfolding bit
@@ -91,3 +92,16 @@ has-bit s g c t l k e = (
   λ d. record { gauge = l; case = k; set = rw (← e, d) tt },
   λ h. is-true t (rw (← e) at (h .set)),
 )
+
+-- ---- the cases of rows
+bit-past : (a k : ℕ) → a < 2 ^ k → bit a k ≡ false
+unfolding bit
+bit-past a k l = rw (div-eq-of-lt l)
+
+-- rows below 2 ^ w have their cases below w
+pub small-cases : (w : ℕ) (rows : List ℕ) → ((i : ℕ) → row rows i < 2 ^ w) → Cases w rows
+small-cases w rows h i k t = go (decLt k w)
+  where
+    go : Dec (k < w) → k < w
+    go (yes l) = l
+    go (no l) = absurd (subst T (bit-past (row rows i) k (lt-of-lt-of-le (h i) (pow-mono (omega arith)))) t)

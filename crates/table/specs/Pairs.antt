@@ -2,7 +2,7 @@
 -- such a set too. Gauges and cases are numbered from 1: gauge g is row g - 1, and case c is place c - 1 of it.
 use mathlib.Core.Path.{_≡_}
 use mathlib.Core.List.{List}
-use Prim.Native.Nat.{ℕ, _-_, _≤_}
+use Prim.Native.Nat.{ℕ, _-_, _≤_, _<_}
 use lib.Dec.{T}
 use lib.ListN.{length, getD}
 use Rattle.sets.specs.Sets.{bit}
@@ -21,3 +21,7 @@ pub record Has (s : List ℕ) (g c : ℕ) : Type 0 where
 pub record Within (r s : List ℕ) : Type 0 where
   pub size : length s ≡ length r
   pub inside : (g c : ℕ) → Has s g c → Has r g c
+
+-- every case of the rows is among the first w
+abbrev pub Cases : ℕ → List ℕ → Type 0
+Cases w rows = (i k : ℕ) → T (bit (row rows i) k) → k < w

@@ -8,10 +8,10 @@ use lib.Dec.{eqb, leb, ltb}
 use lib.ListN.{length, take, replicate}
 use Rattle.sets.specs.Sets.{isSubset}
 use Rattle.table.specs.Pairs.{row}
-use Rattle.table.specs.Transposing.{transpose}
-use Rattle.table.specs.Answers.{Answer, answer}
+use Rattle.refusals.specs.Answers.{Answer, answer, verdict}
 use Rattle.table.specs.declared.Table.{Table}
 use Rattle.table.specs.declared.Chain.{Chain}
+use Rattle.table.specs.declared.Made.{Made}
 
 -- a legal table: G and L from 1 to 64, bits L and above clear, rows past G zero
 pub record Legal (t : Table) : Type 0 where
@@ -79,6 +79,6 @@ blankTable = record { gauges = 0; cases = 0; rows = noRows }
 abbrev pub makeTable : ℕ → ℕ → List ℕ → Answer Table
 makeTable g l rows = let t : Table = record { gauges = g; cases = l; rows = rows } in answer (tableRefusal t) t blankTable
 
--- the table with gauges and cases exchanged
-abbrev pub transposeTable : Table → Table
-transposeTable t = record { gauges = t .cases; cases = t .gauges; rows = transpose 64 (t .rows) }
+-- how the code's answer reads: 01's number, and the table
+abbrev pub made : Made → Answer Table
+made m = record { refusal = verdict (m .verdict); value = m .table }

@@ -1,5 +1,7 @@
-// Response tables and chains as values: the types, the checks of a table and of a chain handed in (01, refusals 10 to 13), and the
-// table with its two sides exchanged. No public function has a `requires`, and none is lent memory that it changes.
+// Response tables and chains as values: the types, making a table, and the checks of a table and of a chain handed in (01, refusals 10
+// to 13). No public function has a `requires`, and none is lent memory. Refusals are in `refusals`, exchanged sides in `transpose`.
+use refusals::Refusal;
+use refusals::Verdict;
 use sets;
 ghost use mathlib.Core.Path.{_≡_};
 ghost use mathlib.Core.Logic.{_↔_};
@@ -8,9 +10,8 @@ ghost use Prim.Native.Nat.{_≤_, _<_};
 ghost use lib.ListN.{length};
 ghost use lib.Seq.{slice};
 ghost use Rattle.table.specs.Pairs.{Has};
-ghost use Rattle.table.specs.Transposing.{transpose, Puts};
-ghost use Rattle.table.specs.Tables.{inRange, rowsFit, tableRefusal, rowsWithin, chainRefusal, makeTable, blankTable, transposeTable};
-ghost use Rattle.table.specs.Answers.{number, answer, refused, verdict, made};
+ghost use Rattle.table.specs.Tables.{inRange, rowsFit, tableRefusal, rowsWithin, chainRefusal, makeTable, blankTable, made};
+ghost use Rattle.refusals.specs.Answers.{refused, verdict};
 ghost use Rattle.table.specs.private.Unions.{union};
 
 // A gauge's number, from 1. A gauge number never stands where a case number belongs (01): the two node classes of source 003.
@@ -30,34 +31,6 @@ pub struct Table {
 pub struct Chain {
     pub gauges: u64,
     pub rows: [u64; 64],
-}
-
-// The conditions that 01 refuses. `number` in specs/Answers.antt gives each its number there.
-pub enum Refusal {
-    FileTooLong,
-    NotTheBanner,
-    LineTooLong,
-    SizeFields,
-    SizeRange,
-    PairFields,
-    PairRange,
-    PairRepeated,
-    PairCount,
-    TableShape,
-    TableRows,
-    ChainCount,
-    ChainPairs,
-    NotAChain,
-    NotReached,
-    BufferTooShort,
-    NoSuchComment,
-    BudgetTooLarge,
-}
-
-// Whether a check passed, and if not, which refusal it was.
-pub enum Verdict {
-    Accepted,
-    Refused(Refusal),
 }
 
 // A table, or a refusal with the blank table.
@@ -148,40 +121,6 @@ pub fn check_chain(t: Table, s: Chain) -> Verdict
     Verdict::Accepted
 }
 
-// The table with gauges and cases exchanged; 10 and 11 are refused.
-pub fn transpose_table(t: Table) -> Made
-    ensures { λ r. ⌜ made r ≡ answer (tableRefusal t) (transposeTable t) blankTable ⌝ }
-{
-    let checked = check_table(t);
-    if let Verdict::Refused(why) = checked {
-        return refuse(why);
-    }
-    let before = t.rows;
-    let rows = transpose_rows(before);
-    let table = Table {
-        gauges: t.cases,
-        cases: t.gauges,
-        rows: rows,
-    };
-    Made {
-        verdict: Verdict::Accepted,
-        table: table,
-    }
-}
-
-// A set of pairs with gauges and cases exchanged, of any 64 rows.
-pub fn transpose_rows(rows: [u64; 64]) -> [u64; 64]
-    ensures { λ r. ⌜ r ≡ transpose 64 rows ⌝ }
-{
-    let mut turned = [0u64; 64];
-    let mut i: usize = 0;
-    while i < 64 {
-        put_row(&mut turned, rows[i], i);
-        i += 1;
-    }
-    turned
-}
-
 // A refusal, with the blank table.
 pub fn refuse(why: Refusal) -> Made
     ensures { λ r. ⌜ made r ≡ refused why blankTable ⌝ }
@@ -195,32 +134,6 @@ pub fn refuse(why: Refusal) -> Made
     Made {
         verdict: Verdict::Refused(why),
         table: table,
-    }
-}
-
-// The number of a refusal in 01.
-pub fn refusal_number(why: Refusal) -> u64
-    ensures { λ r. ⌜ r ≡ number why ⌝ }
-{
-    match why {
-        Refusal::FileTooLong => 1,
-        Refusal::NotTheBanner => 2,
-        Refusal::LineTooLong => 3,
-        Refusal::SizeFields => 4,
-        Refusal::SizeRange => 5,
-        Refusal::PairFields => 6,
-        Refusal::PairRange => 7,
-        Refusal::PairRepeated => 8,
-        Refusal::PairCount => 9,
-        Refusal::TableShape => 10,
-        Refusal::TableRows => 11,
-        Refusal::ChainCount => 12,
-        Refusal::ChainPairs => 13,
-        Refusal::NotAChain => 14,
-        Refusal::NotReached => 15,
-        Refusal::BufferTooShort => 16,
-        Refusal::NoSuchComment => 17,
-        Refusal::BudgetTooLarge => 18,
     }
 }
 
@@ -278,17 +191,4 @@ fn rows_within(outer: &[u64; 64], rows: &[u64; 64]) -> bool
         i += 1;
     }
     true
-}
-
-// Puts place `i` into the rows at the places of a set: the cases of the gauge at `i`, by case.
-fn put_row(turned: &mut [u64; 64], set: u64, i: usize)
-    requires { ⌜ (i < 64) × (length (now turned) ≡ 64) ⌝ }
-    ensures { λ r. ⌜ Puts set i (now (turned .entry)) (now (turned .exit)) ⌝ }
-{
-    let mut rest = set;
-    while rest != 0 {
-        let k = sets::first(rest);
-        rest = sets::rest(rest);
-        turned[k] = sets::with(turned[k], i as u64);
-    }
 }

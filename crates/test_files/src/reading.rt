@@ -1,7 +1,7 @@
 // A case of the reader: a file is read, and the line says what came.
 use crate::build;
 use crate::say;
-use table::Verdict;
+use refusals::Verdict;
 
 // The file as it stands.
 pub fn whole(n: u64, file: &[u8], label: &[u8]) -> u64 {

@@ -1,7 +1,7 @@
 // What the lines of the output are made of: text, numbers, refusals by 01's numbers, and tables.
+use refusals::Refusal;
 use table::Case;
 use table::Gauge;
-use table::Refusal;
 use table::Table;
 ghost use Prim.Native.Nat.{_≤_};
 

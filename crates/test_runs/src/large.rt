@@ -5,7 +5,7 @@ use super::arrays;
 use super::expect;
 use super::path;
 use super::plain;
-use super::refusals;
+use super::refusing;
 use super::sides;
 use super::sides::Answer;
 use super::sides::Value;
@@ -70,7 +70,7 @@ fn chains_of(t: Tally, n: u64, chains: u64) -> Tally {
 
 // K2, both sides: six ladders and the end with move 25, in calls of the largest budget and in calls of one move.
 pub fn known(t: Tally) -> Tally {
-    let named = tally::about(t, 3, 3, refusals::k2());
+    let named = tally::about(t, 3, 3, refusing::k2());
     let first = moves_of(named, plain::GAUGES, 1_000_000, 6, 25);
     let second = moves_of(first, plain::GAUGES, 1, 6, 25);
     let third = moves_of(second, plain::CASES, 1_000_000, 6, 25);
@@ -252,5 +252,5 @@ fn same_rows(t: Tally, chain: Chain, row: u64) -> Tally {
     let rows = chain.rows;
     let wanted = [row; 64];
     let counted = tally::same(t, What::ChainCount, 64, chain.gauges);
-    tally::same(counted, What::ChainRows, 0, refusals::off(&wanted, &rows))
+    tally::same(counted, What::ChainRows, 0, refusing::off(&wanted, &rows))
 }

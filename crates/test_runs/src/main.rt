@@ -8,7 +8,7 @@ mod large;
 mod lists;
 mod path;
 mod plain;
-mod refusals;
+mod refusing;
 mod samples;
 mod sides;
 mod tally;
@@ -100,7 +100,7 @@ fn damaged() {
 }
 
 fn refused() {
-    let t = refusals::chains(refusals::tables(tally::fresh()));
+    let t = refusing::chains(refusing::tables(tally::fresh()));
     io::write_all(1, b"refusals of tables and chains: ");
     tally::sum_up(t);
 }

@@ -6,6 +6,8 @@ use super::plain;
 use extend;
 use judge;
 use judge::Judgement;
+use refusals::Refusal;
+use refusals::Verdict;
 use runs;
 use runs::CasePhase;
 use runs::CaseRun;
@@ -15,9 +17,7 @@ use runs::Phase;
 use table::Case;
 use table::Chain;
 use table::Gauge;
-use table::Refusal;
 use table::Table;
-use table::Verdict;
 
 // What an answer says, as one number: a refusal by its number in 01, or one of these.
 pub const ACCEPTED: u64 = 100;

@@ -8,11 +8,11 @@ use lib.ListN.{length, drop, length-append}
 use lib.Seq.{sets-eq}
 use borrow.Author.Tests.{ne-eqb, lt-ltb, le-ltb}
 use Rattle.table.specs.Tables.{tableRefusal}
-use Rattle.table.specs.Answers.{number, Answer, refused}
-use Rattle.table.specs.declared.Refusal.{Refusal}
-use Rattle.table.specs.declared.Refusal.the-variants.{BufferTooShort}
+use Rattle.refusals.specs.Answers.{number, Answer, refused}
+use Rattle.refusals.specs.declared.Refusal.{Refusal}
+use Rattle.refusals.specs.declared.Refusal.the-variants.{BufferTooShort}
 use Rattle.table.specs.declared.Table.{Table}
-use Rattle.table.proofs.Answering.{number-pos, number-injective, answer-refused, answer-given}
+use Rattle.refusals.proofs.Answering.{number-pos, number-injective, answer-refused, answer-given}
 use Rattle.writer.specs.Writing.{written, digits, pairs, writeFile, writeRefusal, writeAnswer, bufferAfter}
 use Rattle.writer.specs.private.StoreSteps.{Wrote, pairsAt, rowsFrom, fileBytes, IsTotals}
 use Rattle.writer.specs.declared.Written.{Written}

@@ -16,7 +16,7 @@ use borrow.Author.Tests.{le-ltb, le-leb, ne-eqb, ltb-true, eqb-true, eqb-false}
 use Rattle.sets.specs.Sets.{bit, join}
 use Rattle.table.specs.Pairs.{row}
 use Rattle.table.specs.Tables.{Legal, noRows, tableRefusal}
-use Rattle.table.specs.Answers.{Answer}
+use Rattle.refusals.specs.Answers.{Answer}
 use Rattle.table.specs.declared.Table.{Table}
 use Rattle.table.proofs.Legality.{legal-of, length-rows}
 use Rattle.text.specs.Lines.{lines}

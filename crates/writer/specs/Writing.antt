@@ -7,8 +7,8 @@ use mathlib.Core.Bool.{true, false, cond}
 use lib.ListN.{length, drop}
 use lib.Dec.{ltb, eqb}
 use Rattle.table.specs.Tables.{tableRefusal, tableRows}
-use Rattle.table.specs.Answers.{Answer, answer, refused, number}
-use Rattle.table.specs.declared.Refusal.the-variants.{BufferTooShort}
+use Rattle.refusals.specs.Answers.{Answer, answer, refused, number}
+use Rattle.refusals.specs.declared.Refusal.the-variants.{BufferTooShort}
 use Rattle.table.specs.declared.Table.{Table}
 use Rattle.reader.specs.Kinds.{banner}
 use Rattle.writer.specs.declared.Written.{Written}

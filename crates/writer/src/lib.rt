@@ -5,9 +5,9 @@ ghost use Prim.Native.Nat.{_+_, _^_, _≤_, _<_};
 ghost use lib.ListN.{length};
 ghost use Rattle.writer.specs.Writing.{digits, rowPairs, pairLines, writeFile, written, writeAnswer, bufferAfter};
 ghost use Rattle.writer.specs.private.StoreSteps.{Wrote, fieldBytes, pairBytes, sizeBytes, pairsAt, rowsFrom, fileBytes, Width, IsTotals};
-use table::Refusal;
+use refusals::Refusal;
+use refusals::Verdict;
 use table::Table;
-use table::Verdict;
 
 // The digit 0; a digit's byte is this and its value.
 const ZERO: u64 = 48;

@@ -5,8 +5,8 @@ use Prim.Native.Nat.{ℕ}
 use native.Mathlib.Omega.{arith}
 use lib.ListN.{length}
 use borrow.Author.Needs.{needs}
-use Rattle.table.specs.Answers.{verdict}
-use Rattle.table.proofs.Answering.{number-pos}
+use Rattle.refusals.specs.Answers.{verdict}
+use Rattle.refusals.proofs.Answering.{number-pos}
 use Rattle.runs.specs.Paused.{Value, gaugeValue}
 use Rattle.blocks.specs.Filling.{Filling, filling, Filled, Item, CarriesList}
 use Rattle.blocks.specs.private.Turning.{Checked}

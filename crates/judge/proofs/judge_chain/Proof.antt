@@ -3,7 +3,7 @@ use mathlib.Core.Path.{_≡_}
 use borrow.Author.Needs.{needs}
 use lib.ListN.{length}
 use Rattle.table.specs.Tables.{chainRefusal}
-use Rattle.table.proofs.Answering.{verdict-refused, verdict-accepted}
+use Rattle.refusals.proofs.Answering.{verdict-refused, verdict-accepted}
 use Rattle.judge.proofs.Verdicts.{judged-refused, few-gauges, chain-yes, chain-no}
 use Rattle.judge.proofs.judge_chain.Statement.{statement}
 use Rattle.judge.proofs.judge_chain.Tie as tie

@@ -4,7 +4,7 @@ use borrow.Author.Tests.{not-true, not-false}
 use borrow.Author.Needs.{needs}
 use lib.ListN.{length}
 use Rattle.table.specs.Tables.{chainRefusal}
-use Rattle.table.proofs.Answering.{verdict-refused, verdict-accepted}
+use Rattle.refusals.proofs.Answering.{verdict-refused, verdict-accepted}
 use Rattle.judge.proofs.Verdicts.{judged-refused, few-gauges, maximal-no-chain, maximal-yes, maximal-no}
 use Rattle.judge.proofs.judge_maximal.Statement.{statement}
 use Rattle.judge.proofs.judge_maximal.Tie as tie

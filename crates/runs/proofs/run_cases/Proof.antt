@@ -5,9 +5,9 @@ use mathlib.Core.Path.{_≡_, refl, sym, ap, _∙_, subst}
 use mathlib.Core.List.{List}
 use borrow.Author.Needs.{needs}
 use lib.ListN.{length, take}
-use Rattle.table.specs.Transposing.{transpose}
+use Rattle.transpose.specs.Transposing.{transpose}
 use Rattle.table.specs.Tables.{Legal, tableRefusal}
-use Rattle.table.proofs.Answering.{number-pos, verdict-refused, verdict-accepted}
+use Rattle.refusals.proofs.Answering.{number-pos, verdict-refused, verdict-accepted}
 use Rattle.table.proofs.Legality.{legal-of}
 use Rattle.lists.specs.Lists.{caseSide}
 use Rattle.runs.specs.private.Working.{Sized}

@@ -4,7 +4,7 @@ use mathlib.Core.Path.{_≡_, refl}
 use borrow.Author.Needs.{needs}
 use lib.ListN.{length}
 use Rattle.table.specs.Tables.{Legal, tableRefusal}
-use Rattle.table.proofs.Answering.{number-pos, verdict-refused, verdict-accepted}
+use Rattle.refusals.proofs.Answering.{number-pos, verdict-refused, verdict-accepted}
 use Rattle.table.proofs.Legality.{legal-of}
 use Rattle.lists.specs.Lists.{gaugeSide}
 use Rattle.lists.proofs.BothSides.{gauge-fair}

@@ -4,7 +4,7 @@ use native.Mathlib.Omega.{arith}
 use borrow.Author.Needs.{needs}
 use lib.ListN.{length}
 use Rattle.table.specs.Tables.{Legal, tableRefusal}
-use Rattle.table.proofs.Answering.{number-pos, verdict-refused, verdict-accepted}
+use Rattle.refusals.proofs.Answering.{number-pos, verdict-refused, verdict-accepted}
 use Rattle.table.proofs.Legality.{legal-of}
 use Rattle.rules.specs.Machine.{fresh}
 use Rattle.lists.specs.Lists.{gaugeSide}

@@ -1,7 +1,7 @@
 -- `table::check_chain` meets its contract: each answer is 01's number by the tests that led to it.
 use borrow.Author.Needs.{needs}
 use borrow.Author.Tests.{not-true, not-false}
-use Rattle.table.proofs.Answering.{number-pos, verdict-refused, verdict-accepted}
+use Rattle.refusals.proofs.Answering.{number-pos, verdict-refused, verdict-accepted}
 use Rattle.table.proofs.Legality.{chain-refused, no-count, no-pairs, chain-passes}
 use Rattle.table.proofs.check_chain.Statement.{statement}
 use Rattle.table.proofs.check_chain.Tie as tie

@@ -4,8 +4,8 @@ use mathlib.Core.Path.{_≡_, ap}
 use native.Mathlib.Omega.{arith}
 use lib.ListN.{length}
 use Rattle.table.specs.Tables.{Legal, tableRefusal}
-use Rattle.table.specs.declared.Refusal.the-variants.{BufferTooShort}
-use Rattle.table.proofs.Answering.{verdict-refused, verdict-accepted}
+use Rattle.refusals.specs.declared.Refusal.the-variants.{BufferTooShort}
+use Rattle.refusals.proofs.Answering.{verdict-refused, verdict-accepted}
 use Rattle.table.proofs.Legality.{legal-of}
 use Rattle.writer.specs.Writing.{writeFile}
 use Rattle.writer.proofs.Counting.{Small}

@@ -1,7 +1,7 @@
 -- `table::Table::from_rows` meets its contract: the answer is that of the check of the table made.
 use borrow.Author.Needs.{needs}
 use mathlib.Core.Path.{_∙_}
-use Rattle.table.proofs.Answering.{verdict-refused, verdict-accepted, answer-refused, answer-given}
+use Rattle.refusals.proofs.Answering.{verdict-refused, verdict-accepted, answer-refused, answer-given}
 use Rattle.table.proofs.Table.from_rows.Statement.{statement}
 use Rattle.table.proofs.Table.from_rows.Tie as tie
 

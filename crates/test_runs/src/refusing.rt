@@ -92,7 +92,7 @@ fn one_table(t: Tally, o: Odd) -> Tally {
 fn made_tables(t: Tally, table: Table, says: u64) -> Tally {
     let rows = table.rows;
     let made = Table::from_rows(table.gauges, table.cases, rows);
-    let turned = table::transpose_table(table);
+    let turned = transpose::transpose_table(table);
     let made_verdict = made.verdict;
     let made_table = made.table;
     let turned_verdict = turned.verdict;

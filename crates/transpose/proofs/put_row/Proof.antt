@@ -1,10 +1,9 @@
--- `table::put_row` meets its contract: the places passed have place i, and no other changed.
-use mathlib.Core.Path.{_≡_, refl}
+-- `transpose::put_row` meets its contract: the places passed have place i, and no other changed.
 use native.Mathlib.Omega.{arith}
 use borrow.Author.Needs.{needs}
-use Rattle.table.proofs.Turning.{Putting, putting-none, putting-more, putting-all}
-use Rattle.table.proofs.put_row.Statement.{statement}
-use Rattle.table.proofs.put_row.Tie as tie
+use Rattle.transpose.proofs.Turning.{Putting, putting-none, putting-more, putting-all}
+use Rattle.transpose.proofs.put_row.Statement.{statement}
+use Rattle.transpose.proofs.put_row.Tie as tie
 
 abbrev Inv-loop : tie.InvT-loop
 Inv-loop turned₀ set i rest₀ turned rest = Putting set i turned₀ turned rest

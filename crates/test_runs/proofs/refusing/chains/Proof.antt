@@ -1,8 +1,8 @@
--- `test_runs::refusals::chains` is safe and ends: the measure is what its loop still has to count. Nothing has to hold from turn to turn. Assumes nothing.
+-- `test_runs::refusing::chains` is safe and ends: the measure is what its loop still has to count. Nothing has to hold from turn to turn. Assumes nothing.
 use Prim.Native.Nat.{_-_}
 use native.Mathlib.Omega.{arith}
-use Rattle.test_runs.proofs.refusals.chains.Statement.{statement}
-use Rattle.test_runs.proofs.refusals.chains.Tie as tie
+use Rattle.test_runs.proofs.refusing.chains.Statement.{statement}
+use Rattle.test_runs.proofs.refusing.chains.Tie as tie
 
 abbrev Inv-loop : tie.InvT-loop
 Inv-loop pairs table now₀ k₀ now k = Unit {0}

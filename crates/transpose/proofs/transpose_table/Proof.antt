@@ -1,9 +1,9 @@
--- `table::transpose_table` meets its contract: the answer is that of the check, and the rows are the columns.
+-- `transpose::transpose_table` meets its contract: the answer is that of the check, and the rows are the columns.
 use borrow.Author.Needs.{needs}
 use mathlib.Core.Path.{_∙_}
-use Rattle.table.proofs.Answering.{verdict-refused, verdict-accepted, answer-refused, answer-given}
-use Rattle.table.proofs.transpose_table.Statement.{statement}
-use Rattle.table.proofs.transpose_table.Tie as tie
+use Rattle.refusals.proofs.Answering.{verdict-refused, verdict-accepted, answer-refused, answer-given}
+use Rattle.transpose.proofs.transpose_table.Statement.{statement}
+use Rattle.transpose.proofs.transpose_table.Tie as tie
 
 check-table-requires : tie.Need-check-table-requires
 check-table-requires c κs = search needs

@@ -1,5 +1,5 @@
 -- Turning a set of pairs as the code does, row by row: the cases of the gauge at place i get place i, and no other place changes.
-use mathlib.Core.Path.{_≡_, refl, sym, ap, ap₂, _∙_, subst}
+use mathlib.Core.Path.{_≡_, refl, sym, ap, ap₂, _∙_}
 use mathlib.Core.Bool.{Bool, true, false, not, _&&_, _||_}
 use mathlib.Core.List.{List}
 use Prim.Native.Nat.{ℕ, _+_, _≤_, _<_}
@@ -7,7 +7,7 @@ use native.Mathlib.Decide.{ℕ-discrete, decLt}
 use native.Mathlib.Omega.{arith}
 use lib.Dec.{eqb, ltb}
 use lib.Count.{trailingZeros}
-use lib.ListN.{length, getD, set, replicate, length-set, getD-replicate}
+use lib.ListN.{length, getD, set, length-set}
 use lib.Seq.{ext-getD, getD-set-same, getD-set-other}
 use borrow.Author.Tests.{eq-eqb, ne-eqb, lt-ltb, le-ltb}
 use Rattle.sets.specs.Sets.{bit}
@@ -15,10 +15,11 @@ use Rattle.sets.specs.First.{Lowest, Rest, With}
 use Rattle.sets.proofs.Order.{eq-of-bits}
 use Rattle.sets.proofs.OnePlace.{none-in}
 use Rattle.sets.proofs.Tabulated.{getD-tabulate}
 use Rattle.table.specs.Pairs.{row}
-use Rattle.table.specs.Transposing.{column, transpose, Puts}
+use Rattle.transpose.specs.Transposing.{column, transpose}
+use Rattle.transpose.specs.private.Puts.{Puts}
 use Rattle.table.proofs.Places.{row-past}
-use Rattle.table.proofs.Transposition.{bit-column, length-transpose}
+use Rattle.transpose.proofs.Transposition.{bit-column, length-transpose}
 
 or-false : (x : Bool) → (x || false) ≡ x
 or-false true = refl

@@ -1,8 +1,8 @@
--- `test_runs::refusals::off` is safe and ends: the measure is what its loop still has to count. Nothing has to hold from turn to turn. Assumes nothing.
+-- `test_runs::refusing::off` is safe and ends: the measure is what its loop still has to count. Nothing has to hold from turn to turn. Assumes nothing.
 use Prim.Native.Nat.{_-_}
 use native.Mathlib.Omega.{arith}
-use Rattle.test_runs.proofs.refusals.off.Statement.{statement}
-use Rattle.test_runs.proofs.refusals.off.Tie as tie
+use Rattle.test_runs.proofs.refusing.off.Statement.{statement}
+use Rattle.test_runs.proofs.refusing.off.Tie as tie
 
 abbrev Inv-loop : tie.InvT-loop
 Inv-loop a b many₀ i₀ many i = Unit {0}

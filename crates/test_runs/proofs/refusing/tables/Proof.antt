@@ -1,8 +1,8 @@
--- `test_runs::refusals::tables` is safe and ends: the measure is what its loop still has to count. Nothing has to hold from turn to turn. Assumes nothing.
+-- `test_runs::refusing::tables` is safe and ends: the measure is what its loop still has to count. Nothing has to hold from turn to turn. Assumes nothing.
 use Prim.Native.Nat.{_-_}
 use native.Mathlib.Omega.{arith}
-use Rattle.test_runs.proofs.refusals.tables.Statement.{statement}
-use Rattle.test_runs.proofs.refusals.tables.Tie as tie
+use Rattle.test_runs.proofs.refusing.tables.Statement.{statement}
+use Rattle.test_runs.proofs.refusing.tables.Tie as tie
 
 abbrev Inv-loop : tie.InvT-loop
 Inv-loop now₀ k₀ now k = Unit {0}

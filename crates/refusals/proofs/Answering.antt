@@ -1,5 +1,5 @@
 -- Reading answers: a refusal's number is never 0, what an answer is where a check refused or passed, and that no two answers read alike.
-use mathlib.Core.Path.{_≡_, refl, sym, ap, ap₂, _∙_}
+use mathlib.Core.Path.{_≡_, refl, sym, ap, _∙_}
 use mathlib.Core.List.{[], _∷_}
 use mathlib.Core.Bool.{false}
 use Prim.Native.Nat.{ℕ, _-_, _<_}
@@ -7,13 +7,30 @@ use native.Mathlib.Omega.{arith}
 use lib.Dec.{eqb}
 use lib.ListN.{getD}
 use borrow.Author.Tests.{ne-eqb}
-use Rattle.table.specs.Answers.{number, Answer, answer, refused, verdict, made}
-use Rattle.table.specs.declared.Refusal.{Refusal}
-use Rattle.table.specs.declared.Refusal.the-variants.{FileTooLong, NotTheBanner, LineTooLong, SizeFields, SizeRange, PairFields, PairRange, PairRepeated, PairCount, TableShape, TableRows, ChainCount, ChainPairs, NotAChain, NotReached, BufferTooShort, NoSuchComment, BudgetTooLarge}
-use Rattle.table.specs.declared.Table.{Table}
-use Rattle.table.specs.declared.Made.{Made}
-use Rattle.table.specs.declared.Verdict.{Verdict}
-use Rattle.table.specs.declared.Verdict.the-variants.{Accepted, Refused}
+use Rattle.refusals.specs.Answers.{number, answer, refused, verdict}
+use Rattle.refusals.specs.declared.Refusal.{Refusal}
+use Rattle.refusals.specs.declared.Refusal.the-variants.{
+  FileTooLong,
+  NotTheBanner,
+  LineTooLong,
+  SizeFields,
+  SizeRange,
+  PairFields,
+  PairRange,
+  PairRepeated,
+  PairCount,
+  TableShape,
+  TableRows,
+  ChainCount,
+  ChainPairs,
+  NotAChain,
+  NotReached,
+  BufferTooShort,
+  NoSuchComment,
+  BudgetTooLarge,
+}
+use Rattle.refusals.specs.declared.Verdict.{Verdict}
+use Rattle.refusals.specs.declared.Verdict.the-variants.{Accepted, Refused}
 
 pub number-pos : (x : Refusal) → 0 < number x
 number-pos FileTooLong = omega arith
@@ -85,7 +102,3 @@ verdict-injective Accepted Accepted e = refl
 verdict-injective Accepted (Refused y) e = absurd (omega (arith, number-pos y))
 verdict-injective (Refused x) Accepted e = absurd (omega (arith, number-pos x))
 verdict-injective (Refused x) (Refused y) e = ap Refused (number-injective x y e)
-
-pub made-injective : (m n : Made) → made m ≡ made n → m ≡ n
-made-injective m n e =
-    ap₂ (λ (v : Verdict) (t : Table). record { verdict = v; table = t }) (verdict-injective (m .verdict) (n .verdict) (ap (λ (a : Answer Table). a .refusal) e)) (ap (λ (a : Answer Table). a .value) e)

@@ -2,7 +2,7 @@
 -- gives the table back. The code computes the square of 64 by 64; these laws cut it to the table's own shape.
 use mathlib.Core.Path.{_≡_, sym, ap, _∙_, subst}
 use mathlib.Core.List.{List}
-use Prim.Native.Nat.{ℕ, _-_, _^_, _≤_, _<_}
+use Prim.Native.Nat.{ℕ, _^_, _≤_, _<_}
 use native.Mathlib.Decide.{decLt}
 use native.Mathlib.Omega.{arith}
 use lib.Dec.{T, not-T}
@@ -13,14 +13,14 @@ use Rattle.sets.specs.Sets.{bit}
 use Rattle.sets.proofs.Tests.{is-false}
 use Rattle.sets.proofs.Order.{eq-of-bits}
 use Rattle.sets.proofs.Tabulated.{getD-tabulate}
+use Rattle.sets.proofs.OnePlace.{none-in}
 use Rattle.table.specs.Pairs.{row}
-use Rattle.table.specs.Transposing.{column, transpose}
-use Rattle.table.specs.Tables.{Legal, tableRows, transposeTable}
+use Rattle.transpose.specs.Transposing.{column, transpose, transposeTable}
+use Rattle.table.specs.Tables.{Legal, tableRows}
 use Rattle.table.specs.declared.Table.{Table}
 use Rattle.table.proofs.Places.{row-past}
-use Rattle.table.proofs.Transposition.{bit-none, bit-column, length-transpose, transpose-twice}
-use Rattle.table.proofs.CheckLoops.{column-lt}
+use Rattle.transpose.proofs.Transposition.{bit-column, length-transpose, transpose-twice, column-lt}
 use Rattle.table.proofs.Legality.{length-rows, row-tableRows, legal-cases}
 
 -- the rows past the last gauge add nothing to a column
 column-rows : (t : Table) → Legal t → (k : ℕ) → column (t .rows) k ≡ column (tableRows t) k
@@ -31,7 +31,7 @@ column-rows t l k = eq-of-bits (column (t .rows) k) (column (tableRows t) k) (λ
 column-past : (t : Table) → Legal t → (k : ℕ) → t .cases ≤ k → column (t .rows) k ≡ 0
 column-past t l k h = column-rows t l k ∙ eq-of-bits (column (tableRows t) k) 0 (λ i.
     bit-column (tableRows t) k i ∙ is-false (bit (row (tableRows t) i) k) (not-T (bit (row (tableRows t) i) k) (λ b. omega (arith, legal-cases t l i k b)))
-    ∙ sym (bit-none i))
+    ∙ sym (none-in i))
 
 row-square : (t : Table) (k : ℕ) → k < 64 → row (transpose 64 (t .rows)) k ≡ column (t .rows) k
 unfolding transpose

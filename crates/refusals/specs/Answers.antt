@@ -3,12 +3,29 @@
 use mathlib.Core.Bool.{cond}
 use Prim.Native.Nat.{ℕ}
 use lib.Dec.{eqb}
-use Rattle.table.specs.declared.Refusal.{Refusal}
-use Rattle.table.specs.declared.Refusal.the-variants.{FileTooLong, NotTheBanner, LineTooLong, SizeFields, SizeRange, PairFields, PairRange, PairRepeated, PairCount, TableShape, TableRows, ChainCount, ChainPairs, NotAChain, NotReached, BufferTooShort, NoSuchComment, BudgetTooLarge}
-use Rattle.table.specs.declared.Verdict.{Verdict}
-use Rattle.table.specs.declared.Verdict.the-variants.{Accepted, Refused}
-use Rattle.table.specs.declared.Table.{Table}
-use Rattle.table.specs.declared.Made.{Made}
+use Rattle.refusals.specs.declared.Refusal.{Refusal}
+use Rattle.refusals.specs.declared.Refusal.the-variants.{
+  FileTooLong,
+  NotTheBanner,
+  LineTooLong,
+  SizeFields,
+  SizeRange,
+  PairFields,
+  PairRange,
+  PairRepeated,
+  PairCount,
+  TableShape,
+  TableRows,
+  ChainCount,
+  ChainPairs,
+  NotAChain,
+  NotReached,
+  BufferTooShort,
+  NoSuchComment,
+  BudgetTooLarge,
+}
+use Rattle.refusals.specs.declared.Verdict.{Verdict}
+use Rattle.refusals.specs.declared.Verdict.the-variants.{Accepted, Refused}
 
 -- the number of a refusal in 01, "Refused, by the place of the check"
 abbrev pub number : Refusal → ℕ
@@ -48,6 +65,3 @@ refused why blank = record { refusal = number why; value = blank }
 abbrev pub verdict : Verdict → ℕ
 verdict Accepted = 0
 verdict (Refused x) = number x
-
-abbrev pub made : Made → Answer Table
-made m = record { refusal = verdict (m .verdict); value = m .table }

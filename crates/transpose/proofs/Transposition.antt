@@ -1,16 +1,14 @@
 -- The two sides exchanged: the pairs of a transposed set (`has-transpose`), transposing twice, and chains and maximal chains, which
--- transposing keeps both ways. Last, the square form that the code computes, 64 rows by 64 cases, against the shape of the table.
+-- transposing keeps both ways. The square form that the code computes, against the shape of a table, is in Sides.antt.
 use mathlib.Core.Path.{_≡_, refl, sym, ap, _∙_, subst, subst₂}
 use mathlib.Core.Logic.{_⊎_, inl, inr, _↔_}
-use mathlib.Core.Bool.{false}
 use mathlib.Core.List.{List, [], _∷_}
 use Prim.Native.Nat.{ℕ, zero, suc, _+_, _*_, _/_, _%_, _^_, _<_}
-use native.Mathlib.Nat.{div-eq-of-lt, zero-div, lt-of-lt-of-le}
+use native.Mathlib.Nat.{pow-suc}
 use native.Mathlib.Decide.{decLt}
 use native.Mathlib.Omega.{arith}
 use lib.Dec.{T, not-T, eqb}
 use lib.Arith.{digits-div, digits-mod}
-use lib.Pow.{pow-mono}
 use lib.ListN.{length}
 use lib.Seq.{ext-getD}
 use Rattle.sets.specs.Sets.{bit}
@@ -18,37 +16,27 @@ use Rattle.sets.proofs.Tests.{is-false}
 use Rattle.sets.proofs.Digits.{bit-zero, bit-suc, lt2}
 use Rattle.sets.proofs.Order.{eq-of-bits}
 use Rattle.sets.proofs.Tabulated.{length-tabulate, getD-tabulate}
-use Rattle.table.specs.Pairs.{row, Has, Within}
+use Rattle.table.specs.Pairs.{row, Has, Within, Cases}
 use Rattle.table.specs.Chains.{IsChain, IsMaximal}
-use Rattle.table.specs.Transposing.{column, transpose, Cases}
+use Rattle.transpose.specs.Transposing.{column, transpose}
 use Rattle.table.proofs.Places.{has-place, place-has, by-place, row-past, chain-places, places-chain}
-
-pub bit-none : (k : ℕ) → bit 0 k ≡ false
-unfolding bit
-bit-none k = rw (zero-div (2 ^ k))
+use Rattle.sets.proofs.OnePlace.{none-in}
 
 no-case : (k : ℕ) → T (bit 0 k) → ⊥
-no-case k t = subst T (bit-none k) t
+no-case k t = subst T (none-in k) t
 
 pub bit-column : (rows : List ℕ) (k i : ℕ) → bit (column rows k) i ≡ bit (row rows i) k
 unfolding column bit
-bit-column [] k i = bit-none i ∙ sym (bit-none k)
+bit-column [] k i = none-in i ∙ sym (none-in k)
 bit-column (r ∷ rows) k zero =
     bit-zero (column rows k * 2 + r / 2 ^ k % 2) ∙ ap (λ (x : ℕ). eqb x 1) (digits-mod (column rows k) (lt2 (r / 2 ^ k)))
 bit-column (r ∷ rows) k (suc i) =
     bit-suc (column rows k * 2 + r / 2 ^ k % 2) i ∙ ap (λ (x : ℕ). bit x i) (digits-div (column rows k) (lt2 (r / 2 ^ k))) ∙ bit-column rows k i
 
-bit-past : (a k : ℕ) → a < 2 ^ k → bit a k ≡ false
-unfolding bit
-bit-past a k l = rw (div-eq-of-lt l)
-
--- rows below 2 ^ w have their cases below w
-pub small-cases : (w : ℕ) (rows : List ℕ) → ((i : ℕ) → row rows i < 2 ^ w) → Cases w rows
-small-cases w rows h i k t = go (decLt k w)
-  where
-    go : Dec (k < w) → k < w
-    go (yes l) = l
-    go (no l) = absurd (subst T (bit-past (row rows i) k (lt-of-lt-of-le (h i) (pow-mono (omega arith)))) t)
+pub column-lt : (rows : List ℕ) (k : ℕ) → column rows k < 2 ^ length rows
+unfolding column
+column-lt [] k = omega arith
+column-lt (r ∷ rows) k = omega (arith, column-lt rows k, lt2 (r / 2 ^ k), pow-suc 2 (length rows))
 
 pub length-transpose : (w : ℕ) (rows : List ℕ) → length (transpose w rows) ≡ w
 unfolding transpose
@@ -61,7 +49,7 @@ bit-transpose w rows h i k = go (decLt k w)
     go : Dec (k < w) → bit (row (transpose w rows) k) i ≡ bit (row rows i) k
     go (yes l) = ap (λ (x : ℕ). bit x i) (getD-tabulate (column rows) w k l) ∙ bit-column rows k i
     go (no l) =
-        ap (λ (x : ℕ). bit x i) (row-past (transpose w rows) k (omega (arith, length-transpose w rows))) ∙ bit-none i
+        ap (λ (x : ℕ). bit x i) (row-past (transpose w rows) k (omega (arith, length-transpose w rows))) ∙ none-in i
         ∙ sym (is-false (bit (row rows i) k) (not-T (bit (row rows i) k) (λ t. l (h i k t))))
 
 pub cases-transpose : (w : ℕ) (rows : List ℕ) → Cases w rows → Cases (length rows) (transpose w rows)

@@ -1,9 +1,9 @@
--- `table::refusal_number` meets its contract: each refusal has the number of its definition.
+-- `refusals::refusal_number` meets its contract: each refusal has the number of its definition.
 use mathlib.Core.Path.{sym, ap}
 use borrow.Author.Needs.{needs}
-use Rattle.table.specs.Answers.{number}
-use Rattle.table.proofs.refusal_number.Statement.{statement}
-use Rattle.table.proofs.refusal_number.Tie as tie
+use Rattle.refusals.specs.Answers.{number}
+use Rattle.refusals.proofs.refusal_number.Statement.{statement}
+use Rattle.refusals.proofs.refusal_number.Tie as tie
 
 enum-told : tie.Need-enum-told
 enum-told c = search needs

@@ -1,10 +1,10 @@
--- `table::transpose_rows` meets its contract: the first `i` rows are turned (`Turned`).
+-- `transpose::transpose_rows` meets its contract: the first `i` rows are turned (`Turned`).
 use Prim.Native.Nat.{ℕ, _≤_, _-_}
 use native.Mathlib.Omega.{arith}
 use lib.ListN.{length-replicate, getD-replicate}
-use Rattle.table.proofs.Turning.{Turned, turned-none, turned-more, turned-all}
-use Rattle.table.proofs.transpose_rows.Statement.{statement}
-use Rattle.table.proofs.transpose_rows.Tie as tie
+use Rattle.transpose.proofs.Turning.{Turned, turned-none, turned-more, turned-all}
+use Rattle.transpose.proofs.transpose_rows.Statement.{statement}
+use Rattle.transpose.proofs.transpose_rows.Tie as tie
 
 abbrev Inv-loop : tie.InvT-loop
 Inv-loop rows turned₀ i₀ turned i = (i ≤ 64) × Turned rows turned i

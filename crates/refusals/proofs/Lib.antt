@@ -1,0 +1,2 @@
+-- Laws of refusals and of answers.
+pub mod Answering

@@ -1,0 +1,2 @@
+-- What a reader must believe of refusals: the number of each in 01, and how an answer reads.
+pub mod Answers

@@ -1,0 +1,58 @@
+// The conditions that 01 refuses, and the number that 01 gives each. A further refusal is one more name here, in the order of its number,
+// its line in `refusal_number`, and its line in `number` of specs/Answers.antt. No function has a `requires`.
+ghost use mathlib.Core.Path.{_≡_};
+ghost use Rattle.refusals.specs.Answers.{number};
+
+// The conditions that 01 refuses. `number` in specs/Answers.antt gives each its number there.
+pub enum Refusal {
+    FileTooLong,
+    NotTheBanner,
+    LineTooLong,
+    SizeFields,
+    SizeRange,
+    PairFields,
+    PairRange,
+    PairRepeated,
+    PairCount,
+    TableShape,
+    TableRows,
+    ChainCount,
+    ChainPairs,
+    NotAChain,
+    NotReached,
+    BufferTooShort,
+    NoSuchComment,
+    BudgetTooLarge,
+}
+
+// Whether a check passed, and if not, which refusal it was.
+pub enum Verdict {
+    Accepted,
+    Refused(Refusal),
+}
+
+// The number of a refusal in 01.
+pub fn refusal_number(why: Refusal) -> u64
+    ensures { λ r. ⌜ r ≡ number why ⌝ }
+{
+    match why {
+        Refusal::FileTooLong => 1,
+        Refusal::NotTheBanner => 2,
+        Refusal::LineTooLong => 3,
+        Refusal::SizeFields => 4,
+        Refusal::SizeRange => 5,
+        Refusal::PairFields => 6,
+        Refusal::PairRange => 7,
+        Refusal::PairRepeated => 8,
+        Refusal::PairCount => 9,
+        Refusal::TableShape => 10,
+        Refusal::TableRows => 11,
+        Refusal::ChainCount => 12,
+        Refusal::ChainPairs => 13,
+        Refusal::NotAChain => 14,
+        Refusal::NotReached => 15,
+        Refusal::BufferTooShort => 16,
+        Refusal::NoSuchComment => 17,
+        Refusal::BudgetTooLarge => 18,
+    }
+}
