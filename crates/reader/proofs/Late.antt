@@ -15,10 +15,10 @@ use Rattle.refusals.proofs.Answering.{number-pos}
 use Rattle.text.specs.Lines.{Line}
 use Rattle.text.specs.Fields.{scan, fields}
 use Rattle.text.specs.declared.Fields.the-variants.{Other}
-use Rattle.reader.specs.Kinds.{isComment, tooLong, pairOf, pairLine}
+use Rattle.kinds.specs.Kinds.{isComment, tooLong, pairOf, pairLine}
 use Rattle.reader.specs.Reading.{refusedFile, hasPair, addPair, readPairs}
-use Rattle.reader.specs.declared.PairLine.{PairLine}
-use Rattle.reader.specs.declared.PairLine.the-variants.{Pair, Skip as skipPair, Bad as badPair}
+use Rattle.kinds.specs.declared.PairLine.{PairLine}
+use Rattle.kinds.specs.declared.PairLine.the-variants.{Pair, Skip as skipPair, Bad as badPair}
 
 -- none of the lines is a comment line
 pub data NoComments : List Line → Type 0 where

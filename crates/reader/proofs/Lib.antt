@@ -1,5 +1,4 @@
 -- Laws that belong to no one function. For users of the reader: `Yielded`, `Lookup` and `Late`.
-pub mod KindOf
 pub mod LineLoops
 pub mod Lookup
 pub mod Yielded

@@ -20,14 +20,15 @@ use Rattle.refusals.specs.declared.Refusal.the-variants.{FileTooLong, NotTheBan
 use Rattle.table.specs.declared.Table.{Table}
 use Rattle.text.specs.Lines.{lines, spanAt}
 use Rattle.text.proofs.LineAt.{lines-at}
-use Rattle.reader.specs.Kinds.{isBanner, headLine, pairLine}
+use Rattle.kinds.specs.Banner.{isBanner}
+use Rattle.kinds.specs.Kinds.{headLine, pairLine}
 use Rattle.reader.specs.Reading.{accepted, refusedFile, withCase, hasPair, readPairs, readHead, readLines, readFile}
-use Rattle.reader.proofs.KindOf.{Bounded, pair-range, size-range}
+use Rattle.kinds.proofs.KindOf.{Bounded, pair-range, size-range}
 use Rattle.text.specs.declared.Span.{Span}
-use Rattle.reader.specs.declared.HeadLine.{HeadLine}
-use Rattle.reader.specs.declared.HeadLine.the-variants.{Size, Skip as skipHead, Bad as badHead}
-use Rattle.reader.specs.declared.PairLine.{PairLine}
-use Rattle.reader.specs.declared.PairLine.the-variants.{Pair, Skip as skipPair, Bad as badPair}
+use Rattle.kinds.specs.declared.HeadLine.{HeadLine}
+use Rattle.kinds.specs.declared.HeadLine.the-variants.{Size, Skip as skipHead, Bad as badHead}
+use Rattle.kinds.specs.declared.PairLine.{PairLine}
+use Rattle.kinds.specs.declared.PairLine.the-variants.{Pair, Skip as skipPair, Bad as badPair}
 
 -- the end of the pair lines; A is what the loop started with
 module _ (f : List ℕ) (at : ℕ) (gs cs left : ℕ) (rows : List ℕ) (A : Answer Table) (q : readPairs gs cs left rows (lines (drop at f)) ≡ A) (h : length f ≤ at) where
@@ -100,11 +101,11 @@ module _ {f : List ℕ} {at : ℕ} {s : Span} {k : HeadLine} {A : Answer Table} 
   unfolding readHead
   head-bad x = rw (sym (T .kind) ∙ x, readHead) at (one-head .1)
 
-  module _ {g c n : ℕ} (x : k ≡ Size g c n) where
-    pub head-range : Bounded 64 64 g c
+  module _ {g : Gauge} {c : Case} {n : ℕ} (x : k ≡ Size g c n) where
+    pub head-range : Bounded 64 64 (g .0) (c .0)
     head-range = size-range (take (s .end - at) (drop at f)) g c n (sym x ∙ T .kind)
 
-    pub head-size : readPairs g c n noRows (lines (drop (s .next) f)) ≡ A
+    pub head-size : readPairs (g .0) (c .0) n noRows (lines (drop (s .next) f)) ≡ A
     unfolding readHead
     head-size = rw (sym (T .kind) ∙ x, readHead) at (one-head .1)
 

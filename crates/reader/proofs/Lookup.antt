@@ -22,7 +22,7 @@ use Rattle.refusals.specs.declared.Verdict.the-variants.{Accepted, Refused}
 use Rattle.text.specs.Lines.{Line, lines, spanAt, atCRLF, extend}
 use Rattle.text.proofs.LineAt.{inside, lines-at}
 use Rattle.refusals.proofs.Answering.{number-pos, number-injective}
-use Rattle.reader.specs.Kinds.{isComment}
+use Rattle.kinds.specs.Kinds.{isComment}
 use Rattle.reader.specs.Reading.{readFile}
 use Rattle.reader.specs.Comments.{Part, Shows, noPart, found, noComment, commentFrom, commentLines, commentAt}
 use Rattle.reader.specs.declared.Found.{Found}

@@ -19,13 +19,14 @@ use Rattle.refusals.specs.declared.Refusal.{Refusal}
 use Rattle.refusals.specs.declared.Refusal.the-variants.{FileTooLong, NotTheBanner, SizeFields, PairRepeated, PairCount}
 use Rattle.table.specs.declared.Table.{Table}
 use Rattle.text.specs.Lines.{Line, lines}
-use Rattle.reader.specs.Kinds.{isBanner, headLine, pairLine}
+use Rattle.kinds.specs.Banner.{isBanner}
+use Rattle.kinds.specs.Kinds.{headLine, pairLine}
 use Rattle.reader.specs.Reading.{accepted, refusedFile, hasPair, withCase, addPair, readPairs, readHead, readLines, readFile}
-use Rattle.reader.specs.declared.HeadLine.{HeadLine}
-use Rattle.reader.specs.declared.HeadLine.the-variants.{Size, Skip as skipHead, Bad as badHead}
-use Rattle.reader.specs.declared.PairLine.{PairLine}
-use Rattle.reader.specs.declared.PairLine.the-variants.{Pair, Skip as skipPair, Bad as badPair}
-use Rattle.reader.proofs.KindOf.{Bounded, pair-range, size-range}
+use Rattle.kinds.specs.declared.HeadLine.{HeadLine}
+use Rattle.kinds.specs.declared.HeadLine.the-variants.{Size, Skip as skipHead, Bad as badHead}
+use Rattle.kinds.specs.declared.PairLine.{PairLine}
+use Rattle.kinds.specs.declared.PairLine.the-variants.{Pair, Skip as skipPair, Bad as badPair}
+use Rattle.kinds.proofs.KindOf.{Bounded, pair-range, size-range}
 use Rattle.refusals.proofs.Answering.{number-pos}
 use Rattle.reader.proofs.LineLoops.{file-long}
 
@@ -109,7 +110,7 @@ head-legal (l ∷ ls) = go (headLine (l .text)) refl (head-legal ls)
     go : (k : HeadLine) → headLine (l .text) ≡ k → Sound (readHead ls) → Sound (readHead (l ∷ ls))
     go skipHead p ih = rw (p, readHead) ih
     go (badHead x) p ih = rw (p, readHead) (λ e. absurd (refuses x e))
-    go (Size g c n) p ih = rw (p, readHead) (pairs-legal (size-range (l .text) g c n (sym p)) n noRows (rows-none g c) ls)
+    go (Size g c n) p ih = rw (p, readHead) (pairs-legal (size-range (l .text) g c n (sym p)) n noRows (rows-none (g .0) (c .0)) ls)
 
 lines-legal : (ls : List Line) → Sound (readLines ls)
 unfolding readLines

@@ -11,7 +11,7 @@ use denote.Ref.{RefT, ptr, now}
 use Rattle.refusals.specs.Answers.{Answer, refused}
 use Rattle.refusals.specs.declared.Refusal.the-variants.{NoSuchComment}
 use Rattle.text.specs.Lines.{Line, lines}
-use Rattle.reader.specs.Kinds.{isComment}
+use Rattle.kinds.specs.Kinds.{isComment}
 use Rattle.reader.specs.Reading.{readFile}
 use Rattle.reader.specs.declared.Found.{Found}
 use Rattle.reader.specs.declared.Found.the-variants.{At, Refused}

@@ -1,4 +1,3 @@
--- What a reader must believe of the file: the kinds of its lines, what reading it gives, and its comment lines.
-pub mod Kinds
+-- What a reader must believe of the file: what reading it gives, and its comment lines.
 pub mod Reading
 pub mod Comments

@@ -13,9 +13,10 @@ use Rattle.table.specs.declared.Table.{Table}
 use Rattle.refusals.specs.declared.Refusal.{Refusal}
 use Rattle.refusals.specs.declared.Refusal.the-variants.{FileTooLong, NotTheBanner, SizeFields, PairRepeated, PairCount}
 use Rattle.text.specs.Lines.{Line, lines}
-use Rattle.reader.specs.Kinds.{isBanner, headLine, pairLine}
-use Rattle.reader.specs.declared.HeadLine.the-variants.{Size, Skip as skipHead, Bad as badHead}
-use Rattle.reader.specs.declared.PairLine.the-variants.{Pair, Skip as skipPair, Bad as badPair}
+use Rattle.kinds.specs.Banner.{isBanner}
+use Rattle.kinds.specs.Kinds.{headLine, pairLine}
+use Rattle.kinds.specs.declared.HeadLine.the-variants.{Size, Skip as skipHead, Bad as badHead}
+use Rattle.kinds.specs.declared.PairLine.the-variants.{Pair, Skip as skipPair, Bad as badPair}
 
 -- a table that is accepted, and a refusal with its blank table
 abbrev pub accepted : Table → Answer Table
@@ -56,7 +57,7 @@ readHead [] = refusedFile SizeFields
 readHead (l ∷ ls) =
     elim (headLine (l .text)) [
       | skipHead ↦ readHead ls
-      | Size g c n ↦ readPairs g c n noRows ls
+      | Size g c n ↦ readPairs (g .0) (c .0) n noRows ls
       | badHead why ↦ refusedFile why
     ]
 

@@ -12,7 +12,7 @@ use borrow.Author.Tests.{lt-ltb, le-leb, ne-eqb}
 use Rattle.text.specs.Lines.{lines}
 use Rattle.text.specs.Fields.{scan, close, fields}
 use Rattle.text.specs.declared.Fields.the-variants.{Two, Three}
-use Rattle.reader.specs.Kinds.{isComment}
+use Rattle.kinds.specs.Kinds.{isComment}
 use Rattle.writer.specs.Writing.{decimal, digits}
 use Rattle.writer.proofs.Decimals.{lt-or-le, decimal-short, decimal-long, decimal-length, decimal-some}
 

@@ -20,10 +20,11 @@ use Rattle.refusals.specs.Answers.{Answer}
 use Rattle.table.specs.declared.Table.{Table}
 use Rattle.table.proofs.Legality.{legal-of, length-rows}
 use Rattle.text.specs.Lines.{lines}
-use Rattle.reader.specs.Kinds.{banner, headLine, pairLine}
+use Rattle.kinds.specs.Banner.{banner}
+use Rattle.kinds.specs.Kinds.{headLine, pairLine}
 use Rattle.reader.specs.Reading.{accepted, addPair, readPairs, readHead, readLines, readFile}
-use Rattle.reader.specs.declared.PairLine.the-variants.{Pair}
-use Rattle.reader.specs.declared.HeadLine.the-variants.{Size}
+use Rattle.kinds.specs.declared.PairLine.the-variants.{Pair}
+use Rattle.kinds.specs.declared.HeadLine.the-variants.{Size}
 use Rattle.writer.specs.Writing.{digits, GaugeCase, rowPairs, pairsFrom, pairs, pairLines, sizeText, writeFile, writeRefusal}
 use Rattle.writer.proofs.Sizes.{count-bound, write-length}
 use Rattle.writer.proofs.ReadBack.{Above, line-front, fields-two, fields-three, two-above, two-length, three-length, text-above, number-no-comment}
@@ -167,7 +168,7 @@ module _ (t : Table) (ok : Legal t) where
       let e : t .gauges + (64 - t .gauges) ≡ 64 = omega (arith, ok .gauges-high) in
       replicate-append-replicate (t .gauges) (64 - t .gauges) 0 ∙ ap (λ (n : ℕ). replicate n 0) e
 
-  head-line : headLine (sizeText t) ≡ Size (t .gauges) (t .cases) (length (pairs t))
+  head-line : headLine (sizeText t) ≡ Size (record { 0 = t .gauges }) (record { 0 = t .cases }) (length (pairs t))
   head-line =
       rw (
         le-ltb 1024 (length (sizeText t)) (omega (arith, three-length (t .gauges) (t .cases) (length (pairs t)))),

@@ -10,7 +10,7 @@ use Rattle.table.specs.Tables.{tableRefusal, tableRows}
 use Rattle.refusals.specs.Answers.{Answer, answer, refused, number}
 use Rattle.refusals.specs.declared.Refusal.the-variants.{BufferTooShort}
 use Rattle.table.specs.declared.Table.{Table}
-use Rattle.reader.specs.Kinds.{banner}
+use Rattle.kinds.specs.Banner.{banner}
 use Rattle.writer.specs.declared.Written.{Written}
 use Rattle.writer.specs.declared.Written.the-variants.{Length, Refused}
 

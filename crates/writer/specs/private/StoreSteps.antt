@@ -6,7 +6,7 @@ use mathlib.Core.List.{List, [], _∷_, _++_}
 use lib.ListN.{length, take, drop}
 use lib.Seq.{sets}
 use Rattle.table.specs.declared.Table.{Table}
-use Rattle.reader.specs.Kinds.{banner}
+use Rattle.kinds.specs.Banner.{banner}
 use Rattle.writer.specs.Writing.{digits, GaugeCase, pairsFrom, pairLines}
 use Rattle.writer.specs.declared.Totals.{Totals}
 

@@ -1,6 +1,6 @@
 -- The kind of a line, as the code tests it: one law for each `return` of the functions that tell the kind, its premises the tests that
--- led there. In order: comment lines, lines ahead of the pairs, pair lines; last, that a size and a pair that are
--- taken are in range.
+-- led there. In order: comment lines; lines ahead of the pairs; pair lines; that a size and a pair that are taken are in range, which
+-- `reader` rests on. The banner is in Opening.antt.
 use Prim.Native.Nat.{ℕ, _≤_, _<_}
 use mathlib.Core.Path.{_≡_, refl, ap, sym, _∙_}
 use mathlib.Core.List.{List, [], _∷_}
@@ -15,11 +15,11 @@ use Rattle.table.proofs.Legality.{range-is}
 use Rattle.table.specs.declared.Gauge.{Gauge}
 use Rattle.table.specs.declared.Case.{Case}
 use Rattle.refusals.specs.declared.Refusal.the-variants.{LineTooLong, SizeFields, SizeRange, PairFields, PairRange}
-use Rattle.reader.specs.Kinds.{isComment, sizeOf, headLine, pairOf, pairLine}
+use Rattle.kinds.specs.Kinds.{isComment, sizeOf, headLine, pairOf, pairLine}
 use Rattle.text.specs.declared.Fields.{Fields}
 use Rattle.text.specs.declared.Fields.the-variants.{Blank, Two, Three, Other}
-use Rattle.reader.specs.declared.HeadLine.the-variants.{Size, Skip as skipHead, Bad as badHead}
-use Rattle.reader.specs.declared.PairLine.the-variants.{Pair, Skip as skipPair, Bad as badPair}
+use Rattle.kinds.specs.declared.HeadLine.the-variants.{Size, Skip as skipHead, Bad as badHead}
+use Rattle.kinds.specs.declared.PairLine.the-variants.{Pair, Skip as skipPair, Bad as badPair}
 
 pub comment-empty : (l : List ℕ) → length l ≡ 0 → false ≡ isComment l
 comment-empty [] h = refl
@@ -81,7 +81,7 @@ module _ (l : List ℕ) where
         pub head-cases : u ≡ true → (v : Bool) → v ≡ inRange 64 c → v ≡ false → badHead SizeRange ≡ headLine l
         head-cases k v b m = rw (← a, k, ← b, m) at (ap sizeOf (sym x) ∙ head-fields)
 
-        pub head-size : u ≡ true → (v : Bool) → v ≡ inRange 64 c → v ≡ true → Size g c n ≡ headLine l
+        pub head-size : u ≡ true → (v : Bool) → v ≡ inRange 64 c → v ≡ true → Size (record { 0 = g }) (record { 0 = c }) n ≡ headLine l
         head-size k v b m = rw (← a, k, ← b, m) at (ap sizeOf (sym x) ∙ head-fields)
 
     module _ (gs cs : ℕ) (f : Fields) (q : f ≡ fields l) where
@@ -147,27 +147,28 @@ pair-range gs cs l g c e = long (ltb 1024 (length l)) e
     long false z = kinds (fields l) z
 
 -- a size that is taken is in range
-pub size-range : (l : List ℕ) (g c n : ℕ) → Size g c n ≡ headLine l → Bounded 64 64 g c
+pub size-range : (l : List ℕ) (g : Gauge) (c : Case) (n : ℕ) → Size g c n ≡ headLine l → Bounded 64 64 (g .0) (c .0)
 size-range l g c n e = long (ltb 1024 (length l)) e
   where
-    sizes : (a b m : ℕ) (t u : Bool) → inRange 64 a ≡ t → inRange 64 b ≡ u → Size g c n ≡ cond (t && u) (Size a b m) (badHead SizeRange) → Bounded 64 64 g c
+    sizes : (a b m : ℕ) (t u : Bool) → inRange 64 a ≡ t → inRange 64 b ≡ u
+        → Size g c n ≡ cond (t && u) (Size (record { 0 = a }) (record { 0 = b }) m) (badHead SizeRange) → Bounded 64 64 (g .0) (c .0)
     sizes a b m true true x y z =
-        let p : g ≡ a = cc in
-        let q : c ≡ b = cc in
-        bounded p q (range-is 64 a x) (range-is 64 b y)
+        let p : g ≡ record { 0 = a } = cc in
+        let q : c ≡ record { 0 = b } = cc in
+        bounded (ap (λ (x : Gauge). x .0) p) (ap (λ (x : Case). x .0) q) (range-is 64 a x) (range-is 64 b y)
     sizes a b m true false x y z = let w : _≡_ {A = ℕ} 0 1 = cc in absurd (omega arith)
     sizes a b m false u x y z = let w : _≡_ {A = ℕ} 0 1 = cc in absurd (omega arith)
 
-    kinds : (k : Fields) → Size g c n ≡ sizeOf k → Bounded 64 64 g c
+    kinds : (k : Fields) → Size g c n ≡ sizeOf k → Bounded 64 64 (g .0) (c .0)
     kinds Blank z = let w : _≡_ {A = ℕ} 0 1 = cc in absurd (omega arith)
     kinds (Two a b) z = let w : _≡_ {A = ℕ} 0 1 = cc in absurd (omega arith)
     kinds (Three a b m) z = sizes a b m (inRange 64 a) (inRange 64 b) refl refl z
     kinds Other z = let w : _≡_ {A = ℕ} 0 1 = cc in absurd (omega arith)
 
-    comment : (t : Bool) → Size g c n ≡ cond t skipHead (sizeOf (fields l)) → Bounded 64 64 g c
+    comment : (t : Bool) → Size g c n ≡ cond t skipHead (sizeOf (fields l)) → Bounded 64 64 (g .0) (c .0)
     comment true z = let w : _≡_ {A = ℕ} 0 1 = cc in absurd (omega arith)
     comment false z = kinds (fields l) z
 
-    long : (t : Bool) → Size g c n ≡ cond t (badHead LineTooLong) (cond (isComment l) skipHead (sizeOf (fields l))) → Bounded 64 64 g c
+    long : (t : Bool) → Size g c n ≡ cond t (badHead LineTooLong) (cond (isComment l) skipHead (sizeOf (fields l))) → Bounded 64 64 (g .0) (c .0)
     long true z = let w : _≡_ {A = ℕ} 0 1 = cc in absurd (omega arith)
     long false z = comment (isComment l) z

@@ -1,8 +1,8 @@
--- `reader::is_comment` meets its contract: an empty line, a line with `%` first and any other each have their law.
-use Rattle.reader.proofs.KindOf.{comment-empty, comment-yes, comment-no}
+-- `kinds::is_comment` meets its contract: an empty line, a line with `%` first and any other each have their law.
+use Rattle.kinds.proofs.KindOf.{comment-empty, comment-yes, comment-no}
 use borrow.Author.Needs.{needs}
-use Rattle.reader.proofs.is_comment.Statement.{statement}
-use Rattle.reader.proofs.is_comment.Tie as tie
+use Rattle.kinds.proofs.is_comment.Statement.{statement}
+use Rattle.kinds.proofs.is_comment.Tie as tie
 
 returns : tie.Need-returns
 returns c = search (needs, comment-empty)

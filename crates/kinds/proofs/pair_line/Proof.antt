@@ -1,4 +1,4 @@
--- `reader::pair_line` meets its contract: each return has its law of `KindOf`; what no pattern took is neither blank nor two fields.
+-- `kinds::pair_line` meets its contract: each return has its law of `KindOf`; what no pattern took is neither blank nor two fields.
 use mathlib.Core.List.{[], _∷_}
 use mathlib.Core.Logic.{⊎-elim}
 use native.Mathlib.Omega.{arith}
@@ -7,10 +7,10 @@ use denote.Enum.Declared
 use Rattle.text.specs.declared.Fields.{Fields}
 use Rattle.text.specs.declared.Fields.the-variants.{Blank, Two, Three, Other}
 use Rattle.text.proofs.Fields.{the-type}
-use Rattle.reader.proofs.KindOf.{NoPair, pair-long, pair-blank, pair-none, pair-gauge, pair-case, pair-pair}
+use Rattle.kinds.proofs.KindOf.{NoPair, pair-long, pair-blank, pair-none, pair-gauge, pair-case, pair-pair}
 use borrow.Author.Needs.{needs}
-use Rattle.reader.proofs.pair_line.Statement.{statement}
-use Rattle.reader.proofs.pair_line.Tie as tie
+use Rattle.kinds.proofs.pair_line.Statement.{statement}
+use Rattle.kinds.proofs.pair_line.Tie as tie
 
 no-pair : (x : Fields) → types.Run.OneOf (1 ∷ 2 ∷ 3 ∷ []) (Declared.tagOf the-type x) → types.Run.OneOf (0 ∷ 2 ∷ 3 ∷ []) (Declared.tagOf the-type x) → NoPair x
 unfolding NoPair

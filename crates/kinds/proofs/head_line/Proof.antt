@@ -1,4 +1,4 @@
--- `reader::head_line` meets its contract: each return has its law of `KindOf`; what no pattern took is neither blank nor three fields.
+-- `kinds::head_line` meets its contract: each return has its law of `KindOf`; what no pattern took is neither blank nor three fields.
 use mathlib.Core.List.{[], _∷_}
 use mathlib.Core.Logic.{⊎-elim}
 use native.Mathlib.Omega.{arith}
@@ -7,10 +7,10 @@ use denote.Enum.Declared
 use Rattle.text.specs.declared.Fields.{Fields}
 use Rattle.text.specs.declared.Fields.the-variants.{Blank, Two, Three, Other}
 use Rattle.text.proofs.Fields.{the-type}
-use Rattle.reader.proofs.KindOf.{NoSize, head-long, head-comment, head-blank, head-none, head-gauges, head-cases, head-size}
+use Rattle.kinds.proofs.KindOf.{NoSize, head-long, head-comment, head-blank, head-none, head-gauges, head-cases, head-size}
 use borrow.Author.Needs.{needs}
-use Rattle.reader.proofs.head_line.Statement.{statement}
-use Rattle.reader.proofs.head_line.Tie as tie
+use Rattle.kinds.proofs.head_line.Statement.{statement}
+use Rattle.kinds.proofs.head_line.Tie as tie
 
 no-size : (x : Fields) → types.Run.OneOf (1 ∷ 2 ∷ 3 ∷ []) (Declared.tagOf the-type x) → types.Run.OneOf (0 ∷ 1 ∷ 3 ∷ []) (Declared.tagOf the-type x) → NoSize x
 unfolding NoSize

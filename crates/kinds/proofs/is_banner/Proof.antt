@@ -1,0 +1,83 @@
+-- `kinds::is_banner` meets its contract: a line that is too short, one that opens otherwise, and one that goes on with the words or not.
+use Prim.Native.Nat.{ℕ, _-_}
+use mathlib.Core.Path.{ap, _∙_}
+use mathlib.Core.List.{List}
+use native.Mathlib.Omega.{arith}
+use borrow.Author.Needs.{needs}
+use borrow.Author.Tests.{not-true, not-false}
+use lib.ListN.{length, drop, length-drop}
+use lib.Seq.{take-all}
+use Rattle.text.specs.Bytes.{sameBytes}
+use Rattle.kinds.specs.Banner.{pattern}
+use Rattle.kinds.proofs.Opening.{opening-short, opening-other, opening-words}
+use Rattle.kinds.proofs.is_banner.Statement.{statement}
+use Rattle.kinds.proofs.is_banner.Tie as tie
+
+-- the line
+abbrev line : tie.After-shared-slice-known → List ℕ
+line c = c .before .args .line .now
+
+-- the start of the comparison with the opening
+abbrev compared : tie.After-same-bytes → tie.After-shared-slice-known
+compared c = c .before .before .before .before
+
+returns : tie.Need-returns
+returns c = opening-short pattern (line (c .before)) (c .if1 .taken)
+
+sub-same-bytes : tie.Need-sub-same-bytes
+sub-same-bytes c = search needs
+
+part-same-bytes-start : tie.Need-part-same-bytes-start
+part-same-bytes-start c = search needs
+
+part-same-bytes-end : tie.Need-part-same-bytes-end
+part-same-bytes-end c = search needs
+
+slice-aggregate-same-bytes : tie.Need-slice-aggregate-same-bytes
+slice-aggregate-same-bytes c = search needs
+
+same-bytes-requires : tie.Need-same-bytes-requires
+same-bytes-requires c κs = search needs
+
+returns-2 : tie.Need-returns-2
+returns-2 c = opening-other pattern (line (compared (c .before))) _ (c .before .same-bytes .ensures) (not-true _ (c .if2 .taken))
+
+sub-same-bytes-2 : tie.Need-sub-same-bytes-2
+sub-same-bytes-2 c = search needs
+
+part-same-bytes-start-2 : tie.Need-part-same-bytes-start-2
+part-same-bytes-start-2 c = search needs
+
+part-same-bytes-end-2 : tie.Need-part-same-bytes-end-2
+part-same-bytes-end-2 c = search needs
+
+slice-aggregate-same-bytes-2 : tie.Need-slice-aggregate-same-bytes-2
+slice-aggregate-same-bytes-2 c = search needs
+
+same-bytes-requires-2 : tie.Need-same-bytes-requires-2
+same-bytes-requires-2 c κs = search needs
+
+returns-3 : tie.Need-returns-3
+returns-3 c =
+    let e = c .before .before .before in
+    let l = line (compared (e .before)) in
+    opening-words pattern l _ (e .before .same-bytes .ensures) (not-false _ (e .if2 .left)) _
+    (c .same-bytes2 .ensures ∙ ap (λ (s : List ℕ). sameBytes s pattern) (take-all (length l - 14) (drop 14 l) (omega (arith, length-drop 14 l))))
+
+pub is-banner-spec : {M : Type 1} → statement M
+is-banner-spec =
+    tie.close
+    (tie.spec
+    returns
+    sub-same-bytes
+    part-same-bytes-start
+    part-same-bytes-end
+    slice-aggregate-same-bytes
+    same-bytes-requires
+    returns-2
+    sub-same-bytes-2
+    part-same-bytes-start-2
+    part-same-bytes-end-2
+    slice-aggregate-same-bytes-2
+    same-bytes-requires-2
+    returns-3)

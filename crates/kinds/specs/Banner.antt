@@ -1,0 +1,33 @@
+-- The banner (01, "The file"): "Banner, lower case, single spaces: %%MatrixMarket matrix coordinate pattern general". It is the fourteen
+-- bytes `%%MatrixMarket` and then the words of a kind of file, each with a space ahead of it. What is read as a banner (`isBanner`) and
+-- what the writer writes (`banner`) are made of the same two texts; that the one is exactly the other is `banner-only` and
+-- `banner-reads` in proofs/Opening.antt. A further kind of file is a further text of words.
+use Prim.Native.Nat.{ℕ}
+use mathlib.Core.List.{List, [], _∷_, _++_}
+use mathlib.Core.Bool.{Bool, _&&_}
+use lib.ListN.{take, drop}
+use Rattle.text.specs.Bytes.{sameBytes}
+
+-- `%%MatrixMarket`
+abbrev pub opening : List ℕ
+opening = 37 ∷ 37 ∷ 77 ∷ 97 ∷ 116 ∷ 114 ∷ 105 ∷ 120 ∷ 77 ∷ 97 ∷ 114 ∷ 107 ∷ 101 ∷ 116 ∷ []
+
+-- the words of a file of pairs: ` matrix coordinate pattern general`
+abbrev pub pattern : List ℕ
+pattern =
+    32 ∷ 109 ∷ 97 ∷ 116 ∷ 114 ∷ 105 ∷ 120 ∷
+    32 ∷ 99 ∷ 111 ∷ 111 ∷ 114 ∷ 100 ∷ 105 ∷ 110 ∷ 97 ∷ 116 ∷ 101 ∷
+    32 ∷ 112 ∷ 97 ∷ 116 ∷ 116 ∷ 101 ∷ 114 ∷ 110 ∷
+    32 ∷ 103 ∷ 101 ∷ 110 ∷ 101 ∷ 114 ∷ 97 ∷ 108 ∷ []
+
+-- a line of a kind with these words: its first fourteen bytes are the opening, and behind them stand the words
+abbrev pub isOfKind : List ℕ → List ℕ → Bool
+isOfKind words l = sameBytes (take 14 l) opening && sameBytes (drop 14 l) words
+
+-- a first line that is accepted
+abbrev pub isBanner : List ℕ → Bool
+isBanner l = isOfKind pattern l
+
+-- the banner that is written
+abbrev pub banner : List ℕ
+banner = opening ++ pattern
