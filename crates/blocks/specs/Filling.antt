@@ -1,17 +1,23 @@
 -- A lent buffer filled with the files of successive hand-outs of the gauge run, and the blocks so made, one after another. A ladder's file is
--- that of the table of its pairs, with the table's G and L. `Filled` says what one block is, for every value and every buffer; `Listed`
--- says of blocks from a fresh start on that together they are the files of the gauge list, each member's in turn.
+-- that of the table of its pairs, with the table's G and L.
+--
+-- In order: files; one block (`Filled`: which calls are made and what the buffer then holds, for every value and every buffer); blocks one
+-- after another (`Listed`: from a fresh start on they are the files of the gauge list, each member's in turn).
+--
+-- Elsewhere: that `Filled` can be met for every input and leaves one answer, `filled-exists` and `filled-unique` in proofs/Deciding.antt; that
+-- the longest file is attained, `longest-attained` there; that lists of blocks exist and come to the list's end, proofs/Existence.antt.
 use mathlib.Core.Path.{_≡_}
+use mathlib.Core.Logic.{_⊎_}
 use mathlib.Core.Bool.{Bool, true, false, _||_}
 use mathlib.Core.List.{List, [], _∷_, _++_}
 use Prim.Native.Nat.{ℕ, _+_, _≤_, _<_, min}
-use lib.ListN.{length, take, drop}
+use lib.ListN.{length, take, drop, replicate}
 use Rattle.table.specs.declared.Table.{Table}
 use Rattle.table.specs.Tables.{tableRefusal, padded}
 use Rattle.refusals.specs.Answers.{verdict}
 use Rattle.rules.specs.Sequences.{factorial}
 use Rattle.rules.specs.Machine.{State, fresh}
-use Rattle.rules.specs.Calls.{Reply, refused, spent, handed, end, Call, callsFrom, stateAfter, handouts}
+use Rattle.rules.specs.Calls.{Reply, refused, spent, handed, end, Call, mostBudget, callsFrom, stateAfter, handouts}
 use Rattle.lists.specs.Lists.{gaugeSide, GaugeList}
 use Rattle.lists.specs.Picks.{candidates}
 use Rattle.lists.specs.OnTable.{handOut}
@@ -30,7 +36,7 @@ abbrev pub files : Table → List (List ℕ) → List ℕ
 files t [] = []
 files t (x ∷ xs) = writeFile (pairTable t x) ++ files t xs
 
--- the longest file of a table: `write-length` and `full-length` in crate `writer`
+-- the longest file of a table, that of the full one of 64 gauges and 64 cases
 abbrev pub longest : ℕ
 longest = 23484
 
@@ -46,13 +52,18 @@ pub record Filling : Type 0 where
 abbrev pub filling : Block → Filling
 filling b = record { refusal = verdict (b .verdict); value = gaugeValue (b .run); used = b .used; over = b .over }
 
--- the calls of the gauge run on t that have the budgets bs, from the state s on, and the state after them
-abbrev pub made : Table → List ℕ → State → List Call
-made t bs s = callsFrom (candidates (gaugeSide t .rows)) (handOut (gaugeSide t)) bs s
+-- the first n calls of the gauge run on t, from the state s on, each with the greatest budget, and the state after them
+abbrev pub calls : Table → ℕ → State → List Call
+calls t n s = callsFrom (candidates (gaugeSide t .rows)) (handOut (gaugeSide t)) (replicate n mostBudget) s
 
-abbrev pub after : Table → List ℕ → State → State
-after t bs s = stateAfter (candidates (gaugeSide t .rows)) (handOut (gaugeSide t)) bs s
+abbrev pub after : Table → ℕ → State → State
+after t n s = stateAfter (candidates (gaugeSide t .rows)) (handOut (gaugeSide t)) (replicate n mostBudget) s
 
+-- the files of what they hand out
+abbrev pub text : Table → ℕ → State → List ℕ
+text t n s = files t (handouts (calls t n s))
+
+-- one of them answered end
 abbrev pub isEnd : Reply → Bool
 isEnd (refused n) = false
 isEnd spent = false
@@ -68,15 +79,21 @@ pub record Untouched (n : ℕ) (before : List ℕ) (f : Filling) (now : List ℕ
   pub says : f ≡ record { refusal = n; value = blankValue; used = 0; over = false }
   pub buffer : now ≡ before
 
--- calls of the gauge run on t from the state s on: the buffer's front is the files of what they handed out, in turn, and behind it is what was
--- there; the value is that after them; over says whether one of them answered end
+-- no call follows the first n: one of them answered end, or behind their files the longest file has no room
+abbrev pub Stops : Table → State → ℕ → ℕ → Type 0
+Stops t s room n = (hasEnd (calls t n s) ≡ true) ⊎ (room < length (text t n s) + longest)
+
+-- the block from the state s on: calls are made until they stop, no sooner and no later. The buffer's front is the files of what they handed out,
+-- in turn, and behind it is what was there; the value is that after the calls; over says whether one of them answered end.
 pub record Fills (t : Table) (s : State) (before : List ℕ) (f : Filling) (now : List ℕ) : Type 0 where
   pub accepted : f .refusal ≡ 0
-  pub budgets : List ℕ
-  pub used : f .used ≡ length (files t (handouts (made t budgets s)))
-  pub bytes : now ≡ files t (handouts (made t budgets s)) ++ drop (f .used) before
-  pub value : f .value ≡ paused t (after t budgets s)
-  pub over : f .over ≡ hasEnd (made t budgets s)
+  pub count : ℕ
+  pub stops : Stops t s (length before) count
+  pub sooner : (k : ℕ) → k < count → ¬ Stops t s (length before) k
+  pub used : f .used ≡ length (text t count s)
+  pub bytes : now ≡ text t count s ++ drop (f .used) before
+  pub value : f .value ≡ paused t (after t count s)
+  pub over : f .over ≡ hasEnd (calls t count s)
 
 -- f is the answer for the value v and the buffer before, and now is the buffer after: 10, 11 and 15 as a run call has them, then 16 for a
 -- buffer shorter than the longest file
@@ -85,8 +102,6 @@ pub record Filled (v : Value) (before : List ℕ) (f : Filling) (now : List ℕ)
   pub value : tableRefusal (v .table) ≡ 0 → ((s : State) → PausedAt gaugeSide v s → ⊥) → Untouched 15 before f now
   pub short : tableRefusal (v .table) ≡ 0 → (s : State) → PausedAt gaugeSide v s → length before < longest → Untouched 16 before f now
   pub fills : tableRefusal (v .table) ≡ 0 → (s : State) → PausedAt gaugeSide v s → longest ≤ length before → Fills (v .table) s before f now
-  -- a block that is not over has no room for another file that is the longest
-  pub full : tableRefusal (v .table) ≡ 0 → (s : State) → PausedAt gaugeSide v s → longest ≤ length before → f .over ≡ false → length before < f .used + longest
 
 -- ---- blocks one after another
 -- one call of fill: the buffers, any, before and after it, and its answer
@@ -125,5 +140,5 @@ pub record Listed (t : Table) (is : List Item) : Type 0 where
 -- every list of blocks from a fresh start that leaves v, with this block added
 abbrev pub CarriesList : Value → Item → Type 0
 CarriesList v i =
-    tableRefusal (v .table) ≡ 0 → i .answer .refusal ≡ 0 → (is : List Item) → Blocks (paused (v .table) fresh) is → leaves (paused (v .table) fresh) is ≡ v
-    → Listed (v .table) (is ++ (i ∷ []))
+    tableRefusal (v .table) ≡ 0 → i .answer .refusal ≡ 0
+    → (is : List Item) → Blocks (paused (v .table) fresh) is → leaves (paused (v .table) fresh) is ≡ v → Listed (v .table) (is ++ (i ∷ []))

@@ -18,7 +18,7 @@ ghost use lib.ListN.{length};
 ghost use Rattle.refusals.specs.Answers.{verdict, number};
 ghost use Rattle.runs.specs.Paused.{gaugeValue, blankValue};
 ghost use Rattle.blocks.specs.Filling.{Filled, filling, CarriesList};
-ghost use Rattle.blocks.specs.private.Turning.{Checked, FillsOn, FullOn, Put, Turned};
+ghost use Rattle.blocks.specs.private.Turning.{Checked, FillsOn, Put, Turned};
 
 // The moves asked of one call: the greatest budget.
 const BUDGET: u64 = 1_000_000;
@@ -60,7 +60,6 @@ pub fn fill(run: GaugeRun, out: &mut [u8]) -> Block
 // The files of a value that passes its check, in a buffer that has room for one.
 fn fill_on(start: GaugeRun, out: &mut [u8]) -> Block
     ensures { λ r. ⌜ FillsOn (gaugeValue start) (now (out .entry)) (filling r) (now (out .exit)) ⌝ }
-    ensures full { λ r. ⌜ FullOn (gaugeValue start) (now (out .entry)) (r .used) (r .over) ⌝ }
 {
     let most = out.len();
     let mut run = start;

@@ -168,7 +168,7 @@ paid-one spent k c d d′ l h = omega arith
 paid-one (handed x) k c d d′ l h = omega arith
 paid-one end k c d d′ l h = omega arith
 
-answered-append : (a : Reply) (l m : List (List ℕ)) → answered a l ++ m ≡ answered a (l ++ m)
+pub answered-append : (a : Reply) (l m : List (List ℕ)) → answered a l ++ m ≡ answered a (l ++ m)
 answered-append (refused j) l m = refl
 answered-append spent l m = refl
 answered-append (handed x) l m = refl

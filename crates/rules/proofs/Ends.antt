@@ -25,7 +25,7 @@ module _ (kids : List ℕ → List ℕ) (out : List ℕ → List ℕ) (n : ℕ) 
       let p : Paid spent (call kids out b s .moves) (cost n (call kids out b s .next .picks) (call kids out b s .next .phase)) (cost n (s .picks) (s .phase)) = rw e at (call-law kids out n t b s h .paid) in
       omega (arith, l .low, call-spent kids out b s (l .high) .only e .0, cost-lap kids n t (s .picks) (s .phase) h, cost-pos n (call kids out b s .next .picks) (call kids out b s .next .phase))
 
-  end-from : (bs : List ℕ) (s : State) → Fits kids (s .picks) (s .phase) → All (Enough n) bs → length (ahead kids out n s) < length bs → (c : Call) × List·Memᴰ c (callsFrom kids out bs s) × (c .answer ≡ end)
+  pub end-from : (bs : List ℕ) (s : State) → Fits kids (s .picks) (s .phase) → All (Enough n) bs → length (ahead kids out n s) < length bs → (c : Call) × List·Memᴰ c (callsFrom kids out bs s) × (c .answer ≡ end)
   end-from [] s h a l = absurd (omega arith)
   end-from (b ∷ bs) s h a l = go (end-from bs (call kids out b s .next) (call-law kids out n t b s h .fits) a.1) (call kids out b s .answer) refl
     where

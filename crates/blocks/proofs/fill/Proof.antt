@@ -66,7 +66,7 @@ returns-3 c =
     let f = c .before .before in
     let k = f .before .before .before in
     let s = k .before .before .before .before in
-    carried s _ _ (filled-on (gaugeValue (s .args .run)) (s .args .out .now) _ _ (passed k) (f .before .before .if1 .left) (f .fill-on .ensures .0) (f .fill-on .ensures .1))
+    carried s _ _ (filled-on (gaugeValue (s .args .run)) (s .args .out .now) _ _ (passed k) (f .before .before .if1 .left) (f .fill-on .ensures))
 
 pub fill-spec : {M : Type 1} → statement M
 fill-spec =

@@ -1,6 +1,7 @@
--- `blocks::fill_on` meets its contract: after each turn the buffer is what `Fills` says of the calls made so far.
+-- `blocks::fill_on` meets its contract: after each turn the buffer is what `UpTo` says of the calls made so far, and each return is where no
+-- call follows (Fillings.antt).
 use mathlib.Core.Path.{_≡_, refl, sym, ap, _∙_, subst}
-use mathlib.Core.Bool.{Bool, true, false}
+use mathlib.Core.Bool.{Bool, false}
 use Prim.Native.Nat.{ℕ, _+_, _≤_, _<_}
 use native.Mathlib.Omega.{arith}
 use lib.ListN.{length}
@@ -8,22 +9,38 @@ use borrow.Author.Needs.{needs}
 use Rattle.table.specs.Tables.{tableRefusal}
 use Rattle.rules.specs.Machine.{State}
 use Rattle.lists.specs.Lists.{gaugeSide}
-use Rattle.runs.specs.Paused.{gaugeValue}
+use Rattle.runs.specs.Paused.{Value, gaugeValue}
 use Rattle.runs.specs.Calling.{PausedAt}
 use Rattle.blocks.specs.Filling.{Filling, filling, longest}
-use Rattle.blocks.specs.private.Turning.{FillsOn, FullOn}
-use Rattle.blocks.proofs.Fillings.{going, fills-start, fills-on, some-on}
+use Rattle.blocks.specs.private.Turning.{FillsOn}
+use Rattle.blocks.proofs.Fillings.{going, UpToOn, upto-start, turn-on, some-on, full-on, over-on}
 use Rattle.blocks.proofs.fill_on.Statement.{statement}
 use Rattle.blocks.proofs.fill_on.Tie as tie
 
+-- enough turns are left for the room, where the value is not refused
+abbrev Lasts : Value → ℕ → ℕ → ℕ → ℕ → Type 0
+Lasts v room most used turns = tableRefusal (v .table) ≡ 0 → (s : State) → PausedAt gaugeSide v s → longest ≤ room → most ≤ used + turns
+
 abbrev Inv-loop : tie.InvT-loop
-Inv-loop out₀ most run₀ used₀ turns₀ out run used turns = (most ≡ length out₀) × (used ≤ length out) × (length out ≡ length out₀) × FillsOn (gaugeValue run₀) out₀ (going (gaugeValue run) used false) out × (tableRefusal (run₀ .table) ≡ 0 → (s : State) → PausedAt gaugeSide (gaugeValue run₀) s → longest ≤ length out₀ → most ≤ used + turns)
+Inv-loop out₀ most run₀ used₀ turns₀ out run used turns =
+    (most ≡ length out₀) × (used ≤ length out) × (length out ≡ length out₀) × UpToOn (gaugeValue run₀) out₀ (going (gaugeValue run) used false) out
+    × Lasts (gaugeValue run₀) (length out₀) most used turns
 
 abbrev μ-loop : tie.MeasureT-loop
 μ-loop out₀ most run₀ used₀ turns₀ out run used turns = turns
 
+-- ---- places on the way: the loop and the start, from the turn
+abbrev round : tie.After-slice-known2 Inv-loop μ-loop → tie.At-loop Inv-loop μ-loop
+round k = k .before .before .before .before .before .before
+
+abbrev start : tie.After-slice-known2 Inv-loop μ-loop → tie.Start Inv-loop μ-loop
+start k = round k .before .before
+
+abbrev one : tie.After-slice-known2 Inv-loop μ-loop → tie.After-list-one Inv-loop μ-loop
+one k = k .before .before
+
 loop-holds : tie.Need-loop-holds Inv-loop μ-loop
-loop-holds c = (refl, omega arith, refl, fills-start _ _, λ ok s p l. omega arith)
+loop-holds c = (refl, omega arith, refl, upto-start _ _, λ ok s p l. omega arith)
 
 sub-if1 : tie.Need-sub-if1 Inv-loop μ-loop
 sub-if1 c = omega arith
@@ -38,61 +55,51 @@ returns : tie.Need-returns Inv-loop μ-loop
 returns c =
     let l = c .before .before .before in
     let s = l .before .before in
-    subst (λ (f : Filling). FillsOn (gaugeValue (s .args .start)) (s .args .out .now) f (l .loop .out) × FullOn (gaugeValue (s .args .start)) (s .args .out .now) (f .used) (f .over)) (sym (c .accept .ensures))
-    (l .loop .inv .3, λ ok x p room e. omega (arith, room, l .loop .inv .0, c .before .if1 .taken))
+    subst (λ (f : Filling). FillsOn (gaugeValue (s .args .start)) (s .args .out .now) f (l .loop .out)) (sym (c .accept .ensures))
+    (full-on (gaugeValue (s .args .start)) (s .args .out .now) _ (l .loop .out) refl (l .loop .inv .3)
+    (λ ok x p far. omega (arith, far, l .loop .inv .0, c .before .if1 .taken)))
 
 list-one-requires : tie.Need-list-one-requires Inv-loop μ-loop
 list-one-requires c κs = omega arith
 
--- the block after the turn
-room : (c : tie.After-list-one Inv-loop μ-loop) → c .before .before .before .before .loop .used + longest ≤ length (c .before .before .before .before .loop .out)
-room c =
-    let e = c .before .before in
-    let l = e .before .before in
-    omega (arith, e .if1 .left, l .loop .inv .0, l .loop .inv .1, l .loop .inv .2)
+-- ---- the block after the turn
+room : (k : tie.After-slice-known2 Inv-loop μ-loop) → round k .loop .used + longest ≤ length (start k .args .out .now)
+room k = omega (arith, one k .before .before .if1 .left, round k .loop .inv .0, round k .loop .inv .1, round k .loop .inv .2)
 
-turned : (c : tie.After-slice-known2 Inv-loop μ-loop) →
-    FillsOn (gaugeValue (c .before .before .before .before .before .before .before .before .args .start)) (c .before .before .before .before .before .before .before .before .args .out .now)
-    (going (gaugeValue (c .before .before .list-one .result .run)) (c .before .before .list-one .result .next) (c .before .before .list-one .result .over)) (c .before .before .list-one .last .1 .0)
-turned c =
-    let k = c .before .before in
-    let l = k .before .before .before .before in
-    let s = l .before .before in
-    fills-on (gaugeValue (s .args .start)) (gaugeValue (l .loop .run)) _ (l .loop .used) _ _ (s .args .out .now) (l .loop .out) _ (l .loop .inv .3) (k .list-one .ensures) (room k)
+turned : (k : tie.After-slice-known2 Inv-loop μ-loop)
+    → UpToOn (gaugeValue (start k .args .start)) (start k .args .out .now)
+    (going (gaugeValue (one k .list-one .result .run)) (one k .list-one .result .next) (one k .list-one .result .over)) (one k .list-one .last .1 .0)
+turned k =
+    turn-on (gaugeValue (start k .args .start)) (start k .args .out .now) (gaugeValue (round k .loop .run)) (round k .loop .used) (round k .loop .out)
+    (round k .loop .inv .3) _ _ _ _ (one k .list-one .ensures) (round k .loop .inv .2) (room k)
 
 rows-length : (c : tie.Start Inv-loop μ-loop) → length (c .args .start .table .rows) ≡ 64
 rows-length c = search needs
 
-some : (c : tie.After-slice-known2 Inv-loop μ-loop) → tableRefusal (c .before .before .before .before .before .before .before .before .args .start .table) ≡ 0
-    → (x : State) → PausedAt gaugeSide (gaugeValue (c .before .before .before .before .before .before .before .before .args .start)) x
-    → longest ≤ length (c .before .before .before .before .before .before .before .before .args .out .now) → c .before .before .list-one .result .over ≡ false
-    → c .before .before .before .before .before .before .loop .used < c .before .before .list-one .result .next
-some c =
-    let k = c .before .before in
-    let l = k .before .before .before .before in
-    let s = l .before .before in
-    some-on (gaugeValue (s .args .start)) (gaugeValue (l .loop .run)) _ (l .loop .used) _ _ (s .args .out .now) (l .loop .out) _ (rows-length s) (l .loop .inv .3) (k .list-one .ensures) (room k)
+some : (k : tie.After-slice-known2 Inv-loop μ-loop) → tableRefusal (start k .args .start .table) ≡ 0
+    → (x : State) → PausedAt gaugeSide (gaugeValue (start k .args .start)) x → longest ≤ length (start k .args .out .now)
+    → one k .list-one .result .over ≡ false → round k .loop .used < one k .list-one .result .next
+some k =
+    some-on (gaugeValue (start k .args .start)) (start k .args .out .now) (gaugeValue (round k .loop .run)) (round k .loop .used) (round k .loop .out)
+    (round k .loop .inv .3) _ _ _ _ (one k .list-one .ensures) (round k .loop .inv .2) (room k) (rows-length (start k))
 
 -- the call left the buffer's length
-long : (c : tie.After-slice-known2 Inv-loop μ-loop) → length (c .before .before .list-one .last .1 .0) ≡ length (c .before .before .before .before .before .before .loop .out)
-long c = c .before .before .list-one .kept .1 .0
-
-no-more : {b : Bool} {A : Type 0} → b ≡ true → b ≡ false → A
-no-more p q = let z : _≡_ {A = ℕ} 0 1 = cc in absurd (omega arith)
+long : (k : tie.After-slice-known2 Inv-loop μ-loop) → length (one k .list-one .last .1 .0) ≡ length (round k .loop .out)
+long k = one k .list-one .kept .1 .0
 
 accept-requires-2 : tie.Need-accept-requires-2 Inv-loop μ-loop
 accept-requires-2 c κs = search needs
 
 same-length-2 : tie.Need-same-length-2 Inv-loop μ-loop
-same-length-2 c = long (c .before .before .before) ∙ c .before .before .before .before .before .before .before .before .before .loop .inv .2
+same-length-2 c = let k = c .before .before .before in long k ∙ round k .loop .inv .2
 
 returns-2 : tie.Need-returns-2 Inv-loop μ-loop
 returns-2 c =
     let k = c .before .before .before in
-    let s = k .before .before .before .before .before .before .before .before in
-    let r = k .before .before .list-one .result in
-    subst (λ (f : Filling). FillsOn (gaugeValue (s .args .start)) (s .args .out .now) f (k .before .before .list-one .last .1 .0) × FullOn (gaugeValue (s .args .start)) (s .args .out .now) (f .used) (f .over))
-    (ap (going (gaugeValue (r .run)) (r .next)) (c .before .if2 .taken) ∙ sym (c .accept2 .ensures)) (turned k, λ ok x p far e. no-more (c .before .if2 .taken) e)
+    let r = one k .list-one .result in
+    subst (λ (f : Filling). FillsOn (gaugeValue (start k .args .start)) (start k .args .out .now) f (one k .list-one .last .1 .0))
+    (ap (going (gaugeValue (r .run)) (r .next)) (c .before .if2 .taken) ∙ sym (c .accept2 .ensures))
+    (over-on (gaugeValue (start k .args .start)) (start k .args .out .now) _ _ refl (turned k) (c .before .if2 .taken))
 
 sub-turns : tie.Need-sub-turns Inv-loop μ-loop
 sub-turns c = omega arith
@@ -103,14 +110,14 @@ loop-less c = omega arith
 loop-again : tie.Need-loop-again Inv-loop μ-loop
 loop-again c =
     let k = c .before .before in
-    let l = k .before .before .before .before .before .before in
-    let s = l .before .before in
-    let r = k .before .before .list-one .result in (
+    let l = round k .loop in
+    let r = one k .list-one .result in (
       refl,
-      omega (arith, long k, k .before .before .list-one .ensures .inside),
-      long k ∙ l .loop .inv .2,
-      subst (λ (f : Filling). FillsOn (gaugeValue (s .args .start)) (s .args .out .now) f (k .before .before .list-one .last .1 .0)) (ap (going (gaugeValue (r .run)) (r .next)) (c .if2 .left)) (turned k),
-      λ ok x p far. omega (arith, l .loop .inv .4 ok x p far, some k ok x p far (c .if2 .left), k .before .before .before .before .before .loop-test .taken),
+      omega (arith, long k, one k .list-one .ensures .inside),
+      long k ∙ l .inv .2,
+      subst (λ (f : Filling). UpToOn (gaugeValue (start k .args .start)) (start k .args .out .now) f (one k .list-one .last .1 .0))
+          (ap (going (gaugeValue (r .run)) (r .next)) (c .if2 .left)) (turned k),
+      λ ok x p far. omega (arith, l .inv .4 ok x p far, some k ok x p far (c .if2 .left), one k .before .before .before .loop-test .taken),
     )
 
 accept-requires-3 : tie.Need-accept-requires-3 Inv-loop μ-loop
@@ -123,8 +130,9 @@ returns-3 : tie.Need-returns-3 Inv-loop μ-loop
 returns-3 c =
     let l = c .before .before in
     let s = l .before .before in
-    subst (λ (f : Filling). FillsOn (gaugeValue (s .args .start)) (s .args .out .now) f (l .loop .out) × FullOn (gaugeValue (s .args .start)) (s .args .out .now) (f .used) (f .over)) (sym (c .accept3 .ensures))
-    (l .loop .inv .3, λ ok x p room e. omega (arith, room, l .loop .inv .4 ok x p room, l .loop .inv .0, c .before .loop-test .left))
+    subst (λ (f : Filling). FillsOn (gaugeValue (s .args .start)) (s .args .out .now) f (l .loop .out)) (sym (c .accept3 .ensures))
+    (full-on (gaugeValue (s .args .start)) (s .args .out .now) _ (l .loop .out) refl (l .loop .inv .3)
+    (λ ok x p far. omega (arith, l .loop .inv .4 ok x p far, l .loop .inv .0, c .before .loop-test .left)))
 
 pub fill-on-spec : {M : Type 1} → statement M
 fill-on-spec =

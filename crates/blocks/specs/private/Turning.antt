@@ -47,7 +47,3 @@ pub record Turned (v : Value) (before : List ℕ) (at : ℕ) (w : Value) (next :
 -- the turns of a block, where the value is legal and the buffer is long enough
 abbrev pub FillsOn : Value → List ℕ → Filling → List ℕ → Type 0
 FillsOn v before f now = tableRefusal (v .table) ≡ 0 → (s : State) → PausedAt gaugeSide v s → longest ≤ length before → Fills (v .table) s before f now
-
--- and it is full unless it is over
-abbrev pub FullOn : Value → List ℕ → ℕ → Bool → Type 0
-FullOn v before used over = tableRefusal (v .table) ≡ 0 → (s : State) → PausedAt gaugeSide v s → longest ≤ length before → over ≡ false → length before < used + longest

@@ -1,0 +1,294 @@
+-- `Filled` can be met for every value and every buffer (`filled-exists`), and leaves one answer and one buffer (`filled-unique`); no two answers
+-- of the code read alike (`filling-injective`); and the longest file is attained (`longest-attained`).
+--
+-- In order: whether a value is the paused value of a reached state is decided (`paused-decided`); the calls of a block are so many and no other
+-- number (`fills-unique`), and there is such a number (`fills-exist`): the least at which they stop.
+use mathlib.Core.Path.{_≡_, refl, sym, ap, ap₂, _∙_, subst}
+use mathlib.Core.Logic.{_⊎_, inl, inr}
+use mathlib.Core.Bool.{Bool, true, false, Bool-discrete}
+use mathlib.Core.List.{List, [], _∷_, _++_, map, List-discrete, List·Memᴰ, List·Memᴰ·head, List·Memᴰ·tail, List·Memᴰ·cases-cons, List·Memᴰ·not-nil}
+use Prim.Native.Nat.{ℕ, zero, suc, _+_, _-_, _≤_, _<_}
+use native.Mathlib.Nat.{add-zero}
+use native.Mathlib.Decide.{ℕ-discrete, decLt}
+use native.Mathlib.Omega.{arith}
+use lib.ListN.{length, take, drop, length-map}
+use lib.Seq.{take-at}
+use Rattle.table.specs.declared.Table.{Table}
+use Rattle.refusals.specs.declared.Verdict.{Verdict}
+use Rattle.table.specs.Tables.{Legal, tableRefusal, tableRows, padded}
+use Rattle.refusals.proofs.Answering.{verdict-injective}
+use Rattle.table.proofs.Legality.{legal-of}
+use Rattle.rules.specs.Machine.{Phase, Down, Handed, Back, Ended, State, at}
+use Rattle.rules.specs.private.Fitting.{ValidFrom, Fits}
+use Rattle.lists.specs.Lists.{gaugeSide}
+use Rattle.lists.specs.Picks.{candidates}
+use Rattle.lists.specs.OnTable.{ReachedOn}
+use Rattle.lists.proofs.CandidateTree.{reached-fits}
+use Rattle.runs.specs.Paused.{Value, numbered, paused}
+use Rattle.runs.specs.Calling.{PausedAt}
+use Rattle.runs.specs.declared.GaugeRun.{GaugeRun}
+use Rattle.runs.proofs.Readings.{gauge-value-injective}
+use Rattle.runs.proofs.Answered.{paused-state}
+use Rattle.writer.specs.Writing.{writeFile}
+use Rattle.writer.proofs.Sizes.{fullTable, full-length}
+use Rattle.blocks.specs.declared.Block.{Block}
+use Rattle.blocks.specs.Filling.{longest, Filling, filling, calls, after, text, hasEnd, Untouched, Stops, Fills, Filled}
+use Rattle.blocks.proofs.Calls.{calls-end-at}
+use Rattle.blocks.proofs.Fillings.{refusing}
+
+-- ---- the state of a value
+suc-sub : (x : ℕ) → suc x - 1 ≡ x
+suc-sub x = omega arith
+
+-- the place of a number
+place : Phase → Phase
+place Down = Down
+place Handed = Handed
+place (Back k) = Back (k - 1)
+place Ended = Ended
+
+place-numbered : (f : Phase) → place (numbered f) ≡ f
+unfolding place
+place-numbered Down = refl
+place-numbered Handed = refl
+place-numbered (Back i) = ap Back (suc-sub i)
+place-numbered Ended = refl
+
+-- the state that a value can be the paused value of
+stateOf : Value → State
+stateOf v = at (map (λ k. k - 1) (take (v .count) (v .picks))) (place (v .phase))
+
+places : (p : List ℕ) → map (λ k. k - 1) (map suc p) ≡ p
+places [] = refl
+places (x ∷ p) = ap₂ (λ (y : ℕ) (q : List ℕ). y ∷ q) (suc-sub x) (places p)
+
+state-paused : (t : Table) (s : State) → stateOf (paused t s) ≡ s
+unfolding stateOf
+state-paused t s =
+    ap₂ at (ap (map (λ k. k - 1)) (take-at (map suc (s .picks)) _ (length (s .picks)) (length-map (s .picks) suc)) ∙ places (s .picks))
+    (place-numbered (s .phase))
+
+-- ---- whether a value is the paused value of a reached state
+-- two facts, each decided
+both : {A B : Type 0} → Dec A → Dec B → Dec (A × B)
+both (yes a) (yes b) = yes (a, b)
+both (yes a) (no b) = no (λ h. b (h .1))
+both (no a) d = no (λ h. a (h .0))
+
+isMember : (x : ℕ) (l : List ℕ) → Dec (List·Memᴰ x l)
+isMember x [] = no (λ m. List·Memᴰ·not-nil m)
+isMember x (y ∷ l) = go (ℕ-discrete x y) (isMember x l)
+  where
+    neither : ¬ (x ≡ y) → ¬ List·Memᴰ x l → (x ≡ y) ⊎ List·Memᴰ x l → ⊥
+    neither e n (inl h) = e h
+    neither e n (inr h) = n h
+
+    go : Dec (x ≡ y) → Dec (List·Memᴰ x l) → Dec (List·Memᴰ x (y ∷ l))
+    go (yes e) d = yes (List·Memᴰ·head e)
+    go (no e) (yes m) = yes (List·Memᴰ·tail m)
+    go (no e) (no n) = no (λ m. neither e n (List·Memᴰ·cases-cons m))
+
+module _ (kids : List ℕ → List ℕ) where
+  isValid : (q p : List ℕ) → Dec (ValidFrom kids q p)
+  isValid q [] = yes tt
+  isValid q (x ∷ p) = both (isMember x (kids q)) (isValid (q ++ (x ∷ [])) p)
+
+  fits : (p : List ℕ) (f : Phase) → Dec (Fits kids p f)
+  fits p Down = isValid [] p
+  fits p Handed = both (isValid [] p) (List-discrete ℕ-discrete (kids p) [])
+  fits p (Back g) = both (isValid [] p) (isMember g (kids p))
+  fits p Ended = List-discrete ℕ-discrete p []
+
+-- a phase that has a number has one from 1 on
+sound : (f : Phase) → Dec (f ≡ numbered (place f))
+unfolding place
+sound Down = yes refl
+sound Handed = yes refl
+sound (Back k) = go (ℕ-discrete k (suc (k - 1)))
+  where
+    go : Dec (k ≡ suc (k - 1)) → Dec (Back k ≡ Back (suc (k - 1)))
+    go (yes e) = yes (ap Back e)
+    go (no n) = no (λ e. n cc)
+sound Ended = yes refl
+
+pub paused-decided : (v : Value) → ((s : State) × PausedAt gaugeSide v s) ⊎ ((s : State) → PausedAt gaugeSide v s → ⊥)
+unfolding stateOf
+paused-decided v =
+    go (both (both (List-discrete ℕ-discrete (v .picks) (w .picks)) (ℕ-discrete (v .count) (w .count))) (sound (v .phase)))
+    (fits (candidates (tableRows (v .table))) (stateOf v .picks) (stateOf v .phase))
+  where
+    w : Value
+    w = paused (v .table) (stateOf v)
+
+    Same : Type 0
+    Same = ((v .picks ≡ w .picks) × (v .count ≡ w .count)) × (v .phase ≡ w .phase)
+
+    same : (p q : List ℕ) (n m : ℕ) (f g : Phase) → p ≡ q → n ≡ m → f ≡ g
+        → _≡_ {A = Value} (record { table = v .table; picks = p; count = n; phase = f }) (record { table = v .table; picks = q; count = m; phase = g })
+    same p q n m f g a b c = rw (a, b, c)
+
+    its : (s : State) → PausedAt gaugeSide v s → stateOf v ≡ s
+    its s p = ap stateOf (p .stands) ∙ state-paused (v .table) s
+
+    go : Dec Same → Dec (Fits (candidates (tableRows (v .table))) (stateOf v .picks) (stateOf v .phase))
+        → ((s : State) × PausedAt gaugeSide v s) ⊎ ((s : State) → PausedAt gaugeSide v s → ⊥)
+    go (yes e) (yes f) =
+        inl (
+          stateOf v,
+          record {
+            reached = reached-fits (gaugeSide (v .table)) (stateOf v) .1 f;
+            stands = same (v .picks) (w .picks) (v .count) (w .count) (v .phase) (w .phase) (e .0 .0) (e .0 .1) (e .1);
+          },
+        )
+    go (no e) f =
+        inr (λ s p.
+        let d : v ≡ w = p .stands ∙ ap (paused (v .table)) (sym (its s p)) in
+        e ((ap (λ (x : Value). x .picks) d, ap (λ (x : Value). x .count) d), ap (λ (x : Value). x .phase) d))
+    go (yes e) (no f) =
+        inr (λ s p. f (reached-fits (gaugeSide (v .table)) (stateOf v) .0 (subst (ReachedOn (gaugeSide (v .table))) (sym (its s p)) (p .reached))))
+
+-- ---- the calls of a block
+module _ (t : Table) (s : State) (before : List ℕ) where
+  filling-same : (f g : Filling) → f .refusal ≡ g .refusal → f .value ≡ g .value → f .used ≡ g .used → f .over ≡ g .over → f ≡ g
+  filling-same f g a b c d = go (f .refusal) (g .refusal) (f .value) (g .value) (f .used) (g .used) (f .over) (g .over) a b c d
+    where
+      go : (n m : ℕ) (v w : Value) (i j : ℕ) (o p : Bool) → n ≡ m → v ≡ w → i ≡ j → o ≡ p
+          → _≡_ {A = Filling} (record { refusal = n; value = v; used = i; over = o }) (record { refusal = m; value = w; used = j; over = p })
+      go n m v w i j o p a b c d = rw (a, b, c, d)
+
+  pub fills-unique : (f g : Filling) (x y : List ℕ) → Fills t s before f x → Fills t s before g y → (f ≡ g) × (x ≡ y)
+  fills-unique f g x y a b = (
+    filling-same f g (a .accepted ∙ sym (b .accepted)) (a .value ∙ ap (λ (n : ℕ). paused t (after t n s)) same ∙ sym (b .value)) used
+        (a .over ∙ ap (λ (n : ℕ). hasEnd (calls t n s)) same ∙ sym (b .over)),
+    a .bytes ∙ ap₂ (λ (n k : ℕ). text t n s ++ drop k before) same used ∙ sym (b .bytes),
+  )
+    where
+      go : Dec (a .count < b .count) → Dec (b .count < a .count) → a .count ≡ b .count
+      go (yes l) d = absurd (b .sooner (a .count) l (a .stops))
+      go (no l) (yes m) = absurd (a .sooner (b .count) m (b .stops))
+      go (no l) (no m) = omega arith
+
+      same : a .count ≡ b .count
+      same = go (decLt (a .count) (b .count)) (decLt (b .count) (a .count))
+
+      used : f .used ≡ g .used
+      used = a .used ∙ ap (λ (n : ℕ). length (text t n s)) same ∙ sym (b .used)
+
+  isStop : (n : ℕ) → Dec (Stops t s (length before) n)
+  isStop n = go (Bool-discrete (hasEnd (calls t n s)) true) (decLt (length before) (length (text t n s) + longest))
+    where
+      neither : ¬ (hasEnd (calls t n s) ≡ true) → ¬ (length before < length (text t n s) + longest) → ¬ Stops t s (length before) n
+      neither e l (inl h) = e h
+      neither e l (inr h) = l h
+
+      go : Dec (hasEnd (calls t n s) ≡ true) → Dec (length before < length (text t n s) + longest) → Dec (Stops t s (length before) n)
+      go (yes e) d = yes (inl e)
+      go (no e) (yes l) = yes (inr l)
+      go (no e) (no l) = no (neither e l)
+
+  -- the least number from k on at which they stop
+  least : (fuel k : ℕ) → ((j : ℕ) → j < k → ¬ Stops t s (length before) j) → Stops t s (length before) (k + fuel)
+      → (n : ℕ) × Stops t s (length before) n × ((j : ℕ) → j < n → ¬ Stops t s (length before) j)
+  least zero k low h = (k, subst (Stops t s (length before)) (add-zero k) h, low)
+  least (suc fuel) k low h = go (isStop k) (least fuel (suc k))
+    where
+      lower : ¬ Stops t s (length before) k → (j : ℕ) → j < suc k → Dec (j ≡ k) → ¬ Stops t s (length before) j
+      lower n j l (yes e) = subst (λ (i : ℕ). ¬ Stops t s (length before) i) (sym e) n
+      lower n j l (no e) = low j (omega arith)
+
+      go : Dec (Stops t s (length before) k)
+          → (((j : ℕ) → j < suc k → ¬ Stops t s (length before) j) → Stops t s (length before) (suc k + fuel)
+          → (n : ℕ) × Stops t s (length before) n × ((j : ℕ) → j < n → ¬ Stops t s (length before) j))
+          → (n : ℕ) × Stops t s (length before) n × ((j : ℕ) → j < n → ¬ Stops t s (length before) j)
+      go (yes z) more = (k, z, low)
+      go (no z) more = more (λ j l. lower z j l (ℕ-discrete j k)) (let e : k + suc fuel ≡ suc k + fuel = omega arith in subst (Stops t s (length before)) e h)
+
+  pub fills-exist : Legal t → ReachedOn (gaugeSide t) s → (f : Filling) × (now : List ℕ) × Fills t s before f now
+  fills-exist l h =
+      let e = calls-end-at t l s h in
+      let at : e .0 ≡ 0 + e .0 = omega arith in
+      let (n, z, low) = least (e .0) 0 (λ j k. absurd (omega arith)) (inl (subst (λ (k : ℕ). hasEnd (calls t k s) ≡ true) at (e .1))) in
+      let f : Filling = record { refusal = 0; value = paused t (after t n s); used = length (text t n s); over = hasEnd (calls t n s) } in (
+        f,
+        text t n s ++ drop (f .used) before,
+        record { accepted = refl; count = n; stops = z; sooner = low; used = refl; bytes = refl; value = refl; over = refl },
+      )
+
+-- ---- one answer, for every value and every buffer
+untouched-unique : (n : ℕ) (before : List ℕ) (f g : Filling) (x y : List ℕ) → Untouched n before f x → Untouched n before g y → (f ≡ g) × (x ≡ y)
+untouched-unique n before f g x y a b = (a .says ∙ sym (b .says), a .buffer ∙ sym (b .buffer))
+
+pub filled-unique : (v : Value) (before : List ℕ) (f g : Filling) (x y : List ℕ) → Filled v before f x → Filled v before g y → (f ≡ g) × (x ≡ y)
+filled-unique v before f g x y a b = go (ℕ-discrete (tableRefusal (v .table)) 0) (paused-decided v) (decLt (length before) longest)
+  where
+    go : Dec (tableRefusal (v .table) ≡ 0) → ((s : State) × PausedAt gaugeSide v s) ⊎ ((s : State) → PausedAt gaugeSide v s → ⊥)
+        → Dec (length before < longest) → (f ≡ g) × (x ≡ y)
+    go (no z) p l = untouched-unique _ before f g x y (a .table (omega (arith, z))) (b .table (omega (arith, z)))
+    go (yes z) (inr n) l = untouched-unique 15 before f g x y (a .value z n) (b .value z n)
+    go (yes z) (inl (s, p)) (yes l) = untouched-unique 16 before f g x y (a .short z s p l) (b .short z s p l)
+    go (yes z) (inl (s, p)) (no l) = fills-unique (v .table) s before f g x y (a .fills z s p (omega arith)) (b .fills z s p (omega arith))
+
+pub filled-exists : (v : Value) → length (v .table .rows) ≡ 64 → (before : List ℕ) → (f : Filling) × (now : List ℕ) × Filled v before f now
+filled-exists v rows before = go (ℕ-discrete (tableRefusal (v .table)) 0) (paused-decided v) (decLt (length before) longest)
+  where
+    untouched : (n : ℕ) → Untouched n before (refusing n) before
+    untouched n = record { says = refl; buffer = refl }
+
+    go : Dec (tableRefusal (v .table) ≡ 0) → ((s : State) × PausedAt gaugeSide v s) ⊎ ((s : State) → PausedAt gaugeSide v s → ⊥)
+        → Dec (length before < longest) → (f : Filling) × (now : List ℕ) × Filled v before f now
+    go (no z) p l = (
+      refusing (tableRefusal (v .table)),
+      before,
+      record {
+        table = λ h. untouched (tableRefusal (v .table));
+        value = λ e. absurd (z e);
+        short = λ e. absurd (z e);
+        fills = λ e. absurd (z e);
+      },
+    )
+    go (yes z) (inr n) l = (
+      refusing 15,
+      before,
+      record {
+        table = λ h. absurd (omega arith);
+        value = λ e h. untouched 15;
+        short = λ e s p. absurd (n s p);
+        fills = λ e s p. absurd (n s p);
+      },
+    )
+    go (yes z) (inl (s, p)) (yes l) = (
+      refusing 16,
+      before,
+      record {
+        table = λ h. absurd (omega arith);
+        value = λ e h. absurd (h s p);
+        short = λ e x q h. untouched 16;
+        fills = λ e x q h. absurd (omega arith);
+      },
+    )
+    go (yes z) (inl (s, p)) (no l) =
+        let (f, now, h) = fills-exist (v .table) s before (legal-of (v .table) rows z) (p .reached) in (
+          f,
+          now,
+          record {
+            table = λ k. absurd (omega arith);
+            value = λ e k. absurd (k s p);
+            short = λ e x q k. absurd (omega arith);
+            fills = λ e x q k. subst (λ (y : State). Fills (v .table) y before f now) (paused-state (v .table) s x (sym (p .stands) ∙ q .stands)) h;
+          },
+        )
+
+-- ---- no two answers read alike
+pub filling-injective : (a b : Block) → filling a ≡ filling b → a ≡ b
+filling-injective a b e =
+    go (a .verdict) (b .verdict) (a .run) (b .run) (a .used) (b .used) (a .over) (b .over)
+    (verdict-injective (a .verdict) (b .verdict) (ap (λ (f : Filling). f .refusal) e)) (gauge-value-injective (a .run) (b .run) (ap (λ (f : Filling). f .value) e))
+    (ap (λ (f : Filling). f .used) e) (ap (λ (f : Filling). f .over) e)
+  where
+    go : (n m : Verdict) (v w : GaugeRun) (i j : ℕ) (o p : Bool) → n ≡ m → v ≡ w → i ≡ j → o ≡ p
+        → _≡_ {A = Block} (record { verdict = n; run = v; used = i; over = o }) (record { verdict = m; run = w; used = j; over = p })
+    go n m v w i j o p a b c d = rw (a, b, c, d)
+
+-- ---- the longest file is that of the full table
+pub longest-attained : length (writeFile fullTable) ≡ longest
+longest-attained = full-length
