@@ -28,7 +28,8 @@ use Rattle.blocks.specs.Filling.{pairTable}
 
 below : (a b n : ℕ) → n ≤ 64 → a ⊆ b → b < 2 ^ n → a < 2 ^ n
 below a b n h s l =
-    ltb-true a (2 ^ n) (sym (below-lowest a n h) ∙ is-subset a (lowest n) (sub-trans a b (lowest n) s (subset-is b (lowest n) (below-lowest b n h ∙ lt-ltb b (2 ^ n) l))))
+    ltb-true a (2 ^ n)
+    (sym (below-lowest a n h) ∙ is-subset a (lowest n) (sub-trans a b (lowest n) s (subset-is b (lowest n) (below-lowest b n h ∙ lt-ltb b (2 ^ n) l))))
 
 pub pair-legal : (t : Table) → Legal t → (x : List ℕ) → Within (tableRows t) x → Legal (pairTable t x)
 pair-legal t l x w = record {
@@ -37,7 +38,10 @@ pair-legal t l x w = record {
   cases-low = l .cases-low;
   cases-high = l .cases-high;
   rows-length = pad-length x (omega (arith, size, l .gauges-high));
-  rows-bits = λ i. rw (pad-getD x i) (below (row x i) (row (t .rows) i) (t .cases) (l .cases-high) (rw (row-tableRows t l i) at (within-sub (tableRows t) x w i)) (l .rows-bits i));
+  rows-bits =
+      λ i.
+      rw (pad-getD x i)
+      (below (row x i) (row (t .rows) i) (t .cases) (l .cases-high) (rw (row-tableRows t l i) at (within-sub (tableRows t) x w i)) (l .rows-bits i));
   rows-rest = λ i h. pad-getD x i ∙ row-past x i (omega (arith, size, h));
 }
   where
@@ -62,6 +66,16 @@ never-spent t l s r e =
     let n : ℕ = length (tableRows t) in
     let c : Call = callOn (gaugeSide t) mostBudget s in
     let h = reached-fits (gaugeSide t) s .0 r in
-    let p : Paid spent (c .moves) (cost n (c .next .picks) (c .next .phase)) (cost n (s .picks) (s .phase)) = rw e at (call-law kids (handOut (gaugeSide t)) n (candidate-tree (tableRows t)) mostBudget s h .paid) in
+    let p : Paid spent (c .moves) (cost n (c .next .picks) (c .next .phase)) (cost n (s .picks) (s .phase)) =
+    rw e at (call-law kids (handOut (gaugeSide t)) n (candidate-tree (tableRows t)) mostBudget s h .paid) in
     let m : c .moves ≡ mostBudget = calls-spent kids (handOut (gaugeSide t)) (mostBudget ∷ []) s .0 (omega arith) .only e .0 in
-    omega (arith, p, m, length-rows t l, l .gauges-high, cost-lap kids n (candidate-tree (tableRows t)) (s .picks) (s .phase) h, cost-pos n (c .next .picks) (c .next .phase))
+    omega (
+      arith,
+      p,
+      m,
+      length-rows t l,
+      l .gauges-high,
+      cost-lap kids n (candidate-tree (tableRows t)) (s .picks) (s .phase) h,
+      cost-pos n (c .next .picks)
+          (c .next .phase),
+    )

@@ -282,7 +282,8 @@ filled-exists v rows before = go (ℕ-discrete (tableRefusal (v .table)) 0) (pau
 pub filling-injective : (a b : Block) → filling a ≡ filling b → a ≡ b
 filling-injective a b e =
     go (a .verdict) (b .verdict) (a .run) (b .run) (a .used) (b .used) (a .over) (b .over)
-    (verdict-injective (a .verdict) (b .verdict) (ap (λ (f : Filling). f .refusal) e)) (gauge-value-injective (a .run) (b .run) (ap (λ (f : Filling). f .value) e))
+    (verdict-injective (a .verdict) (b .verdict) (ap (λ (f : Filling). f .refusal) e))
+    (gauge-value-injective (a .run) (b .run) (ap (λ (f : Filling). f .value) e))
     (ap (λ (f : Filling). f .used) e) (ap (λ (f : Filling). f .over) e)
   where
     go : (n m : Verdict) (v w : GaugeRun) (i j : ℕ) (o p : Bool) → n ≡ m → v ≡ w → i ≡ j → o ≡ p

@@ -114,7 +114,8 @@ module _ (t : Table) (ok : tableRefusal t ≡ 0) (s : State) (reached : ReachedO
 module _ (v : Value) (before : List ℕ) where
   -- no room for the longest file
   pub full-on : (f : Filling) (now : List ℕ) → f .refusal ≡ 0 → UpToOn v before f now
-      → (tableRefusal (v .table) ≡ 0 → (s : State) → PausedAt gaugeSide v s → longest ≤ length before → length before < f .used + longest) → FillsOn v before f now
+      → (tableRefusal (v .table) ≡ 0 → (s : State) → PausedAt gaugeSide v s → longest ≤ length before → length before < f .used + longest)
+      → FillsOn v before f now
   full-on f now e h z ok s p l =
       let (n, u) = h ok s p l in
       fills-of (v .table) ok s (p .reached) before n f now e u (inr (omega (arith, z ok s p l, u .used)))
@@ -161,7 +162,8 @@ filled-short v before f c l e = record {
   fills = λ z s p h. absurd (omega arith);
 }
 
-pub filled-on : (v : Value) (before : List ℕ) (f : Filling) (now : List ℕ) → Checked v 0 → longest ≤ length before → FillsOn v before f now → Filled v before f now
+pub filled-on : (v : Value) (before : List ℕ) (f : Filling) (now : List ℕ) → Checked v 0 → longest ≤ length before → FillsOn v before f now
+    → Filled v before f now
 filled-on v before f now c l h = record {
   table = λ x. absurd (omega (arith, c .table x));
   value = λ z k. absurd (omega (arith, c .value z k));

@@ -99,7 +99,9 @@ module _ (t : Table) (before : List ℕ) (at : ℕ) (low : at ≤ length before)
   part-length = ap length part-is ∙ length-drop at before
 
   back-is : (ys : List ℕ) → back ys ≡ take at before ++ ys
-  back-is ys = ap (λ (z : List ℕ). take at before ++ (ys ++ z)) (drop-of-length-le (drop at before) {i = length before - at} (omega (arith, length-drop at before))) ∙ ap (λ (z : List ℕ). take at before ++ z) (append-nil ys)
+  back-is ys =
+      ap (λ (z : List ℕ). take at before ++ (ys ++ z)) (drop-of-length-le (drop at before) {i = length before - at} (omega (arith, length-drop at before)))
+      ∙ ap (λ (z : List ℕ). take at before ++ z) (append-nil ys)
 
   pub put-fits : (n : ℕ) → record { refusal = 0; value = n } ≡ writeAnswer t (length part) → at + n ≤ length before
   put-fits n e =
@@ -107,7 +109,8 @@ module _ (t : Table) (before : List ℕ) (at : ℕ) (low : at ≤ length before)
       let m : n ≡ length (writeFile t) = rw z at (ap (λ (a : Reading ℕ). a .value) e) in
       omega (arith, fits-of t (length part) z, part-length, m)
 
-  pub put-length : (n : ℕ) (ys : List ℕ) → record { refusal = 0; value = n } ≡ writeAnswer t (length part) → ys ≡ bufferAfter t part → Put t before at (at + n) (back ys)
+  pub put-length : (n : ℕ) (ys : List ℕ) → record { refusal = 0; value = n } ≡ writeAnswer t (length part) → ys ≡ bufferAfter t part
+      → Put t before at (at + n) (back ys)
   put-length n ys e d =
       let z : writeRefusal t (length part) ≡ 0 = sym (ap (λ (a : Reading ℕ). a .refusal) e) in
       let m : n ≡ length (writeFile t) = rw z at (ap (λ (a : Reading ℕ). a .value) e) in
@@ -116,7 +119,9 @@ module _ (t : Table) (before : List ℕ) (at : ℕ) (low : at ≤ length before)
         inside = put-fits n e;
         file = λ ok room. (
           ap (λ (k : ℕ). at + k) m,
-          back-is ys ∙ ap (λ (k : List ℕ). take at before ++ k) (y ∙ ap (λ (k : List ℕ). writeFile t ++ k) (ap (drop (length (writeFile t))) part-is ∙ drop-drop (length (writeFile t)) at before)),
+          back-is ys
+          ∙ ap (λ (k : List ℕ). take at before ++ k)
+          (y ∙ ap (λ (k : List ℕ). writeFile t ++ k) (ap (drop (length (writeFile t))) part-is ∙ drop-drop (length (writeFile t)) at before)),
         );
       }
 
@@ -125,11 +130,15 @@ module _ (t : Table) (before : List ℕ) (at : ℕ) (low : at ≤ length before)
       let z : number why ≡ writeRefusal t (length part) = ap (λ (a : Reading ℕ). a .refusal) e in
       record {
         inside = low;
-        file = λ ok room. let x : writeRefusal t (length part) ≡ 0 = long-enough t (length part) ok (omega (arith, part-length, room, low)) in absurd (omega (arith, z, x, number-pos why));
+        file =
+            λ ok room.
+                let x : writeRefusal t (length part) ≡ 0 = long-enough t (length part) ok (omega (arith, part-length, room, low)) in
+                absurd (omega (arith, z, x, number-pos why));
       }
 
 -- ---- a turn
-module _ (v : Value) (size : length (v .table .rows) ≡ 64) (r : Step) (c : Called gaugeSide v mostBudget r) (before : List ℕ) (at : ℕ) (low : at ≤ length before) where
+module _ (v : Value) (size : length (v .table .rows) ≡ 64) (r : Step) (c : Called gaugeSide v mostBudget r) (before : List ℕ) (at : ℕ)
+(low : at ≤ length before) where
   placed-none : placed before at [] ≡ before
   placed-none = ap (λ (k : ℕ). take at before ++ drop k before) (add-zero at) ∙ take-append-drop at before
 
@@ -169,8 +178,10 @@ module _ (v : Value) (size : length (v .table .rows) ≡ 64) (r : Step) (c : Cal
     adds = λ ok s p room.
         let t : Table = v .table in
         let a : callOn (gaugeSide t) mostBudget s .answer ≡ handed x = same-answer v mostBudget r c ok s p ∙ e in
-        let told : r ≡ byRules t (handed x) (callOn (gaugeSide t) mostBudget s .moves) (callOn (gaugeSide t) mostBudget s .next) = as-answered v mostBudget r c ok s p (handed x) e in
-        let table : record { gauges = r .chain .gauges; cases = t .cases; rows = r .chain .rows } ≡ pairTable t x = ap (λ (y : Step). record { gauges = y .chain .gauges; cases = t .cases; rows = y .chain .rows }) told in
+        let told : r ≡ byRules t (handed x) (callOn (gaugeSide t) mostBudget s .moves) (callOn (gaugeSide t) mostBudget s .next) =
+            as-answered v mostBudget r c ok s p (handed x) e in
+        let table : record { gauges = r .chain .gauges; cases = t .cases; rows = r .chain .rows } ≡ pairTable t x =
+            ap (λ (y : Step). record { gauges = y .chain .gauges; cases = t .cases; rows = y .chain .rows }) told in
         let put : Put (pairTable t x) before at next now = subst (λ (y : Table). Put y before at next now) table h in
         let legal : Legal (pairTable t x) = pair-legal t (legal-of t size ok) x (handed-within t s x a) in
         let f = put .file (legal-passes (pairTable t x) legal) (omega (arith, write-length (pairTable t x) legal, room)) in

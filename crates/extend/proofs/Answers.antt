@@ -1,5 +1,8 @@
--- The answers of extending: the arrays at the first turn and after the last, for a table and a chain that the checks pass, each answer by
--- what led to it, and that `Extends` leaves one answer only (`extends-unique`).
+-- The answers of extending.
+--
+-- In order: the arrays at the first turn and after the last, for a table and a chain that the checks pass (`first-turn`, `last-turn`); each answer by
+-- what led to it (`extends-refused`, `extends-no-chain`, `extends-grown`); `Extends` leaves one answer only (`extends-unique`), and no two read alike
+-- (`extended-injective`).
 use mathlib.Core.Path.{_≡_, refl, sym, ap, ap₂, _∙_, subst}
 use mathlib.Core.Bool.{Bool, true, false}
 use mathlib.Core.List.{List}
@@ -39,7 +42,11 @@ use Rattle.extend.proofs.Picking.{Picked, picked-start}
 legal-rows : (t : Table) → Legal t → Rows (tableRows t)
 legal-rows t l = record {
   few = omega (arith, length-rows t l, l .gauges-high);
-  inside = λ i. subst (λ (x : ℕ). x ⊆ full) (sym (row-tableRows t l i)) (subset-is (row (t .rows) i) full (below-lowest (row (t .rows) i) 64 (omega arith) ∙ lt-ltb (row (t .rows) i) (2 ^ 64) (omega (arith, l .rows-bits i, pow-mono (l .cases-high)))));
+  inside =
+      λ i.
+      subst (λ (x : ℕ). x ⊆ full) (sym (row-tableRows t l i))
+      (subset-is (row (t .rows) i) full
+      (below-lowest (row (t .rows) i) 64 (omega arith) ∙ lt-ltb (row (t .rows) i) (2 ^ 64) (omega (arith, l .rows-bits i, pow-mono (l .cases-high)))));
 }
 
 -- ---- a chain of a legal table, held in 64 rows each
@@ -59,7 +66,8 @@ module _ (t : Table) (s : Chain) (k : Given t s) where
 
   pub first-turn : (left : ℕ) → left ≡ lowest 64 → Picked (tableRows t) (take (t .gauges) (s .rows)) (t .gauges) (t .rows) (s .rows) left (replicate 64 0) 0
   first-turn left e =
-      picked-start (tableRows t) (take (t .gauges) (s .rows)) (t .rows) (s .rows) (t .gauges) left (legal-rows t (facts .legal)) (length-rows t (facts .legal)) (k .size) (k .size-chain)
+      picked-start (tableRows t) (take (t .gauges) (s .rows)) (t .rows) (s .rows) (t .gauges) left (legal-rows t (facts .legal))
+      (length-rows t (facts .legal)) (k .size) (k .size-chain)
       (λ i. sym (row-tableRows t (facts .legal) i)) (λ i. sym (ap (λ (x : List ℕ). row x i) same-rows ∙ row-chainRows t s facts (k .size-chain) i)) e
 
   pub last-turn : (rows : List ℕ) → rows ≡ padded (chainOf (tableRows t) (grow (tableRows t) (take (t .gauges) (s .rows)))) → FirstRows t s rows
@@ -106,7 +114,8 @@ module _ (t : Table) (s : Chain) (j : Judgement) (d : Judged (chainRefusal t s) 
 
 -- ---- one answer only
 grown-unique : (t : Table) (s : Chain) (a b : Answer Chain) → Grown t s a → Grown t s b → a ≡ b
-grown-unique t s a b x y = ap₂ (λ (n : ℕ) (c : Chain). answered n c) (x .accepted ∙ sym (y .accepted)) (ap₂ (λ (g : ℕ) (r : List ℕ). chained g r) (x .count ∙ sym (y .count)) same)
+grown-unique t s a b x y =
+    ap₂ (λ (n : ℕ) (c : Chain). answered n c) (x .accepted ∙ sym (y .accepted)) (ap₂ (λ (g : ℕ) (r : List ℕ). chained g r) (x .count ∙ sym (y .count)) same)
   where
     answered : ℕ → Chain → Answer Chain
     answered n c = record { refusal = n; value = c }
@@ -115,7 +124,9 @@ grown-unique t s a b x y = ap₂ (λ (n : ℕ) (c : Chain). answered n c) (x .ac
     chained g r = record { gauges = g; rows = r }
 
     same : a .value .rows ≡ b .value .rows
-    same = x .rows .held ∙ ap padded (first-unique (tableRows t) (chainRows s) (x .rows .chain) (y .rows .chain) (x .rows .first) (y .rows .first)) ∙ sym (y .rows .held)
+    same =
+        x .rows .held ∙ ap padded (first-unique (tableRows t) (chainRows s) (x .rows .chain) (y .rows .chain) (x .rows .first) (y .rows .first))
+        ∙ sym (y .rows .held)
 
 pub extends-unique : (t : Table) (s : Chain) (a b : Answer Chain) → Extends t s a → Extends t s b → a ≡ b
 extends-unique t s a b x y = go (ℕ-discrete (chainRefusal t s) 0) (allNested (chainRows s) (length (chainRows s))) refl
@@ -131,4 +142,5 @@ extends-unique t s a b x y = go (ℕ-discrete (chainRefusal t s) 0) (allNested (
 -- no two answers read alike
 pub extended-injective : (r q : Extended) → extended r ≡ extended q → r ≡ q
 extended-injective r q e =
-    ap₂ (λ (v : Verdict) (c : Chain). record { verdict = v; chain = c }) (verdict-injective (r .verdict) (q .verdict) (ap (λ (a : Answer Chain). a .refusal) e)) (ap (λ (a : Answer Chain). a .value) e)
+    ap₂ (λ (v : Verdict) (c : Chain). record { verdict = v; chain = c })
+    (verdict-injective (r .verdict) (q .verdict) (ap (λ (a : Answer Chain). a .refusal) e)) (ap (λ (a : Answer Chain). a .value) e)

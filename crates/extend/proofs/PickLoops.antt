@@ -1,5 +1,5 @@
--- What each answer and each turn of the private steps says of the tests in specs/private/PickSteps.antt, and that a union of rows is included exactly
--- when every row is. The search for the lowest uses the laws of crate `search`.
+-- What each answer and each turn of the private steps says of the tests in specs/private/PickSteps.antt, and that a union of rows is included
+-- exactly when every row is (`union-subset`). The search for the lowest uses the laws of crate `search`.
 use mathlib.Core.Path.{_≡_, refl, sym, ap, _∙_}
 use mathlib.Core.Bool.{Bool, true, false, _&&_}
 use mathlib.Core.List.{List}

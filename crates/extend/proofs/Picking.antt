@@ -1,5 +1,5 @@
 -- The turns of extending, on a table whose rows are r and a chain whose rows are s: the picks made so far are a front of `grow` of crate
--- `listing`, whose chain is the first maximal one that contains s, and the arrays are what these picks leave (`Picked`). A turn picks what
+-- `lists`, whose chain is the first maximal one that contains s, and the arrays are what these picks leave (`Picked`). A turn picks what
 -- `grow` picks next (`picked-next`); where nothing fits, or no turn is left, the picks are all of `grow` (`picked-end`, `picked-all`).
 use mathlib.Core.Path.{_≡_, refl, sym, ap, ap₂, _∙_, subst, fun-ext}
 use mathlib.Core.Bool.{Bool, true, false, _&&_, _||_, cond}

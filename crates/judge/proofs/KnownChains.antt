@@ -19,10 +19,10 @@ use Rattle.judge.proofs.WidestTest.{test-of-maximal}
 abbrev pub k2 : List ℕ
 k2 = 6 ∷ 5 ∷ 3 ∷ []
 
-abbrev pub k6 : List ℕ
+abbrev k6 : List ℕ
 k6 = 2 ∷ 4 ∷ 1 ∷ []
 
-abbrev pub k7 : List ℕ
+abbrev k7 : List ℕ
 k7 = 6 ∷ 0 ∷ 0 ∷ []
 
 -- "K6 .. not a chain", though a set of K2's pairs

@@ -1,5 +1,8 @@
--- What each answer of the two judges says: a refusal, and a yes or a no by the tests that led to it; and that a judge has
--- one answer (`judged-unique`).
+-- What each answer of the two judges says.
+--
+-- In order: a refusal, a yes and a no (`judged-refused`); a judge has one answer (`judged-unique`), and no two read alike (`judgement-injective`);
+-- the answers of `judge_chain` by the test of nested rows (`chain-yes`, `chain-no`), and of `judge_maximal` by that of widest rows
+-- (`maximal-no-chain`, `maximal-yes`, `maximal-no`).
 use mathlib.Core.Path.{_≡_, refl, sym, ap, ap₂, _∙_, subst, fun-ext}
 use mathlib.Core.Bool.{Bool, true, false}
 use mathlib.Core.List.{List}
@@ -31,10 +34,10 @@ judged-refused x n e = record {
   no = λ z. absurd (omega (arith, number-pos x));
 }
 
-pub judged-yes : {P : Type 0} (n : ℕ) → n ≡ 0 → P → Judged n P Yes
+judged-yes : {P : Type 0} (n : ℕ) → n ≡ 0 → P → Judged n P Yes
 judged-yes n e p = record { refusal = sym e; yes = λ d. p; no = λ z d. let w : _≡_ {A = ℕ} 0 1 = cc in absurd (omega arith) }
 
-pub judged-no : {P : Type 0} (n : ℕ) → n ≡ 0 → ¬ P → Judged n P No
+judged-no : {P : Type 0} (n : ℕ) → n ≡ 0 → ¬ P → Judged n P No
 judged-no n e p = record { refusal = sym e; yes = λ d. let w : _≡_ {A = ℕ} 0 1 = cc in absurd (omega arith); no = λ z d. p }
 
 -- a judge has one answer
@@ -50,10 +53,14 @@ judged-unique n P (Refused x) No a b = absurd (omega (arith, a .refusal, b .refu
 judged-unique n P (Refused x) (Refused y) a b = ap Refused (number-injective x y (a .refusal ∙ sym (b .refusal)))
 
 pub judgement-injective : (r q : Judgement) → judgement r ≡ judgement q → r ≡ q
-judgement-injective r q e = judged-unique (judgement r .refusal) (judgement r .value ≡ true) r q (judged r refl refl) (judged q (ap (λ (a : Answer Bool). a .refusal) (sym e)) (ap (λ (a : Answer Bool). a .value) (sym e)))
+judgement-injective r q e =
+    judged-unique (judgement r .refusal) (judgement r .value ≡ true) r q (judged r refl refl)
+    (judged q (ap (λ (a : Answer Bool). a .refusal) (sym e)) (ap (λ (a : Answer Bool). a .value) (sym e)))
   where
-    judged : (z : Judgement) → judgement z .refusal ≡ judgement r .refusal → judgement z .value ≡ judgement r .value → Judged (judgement r .refusal) (judgement r .value ≡ true) z
-    judged z n v = record { refusal = n; yes = λ d. sym v ∙ d; no = λ k d p. let w : false ≡ true = sym d ∙ v ∙ p in let x : _≡_ {A = ℕ} 0 1 = cc in omega arith }
+    judged : (z : Judgement) → judgement z .refusal ≡ judgement r .refusal → judgement z .value ≡ judgement r .value
+        → Judged (judgement r .refusal) (judgement r .value ≡ true) z
+    judged z n v =
+        record { refusal = n; yes = λ d. sym v ∙ d; no = λ k d p. let w : false ≡ true = sym d ∙ v ∙ p in let x : _≡_ {A = ℕ} 0 1 = cc in omega arith }
 
 -- the tests look at rows one by one, so they are the same of the 64 rows and of the first G
 nested-same : (s z : List ℕ) (n : ℕ) → ((i : ℕ) → row s i ≡ row z i) → allNested s n ≡ allNested z n
@@ -79,7 +86,9 @@ module _ (t : Table) (s : Chain) (e : chainRefusal t s ≡ 0) (n : length (t .ro
   few-gauges = facts .legal .gauges-high
 
   chain-test : (a : Bool) → a ≡ allNested (s .rows) (t .gauges) → a ≡ allNested (chainRows s) (length (chainRows s))
-  chain-test a d = d ∙ nested-same (s .rows) (chainRows s) (t .gauges) (λ i. sym (row-chainRows t s facts m i)) ∙ ap (allNested (chainRows s)) (sym (length-chainRows t s facts m))
+  chain-test a d =
+      d ∙ nested-same (s .rows) (chainRows s) (t .gauges) (λ i. sym (row-chainRows t s facts m i))
+      ∙ ap (allNested (chainRows s)) (sym (length-chainRows t s facts m))
 
   is-chain : (a : Bool) → a ≡ allNested (s .rows) (t .gauges) → a ≡ true → IsChain (chainRows s)
   is-chain a d h = chain-of-test (chainRows s) (sym (chain-test a d) ∙ h)
@@ -100,7 +109,9 @@ module _ (t : Table) (s : Chain) (e : chainRefusal t s ≡ 0) (n : length (t .ro
   module _ (a b : Bool) (da : a ≡ allNested (s .rows) (t .gauges)) (ha : a ≡ true) (db : b ≡ allWidest (t .rows) (s .rows) (t .gauges)) where
     wide-test : b ≡ allWidest (tableRows t) (chainRows s) (length (chainRows s))
     wide-test =
-        db ∙ all-widest-same (t .rows) (tableRows t) (s .rows) (chainRows s) (t .gauges) (λ i. sym (row-tableRows t (facts .legal) i)) (λ i. sym (row-chainRows t s facts m i))
+        db
+        ∙ all-widest-same (t .rows) (tableRows t) (s .rows) (chainRows s) (t .gauges) (λ i. sym (row-tableRows t (facts .legal) i))
+        (λ i. sym (row-chainRows t s facts m i))
         ∙ ap (allWidest (tableRows t) (chainRows s)) (sym (length-chainRows t s facts m))
 
     pub maximal-yes : b ≡ true → Judged (chainRefusal t s) (IsMaximal (tableRows t) (chainRows s)) Yes

@@ -1,6 +1,9 @@
 -- A chain of the table is maximal exactly when each of its rows is the widest it can be: the table's row, narrowed to every row of the
--- chain that strictly contains it. One way, widening one row keeps a chain. The other way, by induction from the widest row down: a row
--- of a larger chain lies under each row that strictly contains it, since the table's row does not hold the least of these.
+-- chain that strictly contains it.
+--
+-- In order: the widest row; one way, widening one row keeps a chain, so a maximal chain has widest rows (`test-of-maximal`); the other way, by
+-- induction from the widest row down: a row of a larger chain lies under each row that strictly contains it, since the table's row does not hold the
+-- least of these (`maximal-of-test`).
 use mathlib.Core.Path.{_≡_, refl, sym, ap, _∙_, subst}
 use mathlib.Core.Logic.{_⊎_, inl, inr}
 use mathlib.Core.Bool.{Bool, true, false}
@@ -38,7 +41,7 @@ module _ (s : List ℕ) (x i : ℕ) where
   unfolding widest
   widest-none = refl
 
-  pub widest-own : (n : ℕ) → widest s x i n ⊆ x
+  widest-own : (n : ℕ) → widest s x i n ⊆ x
   widest-own zero = rw widest-none (sub-refl x)
   widest-own (suc n) = go (isProperSubset (row s i) (row s n)) refl (widest-own n)
     where
@@ -46,31 +49,34 @@ module _ (s : List ℕ) (x i : ℕ) where
       go true e h = rw (step-yes n e) (sub-trans (meet (widest s x i n) (row s n)) (widest s x i n) x (meet-left (widest s x i n) (row s n)) h)
       go false e h = rw (step-no n e) h
 
-  pub widest-under : (n j : ℕ) → j < n → isProperSubset (row s i) (row s j) ≡ true → widest s x i n ⊆ row s j
+  widest-under : (n j : ℕ) → j < n → isProperSubset (row s i) (row s j) ≡ true → widest s x i n ⊆ row s j
   widest-under zero j l e = absurd (omega arith)
   widest-under (suc n) j l e = go (ℕ-discrete j n) (isProperSubset (row s i) (row s n)) refl (λ k. widest-under n j k e)
     where
       go : Dec (j ≡ n) → (b : Bool) → isProperSubset (row s i) (row s n) ≡ b → (j < n → widest s x i n ⊆ row s j) → widest s x i (suc n) ⊆ row s j
       go (yes d) true f ih = rw (step-yes n f, d) (meet-right (widest s x i n) (row s n))
-      go (yes d) false f ih = let z : true ≡ false = sym e ∙ ap (λ (m : ℕ). isProperSubset (row s i) (row s m)) d ∙ f in let w : _≡_ {A = ℕ} 0 1 = cc in absurd (omega arith)
-      go (no d) true f ih = rw (step-yes n f) (sub-trans (meet (widest s x i n) (row s n)) (widest s x i n) (row s j) (meet-left (widest s x i n) (row s n)) (ih (omega arith)))
+      go (yes d) false f ih =
+          let z : true ≡ false = sym e ∙ ap (λ (m : ℕ). isProperSubset (row s i) (row s m)) d ∙ f in let w : _≡_ {A = ℕ} 0 1 = cc in absurd (omega arith)
+      go (no d) true f ih =
+          rw (step-yes n f) (sub-trans (meet (widest s x i n) (row s n)) (widest s x i n) (row s j) (meet-left (widest s x i n) (row s n)) (ih (omega arith)))
       go (no d) false f ih = rw (step-no n f) (ih (omega arith))
 
   -- z within x is within the widest row, or some row strictly above row i does not hold it
   abbrev Blocks : ℕ → ℕ → Type 0
   Blocks z n = (j : ℕ) × (j < n) × (isProperSubset (row s i) (row s j) ≡ true) × (¬ (z ⊆ row s j))
 
-  pub widest-or : (z : ℕ) → z ⊆ x → (n : ℕ) → (z ⊆ widest s x i n) ⊎ Blocks z n
+  widest-or : (z : ℕ) → z ⊆ x → (n : ℕ) → (z ⊆ widest s x i n) ⊎ Blocks z n
   widest-or z h zero = inl (rw widest-none h)
   widest-or z h (suc n) = go (isProperSubset (row s i) (row s n)) refl (sub-dec z (row s n)) (widest-or z h n)
     where
-      go : (b : Bool) → isProperSubset (row s i) (row s n) ≡ b → Dec (z ⊆ row s n) → (z ⊆ widest s x i n) ⊎ Blocks z n → (z ⊆ widest s x i (suc n)) ⊎ Blocks z (suc n)
+      go : (b : Bool) → isProperSubset (row s i) (row s n) ≡ b → Dec (z ⊆ row s n) → (z ⊆ widest s x i n) ⊎ Blocks z n
+          → (z ⊆ widest s x i (suc n)) ⊎ Blocks z (suc n)
       go b e d (inr k) = inr (k .0, omega (arith, k .1), k .2, k .3)
       go true e (yes d) (inl k) = inl (rw (step-yes n e) (meet-glb z (widest s x i n) (row s n) k d))
       go true e (no d) (inl k) = inr (n, omega arith, e, d)
       go false e d (inl k) = inl (rw (step-no n e) k)
 
-  pub widest-glb : (z : ℕ) → z ⊆ x → (n : ℕ) → ((j : ℕ) → j < n → isProperSubset (row s i) (row s j) ≡ true → z ⊆ row s j) → z ⊆ widest s x i n
+  widest-glb : (z : ℕ) → z ⊆ x → (n : ℕ) → ((j : ℕ) → j < n → isProperSubset (row s i) (row s j) ≡ true → z ⊆ row s j) → z ⊆ widest s x i n
   widest-glb z h n f = go (widest-or z h n)
     where
       go : (z ⊆ widest s x i n) ⊎ Blocks z n → z ⊆ widest s x i n
@@ -148,12 +154,13 @@ module _ (r s : List ℕ) (w : Within r s) (c : IsChain s) where
         go j (yes d) = rw (d, at-i) (own-under i)
         go j (no d) = rw (at-j j d) (sub-refl (row s j))
 
-    pub wide-already : IsMaximal r s → W i ≡ row s i
+    wide-already : IsMaximal r s → W i ≡ row s i
     wide-already m = sym at-i ∙ ap (λ (x : List ℕ). row x i) (m .largest s+ within+ chain+ contains+)
 
   pub test-of-maximal : IsMaximal r s → allWidest r s n ≡ true
   unfolding allWidest
-  test-of-maximal m = is-true (allWidest r s n) (all-of (λ i. eqb (W i) (row s i)) n (λ i l. as-true (eqb (W i) (row s i)) (eq-eqb (W i) (row s i) (wide-already i l m))))
+  test-of-maximal m =
+      is-true (allWidest r s n) (all-of (λ i. eqb (W i) (row s i)) n (λ i l. as-true (eqb (W i) (row s i)) (eq-eqb (W i) (row s i) (wide-already i l m))))
 
   -- ---- every row as wide as it can be: no larger chain
   module _ (most : ℕ) (small : (i : ℕ) → row r i < 2 ^ most) (wide : (i : ℕ) → i < n → W i ≡ row s i) where
@@ -210,5 +217,7 @@ module _ (r s : List ℕ) (w : Within r s) (c : IsChain s) where
   maximal-of-test most small e = record {
     within = w;
     chain = c;
-    largest = none-larger most small (λ i l. eqb-true (W i) (row s i) (is-true (eqb (W i) (row s i)) (all-at (λ i. eqb (W i) (row s i)) n i (as-true (allWidest r s n) e) l)));
+    largest =
+        none-larger most small
+        (λ i l. eqb-true (W i) (row s i) (is-true (eqb (W i) (row s i)) (all-at (λ i. eqb (W i) (row s i)) n i (as-true (allWidest r s n) e) l)));
   }

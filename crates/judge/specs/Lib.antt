@@ -1,3 +1,3 @@
--- What a reader must believe of the two judges; `Tests` is for their private steps alone.
+-- What a reader must believe of the two judges; `private` is for their private steps alone.
 pub mod Judging
 pub mod private

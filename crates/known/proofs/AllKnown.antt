@@ -1,16 +1,18 @@
--- The known tables of 01, all in one theorem (`known-tables`), and the limits that they attain (`limits-attained`). A table's gauge list is had from the list theorem of crate `lists`: the
--- chains of the leaves of the candidates, in order, are the gauge list of any table, and for a table written out they are computed. Pick
--- sequences, numbers of pairs and moves are computed from their definitions. K6 and K7 are decided by the tests of crate `judge`, and K8 is
--- what the greedy choice of crate `lists` gives.
-use mathlib.Core.Path.{_≡_, refl, subst}
+-- The known tables of 01, all in one theorem (`known-tables`), and the limits that they attain (`limits-attained`).
+--
+-- A table's gauge list is had from the list theorem of crate `lists`: the chains of the leaves of the candidates, in order, are the gauge list of
+-- any table, and for a table written out they are computed. Pick sequences, numbers of pairs and moves are computed from their definitions. K6 and
+-- K7 are decided by the tests of crate `judge`, and K8 is what the greedy choice of crate `lists` gives.
+use mathlib.Core.Path.{_≡_, refl, sym, subst}
 use mathlib.Core.Logic.{_≢_}
 use mathlib.Core.Bool.{Bool, true, false}
+use mathlib.Core.Option.{some}
 use mathlib.Core.List.{List, [], _∷_, map, List·Memᴰ, List·Memᴰ·head, List·Memᴰ·tail}
-use Prim.Native.Nat.{ℕ, suc, _-_, _≤_, _<_}
+use Prim.Native.Nat.{ℕ, zero, suc, _-_, _≤_, _<_}
 use native.Mathlib.Omega.{arith}
 use lib.Dec.{T}
 use lib.Count.{onesIn, ones}
-use lib.ListN.{length}
+use lib.ListN.{length, getElem?}
 use Rattle.sets.specs.Sets.{meet, isSubset, isProperSubset}
 use Rattle.sets.specs.Lists.{tabulate, allBelow}
 use Rattle.sets.proofs.Tabulated.{all-at}
@@ -40,7 +42,8 @@ module _ (t : Table) (g l : ℕ) where
   shape n z a b = record { legal = legal-of t n z; gauges = a; cases = b }
 
   lists : (es : List Entry) → Shape t g l → chainsInOrder (tableRows t) ≡ map (λ (e : Entry). e .set) es
-      → map (λ (e : Entry). map suc (pickSeq (e .set))) es ≡ map (λ (e : Entry). e .picks) es → map (λ (e : Entry). count (e .set)) es ≡ map (λ (e : Entry). e .size) es → Lists t g l es
+      → map (λ (e : Entry). map suc (pickSeq (e .set))) es ≡ map (λ (e : Entry). e .picks) es
+      → map (λ (e : Entry). count (e .set)) es ≡ map (λ (e : Entry). e .size) es → Lists t g l es
   lists es h e p c = record { shape = h; list = subst (GaugeList t) e (gauge-list (tableRows t)); picks = p; sizes = c }
 
 -- ---- 3:2 is a chain of K2
@@ -71,11 +74,13 @@ no-end ends t e = t
 none-ends : (t : Table) (n : ℕ) → T (allBelow (λ i. goesOn (move (candidates (tableRows t)) (after (candidates (tableRows t)) i fresh) .given)) n)
     → (k : ℕ) → 1 ≤ k → k < suc n → moveOf t k .given ≢ ends
 none-ends t n h k l b =
-    no-end (moveOf t k .given) (all-at (λ i. goesOn (move (candidates (tableRows t)) (after (candidates (tableRows t)) i fresh) .given)) n (k - 1) h (omega arith))
+    no-end (moveOf t k .given)
+    (all-at (λ i. goesOn (move (candidates (tableRows t)) (after (candidates (tableRows t)) i fresh) .given)) n (k - 1) h (omega arith))
 
 -- ---- all of them
 holds : (k : Known) → Claim k
-unfolding tableRefusal rowsFit candidates select candidate rulesOut common isIn isProperSubset isSubset meet allBelow chainOf chainRow tabulate pickSeq takeFrom best score ones onesIn grow growFrom fitting covers k8 goesOn
+unfolding tableRefusal rowsFit candidates select candidate rulesOut common isIn isProperSubset isSubset meet allBelow chainOf chainRow tabulate pickSeq
+    takeFrom best score ones onesIn grow growFrom fitting covers k8 goesOn
 holds K1 = lists k1 _ _ _ (shape k1 _ _ refl refl refl refl) refl refl refl
 holds K2 = lists k2 _ _ _ (shape k2 _ _ refl refl refl refl) refl refl refl
 holds K3 = lists k3 _ _ _ (shape k3 _ _ refl refl refl refl) refl refl refl
@@ -87,17 +92,23 @@ holds K8 = record { within = k8-within; chain = k8-chain; first = grow-first (ta
 holds K9 = record { last = refl; sooner = none-ends k2 24 tt }
 holds K10 = (shape k10 _ _ refl refl refl refl, refl, refl, refl, refl)
 
+-- what stands at a place of a list is in it
+at-place : (l : List Known) (n : ℕ) {k : Known} → getElem? l n ≡ some k → List·Memᴰ k l
+at-place [] n e = let z : _≡_ {A = ℕ} 0 1 = cc in absurd (omega arith)
+at-place (x ∷ l) zero {k} e = List·Memᴰ·head (let z : x ≡ k = cc in sym z)
+at-place (x ∷ l) (suc n) e = List·Memᴰ·tail (at-place l n e)
+
 listed : (k : Known) → List·Memᴰ k knownTables
-listed K1 = List·Memᴰ·head refl
-listed K2 = List·Memᴰ·tail (List·Memᴰ·head refl)
-listed K3 = List·Memᴰ·tail (List·Memᴰ·tail (List·Memᴰ·head refl))
-listed K4 = List·Memᴰ·tail (List·Memᴰ·tail (List·Memᴰ·tail (List·Memᴰ·head refl)))
-listed K5 = List·Memᴰ·tail (List·Memᴰ·tail (List·Memᴰ·tail (List·Memᴰ·tail (List·Memᴰ·head refl))))
-listed K6 = List·Memᴰ·tail (List·Memᴰ·tail (List·Memᴰ·tail (List·Memᴰ·tail (List·Memᴰ·tail (List·Memᴰ·head refl)))))
-listed K7 = List·Memᴰ·tail (List·Memᴰ·tail (List·Memᴰ·tail (List·Memᴰ·tail (List·Memᴰ·tail (List·Memᴰ·tail (List·Memᴰ·head refl))))))
-listed K8 = List·Memᴰ·tail (List·Memᴰ·tail (List·Memᴰ·tail (List·Memᴰ·tail (List·Memᴰ·tail (List·Memᴰ·tail (List·Memᴰ·tail (List·Memᴰ·head refl)))))))
-listed K9 = List·Memᴰ·tail (List·Memᴰ·tail (List·Memᴰ·tail (List·Memᴰ·tail (List·Memᴰ·tail (List·Memᴰ·tail (List·Memᴰ·tail (List·Memᴰ·tail (List·Memᴰ·head refl))))))))
-listed K10 = List·Memᴰ·tail (List·Memᴰ·tail (List·Memᴰ·tail (List·Memᴰ·tail (List·Memᴰ·tail (List·Memᴰ·tail (List·Memᴰ·tail (List·Memᴰ·tail (List·Memᴰ·tail (List·Memᴰ·head refl)))))))))
+listed K1 = at-place knownTables 0 refl
+listed K2 = at-place knownTables 1 refl
+listed K3 = at-place knownTables 2 refl
+listed K4 = at-place knownTables 3 refl
+listed K5 = at-place knownTables 4 refl
+listed K6 = at-place knownTables 5 refl
+listed K7 = at-place knownTables 6 refl
+listed K8 = at-place knownTables 7 refl
+listed K9 = at-place knownTables 8 refl
+listed K10 = at-place knownTables 9 refl
 
 pub known-tables : AllKnown
 known-tables = record { complete = listed; holds = All-of Claim knownTables (λ k m. holds k) }

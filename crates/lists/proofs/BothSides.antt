@@ -1,7 +1,10 @@
--- The two sides of one table. A side is fair where its own rows' maximal chains are the table's, each seen through the side and given back; the
--- gauge side and the case side of a legal table are (`gauge-fair`, `case-fair`). The list of a fair side exists (`side-list`), and every list
--- of a legal table has at most (min G L)! members (`list-few`).
-use mathlib.Core.Path.{_≡_, refl, sym, ap, _∙_, subst}
+-- The two sides of one table. A side is fair where its own rows' maximal chains are the table's, each seen through the side and given back.
+--
+-- In order: the gauge side and the case side of a legal table are fair (`gauge-fair`, `case-fair`); the list of a fair side exists (`side-list`),
+-- so the gauge list and the case list do (`lists-exist`); every list of a legal table has at most (min G L)! members (`list-few`).
+--
+-- Elsewhere: no other list is, `list-unique` in Listed.antt.
+use mathlib.Core.Path.{_≡_, refl, sym, _∙_, subst}
 use mathlib.Core.List.{List, [], _∷_, map, map-map, List·Memᴰ, Memᴰ·cast, Memᴰ·map, Memᴰ·of-map}
 use Prim.Native.Nat.{ℕ, _≤_, min}
 use native.Mathlib.Nat.{min-eq-left, min-eq-right}
@@ -18,9 +21,9 @@ use Rattle.table.proofs.Legality.{length-rows, legal-cases}
 use Rattle.rules.specs.Sequences.{All, Sorted, factorial}
 use Rattle.rules.proofs.Sequences.{All-of}
 use Rattle.lists.specs.PickSequence.{Precedes}
-use Rattle.lists.specs.Lists.{SideList, Side, gaugeSide, caseSide}
+use Rattle.lists.specs.Lists.{SideList, Side, gaugeSide, caseSide, GaugeList, CaseList}
 use Rattle.lists.specs.OnTable.{chainOf, handOut}
-use Rattle.lists.proofs.Listed.{picksInOrder, chainsInOrder, listed, list-unique, lists-length, gauge-list, leaves-few}
+use Rattle.lists.proofs.Listed.{picksInOrder, chainsInOrder, listed, lists-length, gauge-list, leaves-few}
 
 pub record Fair (t : Table) (s : Side) : Type 0 where
   pub counted : length (s .rows) ≡ s .count
@@ -53,7 +56,8 @@ case-fair t l = record {
 
 -- ---- the list of a side
 -- a list that ascends, mapped by f, ascends by what u takes back
-sorted-back : (q : List ℕ → List ℕ → Type 0) (f u : List ℕ → List ℕ) (l : List (List ℕ)) → All (λ (a : List ℕ). u (f a) ≡ a) l → Sorted q l → Sorted (λ (x y : List ℕ). q (u x) (u y)) (map f l)
+sorted-back : (q : List ℕ → List ℕ → Type 0) (f u : List ℕ → List ℕ) (l : List (List ℕ)) → All (λ (a : List ℕ). u (f a) ≡ a) l → Sorted q l
+    → Sorted (λ (x y : List ℕ). q (u x) (u y)) (map f l)
 sorted-back q f u [] h s = tt
 sorted-back q f u (a ∷ l) h s = (after l h.1 s.0, sorted-back q f u l h.1 s.1)
   where
@@ -67,7 +71,9 @@ module _ (t : Table) (s : Side) (f : Fair t s) where
   sideList = map (handOut s) (picksInOrder (s .rows))
 
   pub side-list : SideList (tableRows t) (s .key) sideList
-  side-list = subst (SideList (tableRows t) (s .key)) (map-map (s .byGauges) (chainOf (s .rows)) (picksInOrder (s .rows))) (listed (map (s .byGauges) own) (λ x. (into x, onto x)) ascends)
+  side-list =
+      subst (SideList (tableRows t) (s .key)) (map-map (s .byGauges) (chainOf (s .rows)) (picksInOrder (s .rows)))
+      (listed (map (s .byGauges) own) (λ x. (into x, onto x)) ascends)
     where
       own : List (List ℕ)
       own = chainsInOrder (s .rows)
@@ -82,7 +88,9 @@ module _ (t : Table) (s : Side) (f : Fair t s) where
       onto x m = Memᴰ·cast (sym (f .over x m .1)) (Memᴰ·map (s .byGauges) (gauge-list (s .rows) .members (s .key x) .1 (f .over x m .0)))
 
       ascends : Sorted (λ (x y : List ℕ). Precedes (s .key x) (s .key y)) (map (s .byGauges) own)
-      ascends = sorted-back Precedes (s .byGauges) (s .key) own (All-of (λ (y : List ℕ). s .key (s .byGauges y) ≡ y) own (λ y m. f .home y (own-maximal y m) .1)) (gauge-list (s .rows) .ascends)
+      ascends =
+          sorted-back Precedes (s .byGauges) (s .key) own (All-of (λ (y : List ℕ). s .key (s .byGauges y) ≡ y) own (λ y m. f .home y (own-maximal y m) .1))
+          (gauge-list (s .rows) .ascends)
 
   -- no list of the table is longer than there are orders of what the side can pick
   few-by : {key : List ℕ → List ℕ} (xs : List (List ℕ)) → SideList (tableRows t) key xs → length xs ≤ factorial (s .count)
@@ -97,5 +105,13 @@ min-factorial k a b h l = go (decLe a b)
     go (yes e) = rw (min-eq-left e) h
     go (no e) = let d : b ≤ a = omega arith in rw (min-eq-right d) l
 
-pub list-few : (t : Table) → Legal t → {key : List ℕ → List ℕ} (xs : List (List ℕ)) → SideList (tableRows t) key xs → length xs ≤ factorial (min (t .gauges) (t .cases))
+pub list-few : (t : Table) → Legal t → {key : List ℕ → List ℕ} (xs : List (List ℕ)) → SideList (tableRows t) key xs
+    → length xs ≤ factorial (min (t .gauges) (t .cases))
 list-few t l xs a = min-factorial (length xs) (t .gauges) (t .cases) (few-by t (gaugeSide t) (gauge-fair t l) xs a) (few-by t (caseSide t) (case-fair t l) xs a)
+
+-- both lists of a legal table exist
+pub lists-exist : (t : Table) → Legal t → ((xs : List (List ℕ)) × GaugeList t xs) × ((ys : List (List ℕ)) × CaseList t ys)
+lists-exist t l =
+    let g = gauge-fair t l in
+    let c = case-fair t l in
+    ((sideList t (gaugeSide t) g, side-list t (gaugeSide t) g), (sideList t (caseSide t) c, side-list t (caseSide t) c))

@@ -1,5 +1,5 @@
 -- The candidates of a table make a tree in the sense of crate `rules`: they ascend, no valid sequence of picks is longer than the table
--- has rows, and each pick leaves one gauge fewer to choose from. So the laws of `walk` hold of the runs of a table.
+-- has rows, and each pick leaves one gauge fewer to choose from. So the laws of `rules` hold of the runs of a table.
 use mathlib.Core.Logic.{_↔_}
 use mathlib.Core.List.{List, [], _∷_, _++_, append-nil}
 use Prim.Native.Nat.{ℕ, _+_, _-_, _≤_}
@@ -26,7 +26,8 @@ module _ (rows : List ℕ) where
   valid-free a [] v = rw (append-nil a) (omega arith)
   valid-free a (g ∷ p) v =
       let c : Cand rows a g = mem-candidates rows a g .0 (v .0) in
-      let r : free (a ++ (g ∷ p)) (length rows) + length p ≤ free (a ++ (g ∷ [])) (length rows) = rw (append-snoc a g p) at (valid-free (a ++ (g ∷ [])) p (v .1)) in
+      let r : free (a ++ (g ∷ p)) (length rows) + length p ≤ free (a ++ (g ∷ [])) (length rows) =
+      rw (append-snoc a g p) at (valid-free (a ++ (g ∷ [])) p (v .1)) in
       omega (arith, free-drop a g (length rows) (c .fresh) (c .below))
 
   pub candidates-few : (p : List ℕ) → Valid (candidates rows) p → length (candidates rows p) ≤ length rows - length p

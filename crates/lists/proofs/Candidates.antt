@@ -1,5 +1,8 @@
--- What it is to be a candidate, as facts (`Cand`), and the list of all candidates; sequences of candidates to the last, from the first
--- pick on (`LeafFrom`), are the valid sequences of crate `rules` without candidates after them.
+-- What it is to be a candidate, as facts (`Cand`), and the list of all candidates.
+--
+-- In order: the test says what the facts say (`cand-of`, `of-cand`); the list (`mem-candidates`, `no-candidate`, `none-candidate`); sequences of
+-- candidates to the last, from the first pick on (`LeafFrom`), are the valid sequences of crate `rules` without candidates after them (`leaf-from`,
+-- `leaf-to`).
 use mathlib.Core.Path.{_≡_, sym, subst}
 use mathlib.Core.Logic.{_↔_}
 use mathlib.Core.Bool.{Bool, true, false, not, _&&_, _||_}
@@ -75,12 +78,20 @@ module _ (rows : List ℕ) where
         dec c f (yes e) = e
         dec c f (no e) = absurd (f (proper-spec (R g) (R h) .1 (c, λ e′. e (sym e′))))
 
-    tests : T (candidate rows q g) ↔ (T (ltb g (length rows)) × T (not (isIn g q)) × T (not (eqb (R g) 0)) × T (allBelow (λ h. not (rulesOut rows q g h)) (length rows)))
+    tests : T (candidate rows q g)
+        ↔ (T (ltb g (length rows)) × T (not (isIn g q)) × T (not (eqb (R g) 0)) × T (allBelow (λ h. not (rulesOut rows q g h)) (length rows)))
     unfolding candidate
     tests = and4 (ltb g (length rows)) (not (isIn g q)) (not (eqb (R g) 0)) (allBelow (λ h. not (rulesOut rows q g h)) (length rows))
 
     pub cand-of : T (candidate rows q g) → Cand q g
-    cand-of t = record { below = b; fresh = tests .0 t .1; filled = s; top = λ h u c. top h u c (decLt h (length rows)); first = λ h u l e. a h (omega (arith, b)) u .1 l e }
+    cand-of t =
+        record {
+          below = b;
+          fresh = tests .0 t .1;
+          filled = s;
+          top = λ h u c. top h u c (decLt h (length rows));
+          first = λ h u l e. a h (omega (arith, b)) u .1 l e;
+        }
       where
         b : g < length rows
         b = ltb→lt g (length rows) (tests .0 t .0)

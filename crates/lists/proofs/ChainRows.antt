@@ -1,6 +1,10 @@
--- The chain of a list of picks, row by row: each row is the remainder that its index had when it was picked, every row lies under that of
--- the first pick, so the rows are nested and the chain is a chain of the table. Last, one pick more as a store to its row, which is how
--- code builds the chain. Maximality is in Maximal.antt.
+-- The chain of a list of picks, row by row.
+--
+-- In order: each row is the remainder that its index had when it was picked (`row-hit`, `row-miss`); every row lies under that of the first pick
+-- (`row-under`), so the rows are nested (`rows-nested`) and the chain is a chain of the table (`chainOf-within`, `chainOf-chain`); one pick more as a
+-- store to its row, which is how code builds the chain (`chainOf-snoc`).
+--
+-- Elsewhere: maximality, Maximal.antt.
 use mathlib.Core.Path.{_≡_, refl, sym, ap, _∙_}
 use mathlib.Core.Logic.{_⊎_, inl, inr}
 use mathlib.Core.List.{List, [], _∷_, _++_, append-nil}

@@ -1,21 +1,25 @@
 -- Demand 3, for the calls that the rules make on any fair side of a legal table and for every list of budgets (`demand3`), by the laws of
--- crate `rules` at the candidates of the side's rows and by the list theorem. It leaves one list of calls (`demand-unique`), two runs that have
--- ended share one set (`one-set`), and a run called on long enough ends (`run-ends`), with its side's whole list handed out (`run-lists-all`).
-use mathlib.Core.Path.{_≡_, refl, sym, ap, _∙_, subst}
+-- crate `rules` at the candidates of the side's rows and by the list theorem.
+--
+-- In order: the demand; a run called on long enough ends (`run-ends`), with its side's whole list handed out (`run-lists-all`); the demand leaves
+-- one list of calls (`demand-unique`), also by what it says of each call alone (`demand-each`); the limit after a hand-out (`demand-gap`); two runs
+-- that have ended share one set (`one-set`, `one-set-reads`).
+--
+-- Elsewhere: that the limits are attained, `limits-attained` in crate `known`; the lists themselves, BothSides.antt.
+use mathlib.Core.Path.{_≡_, refl, sym, _∙_, subst}
 use mathlib.Core.Logic.{_↔_}
-use mathlib.Core.List.{List, _∷_, _++_, map, List·Memᴰ}
+use mathlib.Core.List.{List, _∷_, _++_, List·Memᴰ}
 use Prim.Native.Nat.{ℕ, _+_, _*_, _≤_, _<_, min}
 use native.Mathlib.Omega.{arith}
-use lib.ListN.{length, length-map, length-append}
+use lib.ListN.{length, length-map}
 use Rattle.table.specs.declared.Table.{Table}
 use Rattle.table.specs.Tables.{Legal, tableRows}
 use Rattle.rules.specs.Sequences.{All, factorial}
 use Rattle.rules.specs.Machine.{fresh}
-use Rattle.rules.specs.Reports.{EachCall, Quiet}
-use Rattle.rules.specs.Calls.{spent, handed, end, Call, mostBudget, handouts, movesUntil, isHandOut, isHandOutOrEnd}
+use Rattle.rules.specs.Calls.{handed, end, Call, handouts, movesUntil, isHandOutOrEnd}
 use Rattle.rules.proofs.Calls.{calls-front, calls-complete, calls-start, calls-gap}
 use Rattle.rules.proofs.Ends.{Enough, calls-end}
-use Rattle.rules.proofs.Reports.{calls-only18, calls-whole, calls-spent, each-unique, each-map, spent-exactly}
+use Rattle.rules.proofs.Reports.{calls-only18, calls-whole, calls-spent, each-unique}
 use Rattle.lists.specs.Picks.{candidates}
 use Rattle.lists.specs.Lists.{SideList, Side}
 use Rattle.lists.specs.OnTable.{handOut, callsOn}
@@ -37,16 +41,20 @@ module _ (t : Table) (l : Legal t) (s : Side) (f : Fair t s) where
     front = calls-front (candidates (s .rows)) (handOut s) (length (s .rows)) (candidate-tree (s .rows)) bs;
     complete = λ c m e. calls-complete (candidates (s .rows)) (handOut s) (length (s .rows)) (candidate-tree (s .rows)) bs c m e;
     start = omega (arith, f .counted, calls-start (candidates (s .rows)) (handOut s) (length (s .rows)) (candidate-tree (s .rows)) bs);
-    gap = λ sooner later c y e h. omega (arith, f .counted, calls-gap (candidates (s .rows)) (handOut s) (length (s .rows)) (candidate-tree (s .rows)) bs sooner later c e);
+    gap = λ sooner later c y e h.
+        omega (arith, f .counted, calls-gap (candidates (s .rows)) (handOut s) (length (s .rows)) (candidate-tree (s .rows)) bs sooner later c e);
   }
 
   -- called on with enough moves, and more often than (min G L)!, a run ends, and has handed out the whole list
-  pub run-ends : (bs : List ℕ) → All (Enough (s .count)) bs → factorial (min (t .gauges) (t .cases)) < length bs → (c : Call) × List·Memᴰ c (callsOn s bs) × (c .answer ≡ end)
+  pub run-ends : (bs : List ℕ) → All (Enough (s .count)) bs → factorial (min (t .gauges) (t .cases)) < length bs
+      → (c : Call) × List·Memᴰ c (callsOn s bs) × (c .answer ≡ end)
   run-ends bs enough h =
-      calls-end (candidates (s .rows)) (handOut s) (length (s .rows)) (candidate-tree (s .rows)) bs (subst (λ (n : ℕ). All (Enough n) bs) (sym (f .counted)) enough)
+      calls-end (candidates (s .rows)) (handOut s) (length (s .rows)) (candidate-tree (s .rows)) bs
+      (subst (λ (n : ℕ). All (Enough n) bs) (sym (f .counted)) enough)
       (omega (arith, length-map (picksInOrder (s .rows)) (handOut s), list-few t l (sideList t s f) (side-list t s f)))
 
-  pub run-lists-all : (xs : List (List ℕ)) → SideList (tableRows t) (s .key) xs → (bs : List ℕ) → All (Enough (s .count)) bs → factorial (min (t .gauges) (t .cases)) < length bs → handouts (callsOn s bs) ≡ xs
+  pub run-lists-all : (xs : List (List ℕ)) → SideList (tableRows t) (s .key) xs → (bs : List ℕ) → All (Enough (s .count)) bs
+      → factorial (min (t .gauges) (t .cases)) < length bs → handouts (callsOn s bs) ≡ xs
   run-lists-all xs a bs enough h =
       let c = run-ends bs enough h in
       let d = demand3 bs in
@@ -60,18 +68,9 @@ demand-unique t s bs cs ds a b = a .rules ∙ sym (b .rules)
 pub demand-each : (t : Table) (s : Side) (bs : List ℕ) (cs : List Call) → Demand t s bs cs → cs ≡ callsOn s bs
 demand-each t s bs cs d = each-unique (candidates (s .rows)) (handOut s) bs fresh cs (d .only18) (d .whole)
 
--- "spent" and the limits, as a user reads them
-pub demand-spent : (t : Table) (s : Side) (bs : List ℕ) (cs : List Call) → Demand t s bs cs
-    → EachCall (λ b x c. b ≤ mostBudget → (c .answer ≡ spent) ↔ ((c .moves ≡ b) × Quiet (candidates (s .rows)) b x)) bs fresh cs
-demand-spent t s bs cs d = each-map (λ b x c h l. spent-exactly (candidates (s .rows)) b x c (h l)) bs fresh cs (d .spent)
-
-pub demand-few : (t : Table) (s : Side) (bs : List ℕ) (cs : List Call) → Demand t s bs cs → length (handouts cs) ≤ factorial (min (t .gauges) (t .cases))
-demand-few t s bs cs d = omega (arith, d .few, ap length (d .front .1), length-append (handouts cs) (d .front .0))
-
-pub demand-start : (t : Table) (s : Side) (bs : List ℕ) (cs : List Call) → Demand t s bs cs → movesUntil isHandOut cs ≤ s .count + 1
-demand-start t s bs cs d = d .start
-
-pub demand-gap : (t : Table) (s : Side) (bs : List ℕ) (sooner later : List Call) (c : Call) (y : List ℕ) → Demand t s bs (sooner ++ (c ∷ later)) → c .answer ≡ handed y → movesUntil isHandOutOrEnd later ≤ 2 * s .count + 1
+-- the limit after a hand-out, as a user reads it off a list of calls
+pub demand-gap : (t : Table) (s : Side) (bs : List ℕ) (sooner later : List Call) (c : Call) (y : List ℕ) → Demand t s bs (sooner ++ (c ∷ later))
+    → c .answer ≡ handed y → movesUntil isHandOutOrEnd later ≤ 2 * s .count + 1
 demand-gap t s bs sooner later c y d h = d .gap sooner later c y refl h
 
 -- two runs of one table, of whichever sides, that have ended
@@ -89,5 +88,6 @@ one-set t s z us vs cs ds a b c m e d n g = record {
     ys : SideList (tableRows t) (z .key) (handouts ds)
     ys = rw (b .complete d n g) (b .listed)
 
-pub one-set-reads : (t : Table) (xs ys : List (List ℕ)) → OneSet t xs ys → ((x : List ℕ) → List·Memᴰ x xs ↔ List·Memᴰ x ys) × (length xs ≡ length ys) × (length ys ≤ factorial (min (t .gauges) (t .cases)))
+pub one-set-reads : (t : Table) (xs ys : List (List ℕ)) → OneSet t xs ys
+    → ((x : List ℕ) → List·Memᴰ x xs ↔ List·Memᴰ x ys) × (length xs ≡ length ys) × (length ys ≤ factorial (min (t .gauges) (t .cases)))
 one-set-reads t xs ys o = (o .same, o .equally-many, omega (arith, o .equally-many, o .few))

@@ -1,6 +1,9 @@
--- Growing a chain: each time the lowest candidate whose remainder contains every row of the chain that is not picked yet (`grow`). The
--- chain of these picks is the first maximal chain in gauge order that contains the given one (`grow-first`), and no other set is
--- (`first-unique`). The definition of first is `FirstContaining` in specs/Growing.antt; the greedy choice is here, since it only proves it.
+-- Growing a chain: each time the lowest candidate whose remainder contains every row of the chain that is not picked yet (`grow`). The greedy choice
+-- stands here and not in specs/, since it only proves the definition, `FirstContaining`.
+--
+-- In order: the choice, and its turns (`grow-end`, `grow-more`); there is one to make unless there is no candidate at all (`grow-pick`); every
+-- maximal chain that contains the given one starts with such a candidate, so with the same one or a later (`grows`); hence the chain of the choices
+-- is the first in gauge order (`grow-first`), and no other set is (`first-unique`).
 use mathlib.Core.Path.{_≡_, refl, sym, ap, _∙_, subst}
 use mathlib.Core.Logic.{_⊎_, inl, inr, _↔_}
 use mathlib.Core.Bool.{Bool, _&&_, _||_}
@@ -59,7 +62,8 @@ pub grow-end : (rows s q : List ℕ) (n : ℕ) → head? (select (fitting rows s
 unfolding growFrom
 grow-end rows s q n e = rw (e, growFrom)
 
-pub grow-more : (rows s q : List ℕ) (n g : ℕ) → head? (select (fitting rows s q) (length rows)) ≡ some g → growFrom rows s q (suc n) ≡ g ∷ growFrom rows s (q ++ (g ∷ [])) n
+pub grow-more : (rows s q : List ℕ) (n g : ℕ) → head? (select (fitting rows s q) (length rows)) ≡ some g
+    → growFrom rows s q (suc n) ≡ g ∷ growFrom rows s (q ++ (g ∷ [])) n
 unfolding growFrom
 grow-more rows s q n g e = rw (e, growFrom)
 
@@ -131,7 +135,7 @@ module _ (rows s : List ℕ) (w : Within rows s) where
       put f i (inl m) = or-l (isIn i q) (eqb (meet (row s i) (remainder rows q g)) (row s i)) m
       put f i (inr u) = or-r (isIn i q) (eqb (meet (row s i) (remainder rows q g)) (row s i)) (eq→eqb (meet (row s i) (remainder rows q g)) (row s i) (f i u))
 
-  pub fitting-spec : (q : List ℕ) (g : ℕ) → T (fitting rows s q g) ↔ (Cand rows q g × ((i : ℕ) → Un q i → row s i ⊆ remainder rows q g))
+  fitting-spec : (q : List ℕ) (g : ℕ) → T (fitting rows s q g) ↔ (Cand rows q g × ((i : ℕ) → Un q i → row s i ⊆ remainder rows q g))
   unfolding fitting
   fitting-spec q g = (
     λ t. (cand-of rows q g (and-l (candidate rows q g) (covers rows s q g) t), covers-spec q g .0 (and-r (candidate rows q g) (covers rows s q g) t)),
@@ -214,7 +218,9 @@ module _ (rows s : List ℕ) (w : Within rows s) where
     unfolding First
     grow-first = record {
       maximal = leaf-maximal rows (grow rows s) leaf;
-      contains = sub-within (chainOf rows (grow rows s)) s (w .size ∙ sym (length-chainOf rows (grow rows s))) (λ i. rw (row-chainOf rows (grow rows s) i) (grown .1 i (un-nil i)));
+      contains =
+          sub-within (chainOf rows (grow rows s)) s (w .size ∙ sym (length-chainOf rows (grow rows s)))
+          (λ i. rw (row-chainOf rows (grow rows s) i) (grown .1 i (un-nil i)));
       first = λ y m k. order y m (grown .2 (pickSeq y) (leaf-from rows (pickSeq y) (maximal-leaf rows y m)) (λ i u. inside y m k i));
     }
       where

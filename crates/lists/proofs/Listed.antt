@@ -1,6 +1,9 @@
--- The list theorem: the chains of the leaves, in the order of the leaves, are the gauge list of the rows (`gauge-list`). Before it, what
--- holds of every list of a table, whatever its key: no other list is (`list-unique`), and two have the same members. How many they are is bounded
--- by n! for n rows.
+-- The list theorem: the chains of the leaves, in the order of the leaves, are the gauge list of the rows (`gauge-list`).
+--
+-- In order: what holds of every list of a table, whatever its key: no other list is (`list-unique`), two have the same members (`lists-same`) and are
+-- equally long (`lists-length`); the theorem; no more leaves than n! for n rows (`leaves-few`).
+--
+-- Elsewhere: leaves and maximal chains, Maximal.antt; the case side, BothSides.antt.
 use mathlib.Core.Path.{_≡_, sym, subst}
 use mathlib.Core.Logic.{_↔_}
 use mathlib.Core.List.{List, [], _∷_, map, List·Memᴰ, Memᴰ·cast, Memᴰ·map, Memᴰ·of-map}
@@ -37,7 +40,8 @@ module _ {r : List ℕ} {key key′ : List ℕ → List ℕ} (xs ys : List (List
   lists-length = omega (arith, distinct-length xs ys (a .once) (λ x m. lists-same x .0 m), distinct-length ys xs (b .once) (λ x m. lists-same x .1 m))
 
 -- a list that ascends has no set twice
-pub listed : {r : List ℕ} {key : List ℕ → List ℕ} (xs : List (List ℕ)) → ((x : List ℕ) → List·Memᴰ x xs ↔ IsMaximal r x) → Sorted (λ (x y : List ℕ). Precedes (key x) (key y)) xs → SideList r key xs
+pub listed : {r : List ℕ} {key : List ℕ → List ℕ} (xs : List (List ℕ)) → ((x : List ℕ) → List·Memᴰ x xs ↔ IsMaximal r x)
+    → Sorted (λ (x y : List ℕ). Precedes (key x) (key y)) xs → SideList r key xs
 listed {r} {key} xs m a = record { members = m; once = Sorted-map (λ x y h e. before-irrefl (pickSeq (key y)) (rw e at h)) xs a; ascends = a }
 
 -- ---- the list of rows
@@ -62,7 +66,9 @@ module _ (r : List ℕ) where
 
   -- ---- the gauge list
   pub gauge-list : SideList r (λ x. x) chainsInOrder
-  gauge-list = listed chainsInOrder (λ x. (into x, onto x)) (chains-ascend picksInOrder (All-of (IsLeaf r) picksInOrder (λ p m. leaf-of p .0 m)) (leaves-ascend (candidates r) (length r) (candidate-tree r)))
+  gauge-list =
+      listed chainsInOrder (λ x. (into x, onto x))
+      (chains-ascend picksInOrder (All-of (IsLeaf r) picksInOrder (λ p m. leaf-of p .0 m)) (leaves-ascend (candidates r) (length r) (candidate-tree r)))
     where
       into : (x : List ℕ) → List·Memᴰ x chainsInOrder → IsMaximal r x
       into x m = let k = Memᴰ·of-map (chainOf r) picksInOrder m in subst (IsMaximal r) (k .2) (leaf-maximal r (k .0) (leaf-of (k .0) .0 (k .1)))

@@ -1,6 +1,8 @@
--- Leaves and maximal chains, one to one by pick sequence: the chain of a leaf is maximal (`leaf-maximal`); the pick sequence of a maximal
--- chain is a leaf (`maximal-leaf`), of which it is the chain (`maximal-chainOf`); and the pick sequence of a leaf's chain is the leaf
--- (`leaf-pickSeq`). Each is an induction over the picks, for rows given as a function.
+-- Leaves and maximal chains, one to one by pick sequence. Each theorem is an induction over the picks, for rows given as a function.
+--
+-- In order: rows that suit some picks (`Suits`); the chain of a leaf is maximal (`leaf-maximal`); rows that cannot be larger (`Top`), whose next pick
+-- is a candidate; the pick sequence of a maximal chain is a leaf (`maximal-leaf`), of which it is the chain (`maximal-chainOf`); and the pick sequence
+-- of a leaf's chain is the leaf (`leaf-pickSeq`).
 use mathlib.Core.Path.{_≡_, refl, sym, ap, _∙_}
 use mathlib.Core.Logic.{_⊎_, inl, inr}
 use mathlib.Core.Bool.{cond}
@@ -152,7 +154,8 @@ module _ (rows : List ℕ) where
     where
       largest : (t′ : ℕ → ℕ) → Suits (q ++ (g ∷ [])) t′ → ((i : ℕ) → Un (q ++ (g ∷ [])) i → t i ⊆ t′ i) → (i : ℕ) → Un (q ++ (g ∷ [])) i → t′ i ≡ t i
       largest t′ f k i u =
-          sym (put-miss t′ g (R q g) i (un-ne q g i u)) ∙ m .largest (put t′ g (R q g)) (put-suits q t′ g f) (λ j v. grow j v (ℕ-discrete j g)) i (un-left q g i u)
+          sym (put-miss t′ g (R q g) i (un-ne q g i u))
+          ∙ m .largest (put t′ g (R q g)) (put-suits q t′ g f) (λ j v. grow j v (ℕ-discrete j g)) i (un-left q g i u)
         where
           grow : (j : ℕ) → Un q j → Dec (j ≡ g) → t j ⊆ put t′ g (R q g) j
           grow j v (yes d) = rw (put-hit t′ g (R q g) j d) (s j v)
@@ -213,7 +216,8 @@ module _ (rows : List ℕ) where
       t : ℕ → ℕ
       t = row s
 
-      go : Dec (score s q g ≡ 0) → (Top (q ++ (g ∷ [])) (row s) → free (q ++ (g ∷ [])) (length rows) ≤ n → Follows s (q ++ (g ∷ [])) (takeFrom s (q ++ (g ∷ [])) n))
+      go : Dec (score s q g ≡ 0)
+          → (Top (q ++ (g ∷ [])) (row s) → free (q ++ (g ∷ [])) (length rows) ≤ n → Follows s (q ++ (g ∷ [])) (takeFrom s (q ++ (g ∷ [])) n))
           → Follows s q (takeFrom s q (suc n))
       go (yes e) ih =
           let k : candidates rows q ≡ [] = no-top q t m (all-empty s q e) in

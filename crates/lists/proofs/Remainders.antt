@@ -1,5 +1,6 @@
--- Remainders by inclusion: after one pick more, what is left of a row lies under what was left of it and under what was left of the
--- pick, and is the largest that does. Last, the remainder as the code computes it, by a mask of the left cases.
+-- Remainders by inclusion: after one pick more, what is left of a row lies under what was left of it (`step-left`) and under what was left of the
+-- pick (`step-right`), and is the largest that does (`step-glb`). Last, a row past the table (`remainder-past`), and the remainder as the code
+-- computes it, by a mask of the left cases (`remainder-left`).
 use mathlib.Core.Path.{_≡_, refl}
 use mathlib.Core.List.{List, [], _∷_, _++_}
 use Prim.Native.Nat.{ℕ, _≤_}
@@ -11,7 +12,7 @@ use Rattle.table.proofs.Places.{row-past}
 use Rattle.lists.specs.Picks.{common, remainder}
 
 module _ (rows : List ℕ) where
-  pub common-sub : (q : List ℕ) (x : ℕ) → common rows q x ⊆ x
+  common-sub : (q : List ℕ) (x : ℕ) → common rows q x ⊆ x
   unfolding common
   common-sub [] x = sub-refl x
   common-sub (g ∷ q) x = sub-trans (common rows q (meet x (row rows g))) (meet x (row rows g)) x (common-sub q (meet x (row rows g))) (meet-left x (row rows g))
@@ -22,7 +23,7 @@ module _ (rows : List ℕ) where
   common-snoc (h ∷ q) g x = common-snoc q g (meet x (row rows h))
 
   -- z is within what is left, so it is within what is left of each y above it
-  pub common-into : (q : List ℕ) (z x y : ℕ) → z ⊆ common rows q x → z ⊆ y → z ⊆ common rows q y
+  common-into : (q : List ℕ) (z x y : ℕ) → z ⊆ common rows q x → z ⊆ y → z ⊆ common rows q y
   unfolding common
   common-into [] z x y h k = k
   common-into (g ∷ q) z x y h k =

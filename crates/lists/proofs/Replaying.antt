@@ -1,14 +1,14 @@
 -- Picks handed in, judged in one pass. Behind the picks q stand three numbers: the left cases l, the left cases b before the last picks that
 -- left the same, and the place k behind the last pick. `Clear` says that no unpicked gauge stands against the picks: one that has all left
 -- cases left the same as the last picks, and stands behind the last. `Stands`: the picks can have been made exactly when all is clear.
-use mathlib.Core.Path.{_≡_, refl, sym, ap, _∙_, subst}
+use mathlib.Core.Path.{_≡_, refl, sym, ap, _∙_}
 use mathlib.Core.List.{List, [], _∷_, _++_}
 use Prim.Native.Nat.{ℕ, suc, _≤_, _<_}
 use native.Mathlib.Decide.{ℕ-discrete, decLt}
 use native.Mathlib.Omega.{arith}
 use lib.ListN.{length}
 use Rattle.sets.specs.Sets.{meet, _⊆_}
-use Rattle.sets.proofs.Order.{sub-refl, sub-trans, sub-antisym, meet-comm, meet-left, meet-right, meet-glb}
+use Rattle.sets.proofs.Order.{sub-refl, sub-trans, meet-comm, meet-left, meet-right, meet-glb}
 use Rattle.table.specs.Pairs.{row}
 use Rattle.rules.specs.private.Fitting.{Valid}
 use Rattle.rules.proofs.Trees.{valid-up, valid-kid, valid-snoc}
@@ -78,13 +78,17 @@ module _ (rows : List ℕ) (full : ℕ) (inside : (i : ℕ) → row rows i ⊆ f
     split h u f n = split-by h u f n (ℕ-discrete h g)
 
     -- all is clear behind the pick, so it is a candidate
-    cand-clear : (b′ : ℕ) → g < length rows → Un q g → ¬ (own ≡ 0) → ((h : ℕ) → own ⊆ row rows h → meet (row rows h) b′ ≡ own → meet (row rows h) l ≡ own) → Clear (q ++ (g ∷ [])) b′ own (suc g) → Cand rows q g
+    cand-clear : (b′ : ℕ) → g < length rows → Un q g → ¬ (own ≡ 0) → ((h : ℕ) → own ⊆ row rows h → meet (row rows h) b′ ≡ own → meet (row rows h) l ≡ own)
+        → Clear (q ++ (g ∷ [])) b′ own (suc g) → Cand rows q g
     cand-clear b′ below fresh filled same c = record {
       below = below;
       fresh = fresh;
       filled = λ e. filled (sym own-rem ∙ e);
-      top = λ h u o. split h u (λ e. ap (remainder rows q) e) (λ v. let w : own ⊆ row rows h = over h (rw (own-rem) at o) in rem h ∙ same h w (c h v w .0) ∙ sym own-rem);
-      first = λ h u y e. split h u (λ d. omega arith) (λ v. let z : suc g ≤ h = c h v (over h (rw (← own-rem, ← e) (sub-refl (remainder rows q h)))) .1 in omega arith);
+      top = λ h u o.
+          split h u (λ e. ap (remainder rows q) e)
+          (λ v. let w : own ⊆ row rows h = over h (rw (own-rem) at o) in rem h ∙ same h w (c h v w .0) ∙ sym own-rem);
+      first = λ h u y e.
+          split h u (λ d. omega arith) (λ v. let z : suc g ≤ h = c h v (over h (rw (← own-rem, ← e) (sub-refl (remainder rows q h)))) .1 in omega arith);
     }
 
     -- the pick has all left cases: it must have left the same as the last picks, and stand behind the last
@@ -102,7 +106,9 @@ module _ (rows : List ℕ) (full : ℕ) (inside : (i : ℕ) → row rows i ⊆ f
           s .forth (valid-up (candidates rows) q g v) h (un-left q g h u) (rw e at o) .0 ∙ sym e,
           behind (mem-candidates rows q g .0 (valid-kid (candidates rows) q g v)) h u o .1,
         );
-        back = λ c. valid-snoc (candidates rows) q g (s .back (λ h u o. split h u (λ d. rw d (m, y)) (λ v. (c h v (rw e o) .0 ∙ e, let z : suc g ≤ h = c h v (rw e o) .1 in omega arith))))
+        back = λ c.
+            valid-snoc (candidates rows) q g
+            (s .back (λ h u o. split h u (λ d. rw d (m, y)) (λ v. (c h v (rw e o) .0 ∙ e, let z : suc g ≤ h = c h v (rw e o) .1 in omega arith))))
             (mem-candidates rows q g .1 (cand-clear b below fresh filled (λ h o z. meet-comm (row rows h) l ∙ rw e at o ∙ sym e) c));
       }
 
@@ -116,7 +122,3 @@ module _ (rows : List ℕ) (full : ℕ) (inside : (i : ℕ) → row rows i ⊆ f
           (λ v. absurd (ne (sym (c h v (sub-trans own l (row rows h) own-left o) .0) ∙ meet-comm (row rows h) l ∙ o)))))
           (mem-candidates rows q g .1 (cand-clear l below fresh filled (λ h o z. z) c));
     }
-
-  -- nothing is left of any unpicked gauge: all is clear
-  pub clear-handed : (q : List ℕ) (b l k : ℕ) → ¬ (l ≡ 0) → ((h : ℕ) → Un q h → meet (row rows h) l ≡ 0) → Clear q b l k
-  clear-handed q b l k ne f h u o = absurd (ne (sym o ∙ meet-comm l (row rows h) ∙ f h u))

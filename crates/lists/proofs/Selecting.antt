@@ -1,6 +1,8 @@
--- The numbers below a bound at which a test holds, as a list: which they are, that they ascend, that the first is the one that a search
--- from below finds, which is how code finds the lowest candidate, and that there are no more of them than unpicked indices where the
--- test holds of unpicked ones only.
+-- The numbers below a bound at which a test holds, as a list.
+--
+-- In order: which they are (`select-nil`, `mem-select`); that they ascend (`select-ascends`); that the first is the one that a search from below finds,
+-- which is how code finds the lowest candidate (`head-select`, `above-select`); and that there are no more of them than unpicked indices where the
+-- test holds of unpicked ones only (`select-free`).
 use mathlib.Core.Path.{_≡_, refl, ap, _∙_, subst}
 use mathlib.Core.Logic.{_⊎_, inl, inr, _↔_}
 use mathlib.Core.Bool.{Bool, true, false, _&&_, cond}
@@ -43,7 +45,8 @@ unfolding select
 mem-select f zero i = (λ m. absurd (List·Memᴰ·not-nil m), λ h. absurd (not-suc-le-zero (h .0)))
 mem-select f (suc n) i = go (f n) refl (mem-select f n i) (ℕ-discrete i n)
   where
-    go : (b : Bool) → f n ≡ b → List·Memᴰ i (select f n) ↔ ((i < n) × T (f i)) → Dec (i ≡ n) → List·Memᴰ i (cond b (select f n ++ (n ∷ [])) (select f n)) ↔ ((i < suc n) × T (f i))
+    go : (b : Bool) → f n ≡ b → List·Memᴰ i (select f n) ↔ ((i < n) × T (f i)) → Dec (i ≡ n)
+        → List·Memᴰ i (cond b (select f n ++ (n ∷ [])) (select f n)) ↔ ((i < suc n) × T (f i))
     go true d r (yes e) = (λ m. (omega arith, rw (e, d) tt), λ h. Memᴰ·append-right (select f n) (List·Memᴰ·head e))
     go true d r (no e) = (λ m. back (List·Memᴰ·append-cases (select f n) m), λ h. Memᴰ·append-left (n ∷ []) (r .1 (omega (arith, h .0), h .1)))
       where
@@ -59,7 +62,9 @@ select-ascends f zero = tt
 select-ascends f (suc n) = go (f n) (select-ascends f n)
   where
     go : (b : Bool) → Ascending (select f n) → Ascending (cond b (select f n ++ (n ∷ [])) (select f n))
-    go true h = Sorted-append _<_ (select f n) (n ∷ []) h (tt, tt) (All-of (λ (a : ℕ). All (λ (x : ℕ). a < x) (n ∷ [])) (select f n) (λ a m. (mem-select f n a .0 m .0, tt)))
+    go true h =
+        Sorted-append _<_ (select f n) (n ∷ []) h (tt, tt)
+        (All-of (λ (a : ℕ). All (λ (x : ℕ). a < x) (n ∷ [])) (select f n) (λ a m. (mem-select f n a .0 m .0, tt)))
     go false h = h
 
 -- ---- the lowest, as a search finds it: of all of them, and of those above a number

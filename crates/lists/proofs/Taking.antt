@@ -1,5 +1,8 @@
--- How a pick sequence is taken from a set: the best score is unique, it goes to an index not taken with a largest row, the lowest of
--- those, and none has a score exactly where every row not taken is empty. Tables and candidates are not here.
+-- How a pick sequence is taken from a set. Tables and candidates are not here.
+--
+-- In order: the best of some scores is one of them, the greatest, and the lowest of those (`best-in`, `best-max`, `best-first`); scores of rows
+-- (`score-un`, `score-in`); one turn (`next-is`, `take-none`, `take-stop`, `take-more`); no score exactly where every row not taken is empty
+-- (`all-empty`); what is taken was not taken, has a row that is not empty, a largest one, the lowest of those (`next-in` to `next-first`).
 use mathlib.Core.Path.{_≡_, refl, ap}
 use mathlib.Core.Logic.{_⊎_, inl, inr}
 use mathlib.Core.List.{List, [], _∷_, _++_}
@@ -66,7 +69,7 @@ module _ (f : ℕ → ℕ) where
       go ih (yes l) = rw (best-new n l) (omega (arith, best-max n j (rw (best-new n l) at h)))
       go ih (no l) = rw (best-old n l) (ih (rw (best-old n l) at h))
 
-  pub best-unique : (n g : ℕ) → g < n → ((j : ℕ) → j < n → f j ≤ f g) → ((j : ℕ) → j < g → f j < f g) → best f n ≡ g
+  best-unique : (n g : ℕ) → g < n → ((j : ℕ) → j < n → f j ≤ f g) → ((j : ℕ) → j < g → f j < f g) → best f n ≡ g
   best-unique n g h m l = go (decLt (best f n) g) (decLt g (best f n))
     where
       go : Dec (best f n < g) → Dec (g < best f n) → best f n ≡ g

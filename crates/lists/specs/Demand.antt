@@ -34,7 +34,8 @@ pub record Demand (t : Table) (s : Side) (bs : List ℕ) (cs : List Call) : Type
   -- the moves from the start up to and with the first hand-out, or so far
   pub start : movesUntil isHandOut cs ≤ s .count + 1
   -- the moves after a hand-out up to and with the next hand-out or the first end, or so far
-  pub gap : (sooner later : List Call) (c : Call) (y : List ℕ) → cs ≡ sooner ++ (c ∷ later) → c .answer ≡ handed y → movesUntil isHandOutOrEnd later ≤ 2 * s .count + 1
+  pub gap : (sooner later : List Call) (c : Call) (y : List ℕ) → cs ≡ sooner ++ (c ∷ later) → c .answer ≡ handed y
+      → movesUntil isHandOutOrEnd later ≤ 2 * s .count + 1
 
 -- The runs of the two sides, each called on to its end, hand out xs and ys: one set of at most (min G L)! members.
 pub record OneSet (t : Table) (xs ys : List (List ℕ)) : Type 0 where

@@ -1,6 +1,9 @@
 -- The gauge list and the case list (01: "The **gauge list** of a table is all its ladders as sets of pairs, each once, in the order of the
--- gauge run; the **case list** likewise, in the order of the case run. Neither looks at a run."). A ladder of 01 is a maximal chain. That
--- each list exists and is unique is proved in proofs/BothSides.antt.
+-- gauge run; the **case list** likewise, in the order of the case run. Neither looks at a run."). A ladder of 01 is a maximal chain.
+--
+-- In order: a list of the table by a key (`SideList`); a side of the table; the two sides; the two lists.
+--
+-- Elsewhere: that each list exists, `lists-exist` in proofs/BothSides.antt, and is unique, `list-unique` in proofs/Listed.antt.
 use mathlib.Core.Logic.{_↔_, _≢_}
 use mathlib.Core.List.{List, List·Memᴰ}
 use Prim.Native.Nat.{ℕ}

@@ -1,5 +1,9 @@
--- One small tree: one pick, 0 or 1, and then a leaf, so n is 1. Its calls attain the limits n + 1 and 2 n + 1 of crate `lists`, whatever the
--- budgets, a refused one among them: the moves that are counted are all the moves. And n! of a small n.
+-- One small tree: one pick, 0 or 1, and then a leaf, so n is 1. It pins the counts of moves: its calls attain the limits n + 1 and 2 n + 1 of demand
+-- 3 (`start-attained`, `gap-attained`), whatever the budgets, a refused one among them, so the moves that are counted are all the moves; an end
+-- closes the window after a hand-out and not that of the start (`end-closes`, `end-counts`); each call goes on from the last (`all-handed`). And 3!
+-- is 6 (`factorial-3`).
+--
+-- Elsewhere: the limits attained by tables, `limits-attained` in crate `known`.
 use mathlib.Core.Path.{_≡_, refl}
 use mathlib.Core.List.{List, [], _∷_}
 use Prim.Native.Nat.{ℕ}

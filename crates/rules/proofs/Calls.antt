@@ -1,6 +1,11 @@
--- The laws of one move and of one call, and what a list of calls hands out, in how many moves. A move that gives nothing lowers the
--- cost of the state, so a cost bounds the moves to the next hand-out or end; the sets handed out, followed by those still to come, are
--- those of the leaves in order. What a call reports of its moves is in Reports.antt.
+-- The laws of one move and of one call, and what a list of calls hands out, in how many moves.
+--
+-- In order: the cost of a state, which a move that gives nothing lowers, so that it bounds the moves to the next hand-out or end (`cost`, `cost-lap`);
+-- the law of a move and of a call (`call-law`), a refused one apart (`call-above`, `call-within`); the sets handed out, followed by those still to
+-- come, are those of the leaves in order (`calls-front`, `calls-complete`); the two limits (`calls-start`, `calls-gap`), and that no end comes before
+-- the first hand-out (`start-same`).
+--
+-- Elsewhere: what a call reports of its moves, Reports.antt; that calls come to an end, Ends.antt.
 use mathlib.Core.Path.{_≡_, refl, ap, sym, _∙_}
 use mathlib.Core.Logic.{_⊎_, inl, inr}
 use mathlib.Core.Bool.{Bool, true, false, cond}
@@ -37,7 +42,7 @@ Paid spent k c d = k + c ≤ d
 Paid (handed x) k c d = k ≤ d
 Paid end k c d = k ≤ d
 
-abbrev pub Closed : Reply → State → Type 0
+abbrev Closed : Reply → State → Type 0
 Closed (refused j) s = Unit {0}
 Closed spent s = Unit {0}
 Closed (handed x) s = Unit {0}
@@ -71,16 +76,22 @@ module _ (kids : List ℕ → List ℕ) (n : ℕ) (t : Tree kids n) where
   cost-lap p (Back g) h = omega (arith, t .depth p h.0)
   cost-lap p Ended h = omega arith
 
-  take-costs : (p : List ℕ) → Costs (takeBack (cutLast p) .given) (cost n (takeBack (cutLast p) .next .picks) (takeBack (cutLast p) .next .phase)) (suc (n + length p))
-  take-costs p = by-last (λ (p : List ℕ). Costs (takeBack (cutLast p) .given) (cost n (takeBack (cutLast p) .next .picks) (takeBack (cutLast p) .next .phase)) (suc (n + length p)))
+  take-costs : (p : List ℕ)
+      → Costs (takeBack (cutLast p) .given) (cost n (takeBack (cutLast p) .next .picks) (takeBack (cutLast p) .next .phase)) (suc (n + length p))
+  take-costs p =
+      by-last
+      (λ (p : List ℕ).
+      Costs (takeBack (cutLast p) .given) (cost n (takeBack (cutLast p) .next .picks) (takeBack (cutLast p) .next .phase)) (suc (n + length p)))
       tt
       (λ p g _. rw (cut-snoc p g) (omega (arith, length-snoc p g)))
       p
 
-  move-costs : (p : List ℕ) (f : Phase) → Fits kids p f → Costs (step kids p f .given) (cost n (step kids p f .next .picks) (step kids p f .next .phase)) (cost n p f)
+  move-costs : (p : List ℕ) (f : Phase) → Fits kids p f
+      → Costs (step kids p f .given) (cost n (step kids p f .next .picks) (step kids p f .next .phase)) (cost n p f)
   move-costs p Down v = go (kids p) refl
     where
-      go : (k : List ℕ) → kids p ≡ k → Costs (down p (head? k) .given) (cost n (down p (head? k) .next .picks) (down p (head? k) .next .phase)) (suc (n - length p))
+      go : (k : List ℕ) → kids p ≡ k
+          → Costs (down p (head? k) .given) (cost n (down p (head? k) .next .picks) (down p (head? k) .next .phase)) (suc (n - length p))
       go [] e = tt
       go (g ∷ gs) e = omega (arith, length-snoc p g, kid-fits kids n t p g v (rw e (List·Memᴰ·head refl)))
   move-costs p Handed h = take-costs p
@@ -149,8 +160,11 @@ module _ (kids : List ℕ → List ℕ) (out : List ℕ → List ℕ) where
   carry-down zero p = (p, refl)
   carry-down (suc b) p = go (head? (kids p)) (λ q. carry-down b q)
     where
+      after : Option ℕ → Call
+      after o = proceed kids out (carry kids out b) (down p o .given) (down p o .next)
+
       go : (o : Option ℕ) → ((q : List ℕ) → StaysDown (carry kids out b (at q Down) .answer) (carry kids out b (at q Down) .next))
-          → StaysDown (proceed kids out (carry kids out b) (down p o .given) (down p o .next) .answer) (proceed kids out (carry kids out b) (down p o .given) (down p o .next) .next)
+          → StaysDown (after o .answer) (after o .next)
       go (some g) on = on (p ++ (g ∷ []))
       go none on = tt
 
@@ -158,7 +172,10 @@ module _ (kids : List ℕ → List ℕ) (out : List ℕ → List ℕ) where
   unfolding call
   call-down b p = go (ltb mostBudget b)
     where
-      go : (x : Bool) → StaysDown (cond x (result (refused 18) 0 (at p Down)) (carry kids out b (at p Down)) .answer) (cond x (result (refused 18) 0 (at p Down)) (carry kids out b (at p Down)) .next)
+      answers : Bool → Call
+      answers x = cond x (result (refused 18) 0 (at p Down)) (carry kids out b (at p Down))
+
+      go : (x : Bool) → StaysDown (answers x .answer) (answers x .next)
       go true = (p, refl)
       go false = carry-down b p
 
@@ -179,10 +196,16 @@ module _ (kids : List ℕ → List ℕ) (out : List ℕ → List ℕ) (n : ℕ) 
   carry-law zero s h = record { fits = h; keeps = refl; paid = omega arith; closed = tt }
   carry-law (suc b) s h = go (λ (s′ : State). carry-law b s′) (move kids s .given) (move kids s .next) (move-law kids n t s h)
     where
-      go : ((s′ : State) → Fits kids (s′ .picks) (s′ .phase) → CallLaw kids out n s′ (carry kids out b s′)) → (g : Given) (s′ : State) → MoveLaw kids n s g s′ → CallLaw kids out n s (proceed kids out (carry kids out b) g s′)
+      go : ((s′ : State) → Fits kids (s′ .picks) (s′ .phase) → CallLaw kids out n s′ (carry kids out b s′)) → (g : Given) (s′ : State) → MoveLaw kids n s g s′
+          → CallLaw kids out n s (proceed kids out (carry kids out b) g s′)
       go more nothing s′ l =
           let m = more s′ (l .fits) in
-          record { fits = m .fits; keeps = m .keeps ∙ ap (map out) (l .keeps); paid = paid-one (carry kids out b s′ .answer) (carry kids out b s′ .moves) _ _ _ (l .costs) (m .paid); closed = m .closed }
+          record {
+            fits = m .fits;
+            keeps = m .keeps ∙ ap (map out) (l .keeps);
+            paid = paid-one (carry kids out b s′ .answer) (carry kids out b s′ .moves) _ _ _ (l .costs) (m .paid);
+            closed = m .closed;
+          }
       go more (hands p) s′ l = record { fits = l .fits; keeps = ap (map out) (l .keeps); paid = omega (arith, cost-pos n (s .picks) (s .phase)); closed = tt }
       go more ends s′ l = record { fits = l .fits; keeps = ap (map out) (l .keeps); paid = omega (arith, cost-pos n (s .picks) (s .phase)); closed = l .closes }
 
@@ -195,11 +218,13 @@ module _ (kids : List ℕ → List ℕ) (out : List ℕ → List ℕ) (n : ℕ) 
       go false = carry-law b s h
 
   -- ---- a list of calls: what it hands out, and what is then still to come
-  calls-keep : (bs : List ℕ) (s : State) → Fits kids (s .picks) (s .phase) → handouts (callsFrom kids out bs s) ++ ahead kids out n (stateAfter kids out bs s) ≡ ahead kids out n s
+  calls-keep : (bs : List ℕ) (s : State) → Fits kids (s .picks) (s .phase)
+      → handouts (callsFrom kids out bs s) ++ ahead kids out n (stateAfter kids out bs s) ≡ ahead kids out n s
   calls-keep [] s h = refl
   calls-keep (b ∷ bs) s h =
       let l = call-law b s h in
-      answered-append (call kids out b s .answer) _ _ ∙ (ap (answered (call kids out b s .answer)) (calls-keep bs (call kids out b s .next) (l .fits)) ∙ l .keeps)
+      answered-append (call kids out b s .answer) _ _
+      ∙ (ap (answered (call kids out b s .answer)) (calls-keep bs (call kids out b s .next) (l .fits)) ∙ l .keeps)
 
   pub ahead-fresh : ahead kids out n fresh ≡ map out (leaves kids n [])
   ahead-fresh = simp (append-nil, sub-zero)
@@ -218,12 +243,14 @@ module _ (kids : List ℕ → List ℕ) (out : List ℕ → List ℕ) (n : ℕ) 
       again false zero = refl
       again false (suc b) = refl
 
-  end-after : (bs : List ℕ) (s : State) → Fits kids (s .picks) (s .phase) → (c : Call) → List·Memᴰ c (callsFrom kids out bs s) → c .answer ≡ end → stateAfter kids out bs s ≡ at [] Ended
+  end-after : (bs : List ℕ) (s : State) → Fits kids (s .picks) (s .phase) → (c : Call) → List·Memᴰ c (callsFrom kids out bs s) → c .answer ≡ end
+      → stateAfter kids out bs s ≡ at [] Ended
   end-after [] s h c m e = absurd (List·Memᴰ·not-nil m)
   end-after (b ∷ bs) s h c m e = go (λ k. end-after bs (call kids out b s .next) (call-law b s h .fits) c k e) (List·Memᴰ·cases-cons m)
     where
       go : (List·Memᴰ c (callsFrom kids out bs (call kids out b s .next)) → stateAfter kids out bs (call kids out b s .next) ≡ at [] Ended)
-          → (c ≡ call kids out b s) ⊎ List·Memᴰ c (callsFrom kids out bs (call kids out b s .next)) → stateAfter kids out bs (call kids out b s .next) ≡ at [] Ended
+          → (c ≡ call kids out b s) ⊎ List·Memᴰ c (callsFrom kids out bs (call kids out b s .next))
+          → stateAfter kids out bs (call kids out b s .next) ≡ at [] Ended
       go on (inl q) =
           let a : call kids out b s .answer ≡ end = sym (ap (λ (x : Call). x .answer) q) ∙ e in
           let z : call kids out b s .next ≡ at [] Ended = rw a at (call-law b s h .closed) in
@@ -250,21 +277,28 @@ module _ (kids : List ℕ → List ℕ) (out : List ℕ → List ℕ) (n : ℕ) 
       go end k c d more p m = omega arith
 
   -- from the start no end comes before the first hand-out
-  start-same : (bs : List ℕ) (p : List ℕ) → movesUntil isHandOut (callsFrom kids out bs (at p Down)) ≡ movesUntil isHandOutOrEnd (callsFrom kids out bs (at p Down))
+  start-same : (bs : List ℕ) (p : List ℕ)
+      → movesUntil isHandOut (callsFrom kids out bs (at p Down)) ≡ movesUntil isHandOutOrEnd (callsFrom kids out bs (at p Down))
   start-same [] p = refl
   start-same (b ∷ bs) p = go (call kids out b (at p Down) .answer) (call kids out b (at p Down) .next) (call-down kids out b p) (start-same bs)
     where
-      go : (a : Reply) (s : State) → StaysDown a s → ((q : List ℕ) → movesUntil isHandOut (callsFrom kids out bs (at q Down)) ≡ movesUntil isHandOutOrEnd (callsFrom kids out bs (at q Down)))
-          → call kids out b (at p Down) .moves + cond (isHandOut a) 0 (movesUntil isHandOut (callsFrom kids out bs s)) ≡ call kids out b (at p Down) .moves + cond (isHandOutOrEnd a) 0 (movesUntil isHandOutOrEnd (callsFrom kids out bs s))
-      go (refused j) s d on = rw (d .1) (ap (λ (m : ℕ). call kids out b (at p Down) .moves + m) (on (d .0)))
-      go spent s d on = rw (d .1) (ap (λ (m : ℕ). call kids out b (at p Down) .moves + m) (on (d .0)))
+      first : ℕ
+      first = call kids out b (at p Down) .moves
+
+      go : (a : Reply) (s : State) → StaysDown a s
+          → ((q : List ℕ) → movesUntil isHandOut (callsFrom kids out bs (at q Down)) ≡ movesUntil isHandOutOrEnd (callsFrom kids out bs (at q Down)))
+          → first + cond (isHandOut a) 0 (movesUntil isHandOut (callsFrom kids out bs s))
+          ≡ first + cond (isHandOutOrEnd a) 0 (movesUntil isHandOutOrEnd (callsFrom kids out bs s))
+      go (refused j) s d on = rw (d .1) (ap (λ (m : ℕ). first + m) (on (d .0)))
+      go spent s d on = rw (d .1) (ap (λ (m : ℕ). first + m) (on (d .0)))
       go (handed x) s d on = refl
       go end s d on = absurd d
 
   pub calls-start : (bs : List ℕ) → movesUntil isHandOut (calls kids out bs) ≤ n + 1
   calls-start bs = rw (start-same bs []) (omega (arith, moves-cost bs fresh tt))
 
-  gap-from : (bs : List ℕ) (s : State) → Fits kids (s .picks) (s .phase) → (sooner later : List Call) (c : Call) → callsFrom kids out bs s ≡ sooner ++ (c ∷ later) → movesUntil isHandOutOrEnd later ≤ 2 * n + 1
+  gap-from : (bs : List ℕ) (s : State) → Fits kids (s .picks) (s .phase) → (sooner later : List Call) (c : Call)
+      → callsFrom kids out bs s ≡ sooner ++ (c ∷ later) → movesUntil isHandOutOrEnd later ≤ 2 * n + 1
   gap-from [] s h [] later c e = let z : _≡_ {A = ℕ} 0 1 = cc in absurd (omega arith)
   gap-from [] s h (d ∷ ds) later c e = let z : _≡_ {A = ℕ} 0 1 = cc in absurd (omega arith)
   gap-from (b ∷ bs) s h [] later c e =

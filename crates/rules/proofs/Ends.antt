@@ -19,18 +19,25 @@ pub record Enough (n b : ℕ) : Type 0 where
   pub low : 2 * n + 1 ≤ b
   pub high : b ≤ mostBudget
 
+-- one of these calls answered end
+abbrev pub Ended : List Call → Type 0
+Ended cs = (c : Call) × List·Memᴰ c cs × (c .answer ≡ end)
+
 module _ (kids : List ℕ → List ℕ) (out : List ℕ → List ℕ) (n : ℕ) (t : Tree kids n) where
   call-enough : (b : ℕ) (s : State) → Fits kids (s .picks) (s .phase) → Enough n b → call kids out b s .answer ≢ spent
   call-enough b s h l e =
-      let p : Paid spent (call kids out b s .moves) (cost n (call kids out b s .next .picks) (call kids out b s .next .phase)) (cost n (s .picks) (s .phase)) = rw e at (call-law kids out n t b s h .paid) in
-      omega (arith, l .low, call-spent kids out b s (l .high) .only e .0, cost-lap kids n t (s .picks) (s .phase) h, cost-pos n (call kids out b s .next .picks) (call kids out b s .next .phase))
+      let c : Call = call kids out b s in
+      let p : Paid spent (c .moves) (cost n (c .next .picks) (c .next .phase)) (cost n (s .picks) (s .phase)) = rw e at (call-law kids out n t b s h .paid) in
+      let spent-all : c .moves ≡ b = call-spent kids out b s (l .high) .only e .0 in
+      omega (arith, l .low, spent-all, cost-lap kids n t (s .picks) (s .phase) h, cost-pos n (c .next .picks) (c .next .phase))
 
-  pub end-from : (bs : List ℕ) (s : State) → Fits kids (s .picks) (s .phase) → All (Enough n) bs → length (ahead kids out n s) < length bs → (c : Call) × List·Memᴰ c (callsFrom kids out bs s) × (c .answer ≡ end)
+  pub end-from : (bs : List ℕ) (s : State) → Fits kids (s .picks) (s .phase) → All (Enough n) bs → length (ahead kids out n s) < length bs
+      → Ended (callsFrom kids out bs s)
   end-from [] s h a l = absurd (omega arith)
   end-from (b ∷ bs) s h a l = go (end-from bs (call kids out b s .next) (call-law kids out n t b s h .fits) a.1) (call kids out b s .answer) refl
     where
-      go : (length (ahead kids out n (call kids out b s .next)) < length bs → (c : Call) × List·Memᴰ c (callsFrom kids out bs (call kids out b s .next)) × (c .answer ≡ end))
-          → (x : Reply) → call kids out b s .answer ≡ x → (c : Call) × List·Memᴰ c (callsFrom kids out (b ∷ bs) s) × (c .answer ≡ end)
+      go : (length (ahead kids out n (call kids out b s .next)) < length bs → Ended (callsFrom kids out bs (call kids out b s .next)))
+          → (x : Reply) → call kids out b s .answer ≡ x → Ended (callsFrom kids out (b ∷ bs) s)
       go on (refused k) e = absurd (call-only18 kids out b s .else (a .0 .high) k e)
       go on spent e = absurd (call-enough b s h a.0 e)
       go on (handed p) e =
@@ -40,7 +47,7 @@ module _ (kids : List ℕ → List ℕ) (out : List ℕ → List ℕ) (n : ℕ) 
       go on end e = (call kids out b s, List·Memᴰ·head refl, e)
 
   -- with enough calls, one ends, and the sets handed out are those of all the leaves
-  pub calls-end : (bs : List ℕ) → All (Enough n) bs → length (leaves kids n []) < length bs → (c : Call) × List·Memᴰ c (calls kids out bs) × (c .answer ≡ end)
+  pub calls-end : (bs : List ℕ) → All (Enough n) bs → length (leaves kids n []) < length bs → Ended (calls kids out bs)
   calls-end bs a l = end-from bs fresh tt a (omega (arith, ap length (ahead-fresh kids out n t), length-map (leaves kids n []) out))
 
   pub calls-all : (bs : List ℕ) → All (Enough n) bs → length (leaves kids n []) < length bs → handouts (calls kids out bs) ≡ map out (leaves kids n [])

@@ -1,5 +1,7 @@
--- The leaves of a tree: they ascend number by number, they are the valid sequences without kids, and there are at most n! of them where
--- each step leaves one number fewer to choose from. Nothing of moves is here.
+-- The leaves of a tree: they ascend number by number (`leaves-ascend`), they are the valid sequences without kids (`leaf-iff`), and there are at most
+-- n! of them where each step leaves one number fewer to choose from (`leaf-count`).
+--
+-- In order: laws of `each` and `branch`, for any leaves below; the three theorems. Nothing of moves is here.
 use mathlib.Core.Path.{_≡_, refl, sym, _∙_}
 use mathlib.Core.Logic.{_↔_}
 use mathlib.Core.List.{List, [], _∷_, _++_, append-assoc, append-nil, List·Memᴰ, List·Memᴰ·head, List·Memᴰ·tail, Memᴰ·append-left, Memᴰ·append-right}
@@ -20,32 +22,47 @@ each-all : (P : List ℕ → Type 0) (f : List ℕ → List (List ℕ)) (p l : L
 each-all P f p [] h = tt
 each-all P f p (g ∷ gs) h = All-append P (f (p ++ (g ∷ []))) (each f p gs) (h g (List·Memᴰ·head refl)) (each-all P f p gs (λ x m. h x (List·Memᴰ·tail m)))
 
-branch-all : (P : List ℕ → Type 0) (f : List ℕ → List (List ℕ)) (p k : List ℕ) → (k ≡ [] → P p) → ((g : ℕ) → List·Memᴰ g k → All P (f (p ++ (g ∷ [])))) → All P (branch f p k)
+branch-all : (P : List ℕ → Type 0) (f : List ℕ → List (List ℕ)) (p k : List ℕ) → (k ≡ [] → P p) → ((g : ℕ) → List·Memᴰ g k → All P (f (p ++ (g ∷ []))))
+    → All P (branch f p k)
 branch-all P f p [] z h = (z refl, tt)
 branch-all P f p (g ∷ gs) z h = each-all P f p (g ∷ gs) h
 
-each-sorted : (f : List ℕ → List (List ℕ)) (p l : List ℕ) → Ascending l → ((g : ℕ) → All (Under (p ++ (g ∷ []))) (f (p ++ (g ∷ [])))) → ((g : ℕ) → List·Memᴰ g l → Sorted Before (f (p ++ (g ∷ [])))) → Sorted Before (each f p l)
+each-sorted : (f : List ℕ → List (List ℕ)) (p l : List ℕ) → Ascending l → ((g : ℕ) → All (Under (p ++ (g ∷ []))) (f (p ++ (g ∷ []))))
+    → ((g : ℕ) → List·Memᴰ g l → Sorted Before (f (p ++ (g ∷ [])))) → Sorted Before (each f p l)
 each-sorted f p [] a u h = tt
-each-sorted f p (g ∷ gs) a u h = Sorted-append Before (f (p ++ (g ∷ []))) (each f p gs) (h g (List·Memᴰ·head refl)) (each-sorted f p gs a.1 u (λ x m. h x (List·Memᴰ·tail m)))
-    (All-map (λ q x. each-all (Before q) f p gs (λ y m. All-map (λ r z. rw (x.1, z.1) (before-part p g y x.0 z.0 (All-get (λ k. g < k) m a.0))) (f (p ++ (y ∷ []))) (u y))) (f (p ++ (g ∷ []))) (u g))
+each-sorted f p (g ∷ gs) a u h =
+    Sorted-append Before (f (p ++ (g ∷ []))) (each f p gs) (h g (List·Memᴰ·head refl)) (each-sorted f p gs a.1 u (λ x m. h x (List·Memᴰ·tail m)))
+    (All-map after (f (p ++ (g ∷ []))) (u g))
+  where
+    -- what is below g comes before what is below the later ones
+    after : (q : List ℕ) → Under (p ++ (g ∷ [])) q → All (Before q) (each f p gs)
+    after q x =
+        each-all (Before q) f p gs
+        (λ y m. All-map (λ r z. rw (x.1, z.1) (before-part p g y x.0 z.0 (All-get (λ k. g < k) m a.0))) (f (p ++ (y ∷ []))) (u y))
 
-branch-sorted : (f : List ℕ → List (List ℕ)) (p k : List ℕ) → Ascending k → ((g : ℕ) → All (Under (p ++ (g ∷ []))) (f (p ++ (g ∷ [])))) → ((g : ℕ) → List·Memᴰ g k → Sorted Before (f (p ++ (g ∷ [])))) → Sorted Before (branch f p k)
+branch-sorted : (f : List ℕ → List (List ℕ)) (p k : List ℕ) → Ascending k → ((g : ℕ) → All (Under (p ++ (g ∷ []))) (f (p ++ (g ∷ []))))
+    → ((g : ℕ) → List·Memᴰ g k → Sorted Before (f (p ++ (g ∷ [])))) → Sorted Before (branch f p k)
 branch-sorted f p [] a u h = (tt, tt)
 branch-sorted f p (g ∷ gs) a u h = each-sorted f p (g ∷ gs) a u h
 
-each-length : (f : List ℕ → List (List ℕ)) (p l : List ℕ) (c : ℕ) → ((g : ℕ) → List·Memᴰ g l → length (f (p ++ (g ∷ []))) ≤ c) → length (each f p l) ≤ length l * c
+each-length : (f : List ℕ → List (List ℕ)) (p l : List ℕ) (c : ℕ) → ((g : ℕ) → List·Memᴰ g l → length (f (p ++ (g ∷ []))) ≤ c)
+    → length (each f p l) ≤ length l * c
 each-length f p [] c h = omega arith
-each-length f p (g ∷ gs) c h = omega (arith, length-append (f (p ++ (g ∷ []))) (each f p gs), h g (List·Memᴰ·head refl), each-length f p gs c (λ x m. h x (List·Memᴰ·tail m)))
+each-length f p (g ∷ gs) c h =
+    omega (arith, length-append (f (p ++ (g ∷ []))) (each f p gs), h g (List·Memᴰ·head refl), each-length f p gs c (λ x m. h x (List·Memᴰ·tail m)))
 
-branch-length : (f : List ℕ → List (List ℕ)) (p k : List ℕ) (c d : ℕ) → 1 ≤ c → 1 ≤ d → length k ≤ d → ((g : ℕ) → List·Memᴰ g k → length (f (p ++ (g ∷ []))) ≤ c) → length (branch f p k) ≤ d * c
+branch-length : (f : List ℕ → List (List ℕ)) (p k : List ℕ) (c d : ℕ) → 1 ≤ c → 1 ≤ d → length k ≤ d
+    → ((g : ℕ) → List·Memᴰ g k → length (f (p ++ (g ∷ []))) ≤ c) → length (branch f p k) ≤ d * c
 branch-length f p [] c d hc hd hk h = omega (arith, mul-le-mul-right c hd)
 branch-length f p (g ∷ gs) c d hc hd hk h = omega (arith, mul-le-mul-right c hk, each-length f p (g ∷ gs) c h)
 
-each-mem : (f : List ℕ → List (List ℕ)) (p : List ℕ) {g : ℕ} {l : List ℕ} (q : List ℕ) → List·Memᴰ g l → List·Memᴰ q (f (p ++ (g ∷ []))) → List·Memᴰ q (each f p l)
+each-mem : (f : List ℕ → List (List ℕ)) (p : List ℕ) {g : ℕ} {l : List ℕ} (q : List ℕ) → List·Memᴰ g l → List·Memᴰ q (f (p ++ (g ∷ [])))
+    → List·Memᴰ q (each f p l)
 each-mem f p q (List·Memᴰ·head {xs = xs} e) m = Memᴰ·append-left (each f p xs) (rw e at m)
 each-mem f p q (List·Memᴰ·tail {x = x} i) m = Memᴰ·append-right (f (p ++ (x ∷ []))) (each-mem f p q i m)
 
-branch-mem : (f : List ℕ → List (List ℕ)) (p : List ℕ) {g : ℕ} {l : List ℕ} (q : List ℕ) → List·Memᴰ g l → List·Memᴰ q (f (p ++ (g ∷ []))) → List·Memᴰ q (branch f p l)
+branch-mem : (f : List ℕ → List (List ℕ)) (p : List ℕ) {g : ℕ} {l : List ℕ} (q : List ℕ) → List·Memᴰ g l → List·Memᴰ q (f (p ++ (g ∷ [])))
+    → List·Memᴰ q (branch f p l)
 branch-mem f p q (List·Memᴰ·head {x = x} {xs = xs} e) m = each-mem f p {l = x ∷ xs} q (List·Memᴰ·head e) m
 branch-mem f p q (List·Memᴰ·tail {x = x} {xs = xs} i) m = each-mem f p {l = x ∷ xs} q (List·Memᴰ·tail i) m
 
@@ -73,7 +90,9 @@ module _ (kids : List ℕ → List ℕ) where
   module _ (n : ℕ) (t : Tree kids n) where
     sorted-below : (f : ℕ) (p : List ℕ) → Valid kids p → Sorted Before (leaves kids f p)
     sorted-below zero p v = (tt, tt)
-    sorted-below (suc f) p v = branch-sorted (leaves kids f) p (kids p) (t .ascends p v) (λ g. under f (p ++ (g ∷ []))) (λ g m. sorted-below f (p ++ (g ∷ [])) (valid-snoc kids p g v m))
+    sorted-below (suc f) p v =
+        branch-sorted (leaves kids f) p (kids p) (t .ascends p v) (λ g. under f (p ++ (g ∷ [])))
+        (λ g m. sorted-below f (p ++ (g ∷ [])) (valid-snoc kids p g v m))
 
     -- the order
     pub leaves-ascend : Sorted Before (leaves kids n [])
@@ -101,4 +120,5 @@ module _ (kids : List ℕ → List ℕ) where
         (rw append-assoc at (found-below f (p ++ (x ∷ [])) xs (valid-snoc kids p x v h.0) h.1 (rw append-assoc e) (omega (arith, length-snoc p x))))
 
     pub leaf-iff : (q : List ℕ) → List·Memᴰ q (leaves kids n []) ↔ (Valid kids q × (kids q ≡ []))
-    leaf-iff q = ((λ m. All-get (λ (q : List ℕ). Valid kids q × (kids q ≡ [])) m (leaf-below n [] tt (omega arith))), λ h. found-below n [] q tt h.0 h.1 (omega arith))
+    leaf-iff q =
+        ((λ m. All-get (λ (q : List ℕ). Valid kids q × (kids q ≡ [])) m (leaf-below n [] tt (omega arith))), λ h. found-below n [] q tt h.0 h.1 (omega arith))

@@ -16,11 +16,11 @@ each-same f k p (g ∷ gs) h = rw (h g, each-same f k p gs h)
 
 module _ (kids : List ℕ → List ℕ) (n : ℕ) where
   -- the leaves below p
-  abbrev pub below : List ℕ → List (List ℕ)
+  abbrev below : List ℕ → List (List ℕ)
   below p = leaves kids (n - length p) p
 
   -- the leaves that stand after those below q ++ p, and below q
-  abbrev pub later : List ℕ → List ℕ → List (List ℕ)
+  abbrev later : List ℕ → List ℕ → List (List ℕ)
   later q [] = []
   later q (x ∷ xs) = later (q ++ (x ∷ [])) xs ++ each below q (above x (kids q))
 
@@ -49,34 +49,45 @@ module _ (kids : List ℕ → List ℕ) (n : ℕ) (t : Tree kids n) where
       go zero [] ef ek = refl
       go zero (g ∷ gs) ef ek = absurd (omega (arith, kid-fits kids n t p g v (rw ek (List·Memᴰ·head refl))))
       go (suc f) [] ef ek = rw ek
-      go (suc f) (g ∷ gs) ef ek = rw ek (each-same (leaves kids f) (below kids n) p (g ∷ gs) (λ h. let e : n - suc (length p) ≡ f = omega arith in rw (length-snoc p h, e)))
+      go (suc f) (g ∷ gs) ef ek =
+          rw ek (each-same (leaves kids f) (below kids n) p (g ∷ gs) (λ h. let e : n - suc (length p) ≡ f = omega arith in rw (length-snoc p h, e)))
 
   -- removing the last pick
-  take-rest : (p : List ℕ) → listed (takeBack (cutLast p) .given) (rest kids n (takeBack (cutLast p) .next .picks) (takeBack (cutLast p) .next .phase)) ≡ later kids n [] p
-  take-rest p = by-last (λ (p : List ℕ). listed (takeBack (cutLast p) .given) (rest kids n (takeBack (cutLast p) .next .picks) (takeBack (cutLast p) .next .phase)) ≡ later kids n [] p)
+  take-rest : (p : List ℕ)
+      → listed (takeBack (cutLast p) .given) (rest kids n (takeBack (cutLast p) .next .picks) (takeBack (cutLast p) .next .phase)) ≡ later kids n [] p
+  take-rest p =
+      by-last
+      (λ (p : List ℕ).
+      listed (takeBack (cutLast p) .given) (rest kids n (takeBack (cutLast p) .next .picks) (takeBack (cutLast p) .next .phase)) ≡ later kids n [] p)
       refl
       (λ p g _. rw (cut-snoc p g) (sym (later-snoc kids n [] p g)))
       p
 
   -- appending the kid g
-  append-rest : (p a : List ℕ) (g : ℕ) (b : List ℕ) → Valid kids p → kids p ≡ a ++ (g ∷ b) → rest kids n (p ++ (g ∷ [])) Down ≡ each (below kids n) p (g ∷ b) ++ later kids n [] p
+  append-rest : (p a : List ℕ) (g : ℕ) (b : List ℕ) → Valid kids p → kids p ≡ a ++ (g ∷ b)
+      → rest kids n (p ++ (g ∷ [])) Down ≡ each (below kids n) p (g ∷ b) ++ later kids n [] p
   append-rest p a g b v e = rw (later-snoc kids n [] p g, above-kid kids n t p a g b v e) (simp append-assoc)
 
   -- a move keeps what is still to be handed out
-  pub move-rest : (p : List ℕ) (f : Phase) → Fits kids p f → listed (step kids p f .given) (rest kids n (step kids p f .next .picks) (step kids p f .next .phase)) ≡ rest kids n p f
+  pub move-rest : (p : List ℕ) (f : Phase) → Fits kids p f
+      → listed (step kids p f .given) (rest kids n (step kids p f .next .picks) (step kids p f .next .phase)) ≡ rest kids n p f
   move-rest p Down v = go (kids p) refl
     where
-      go : (k : List ℕ) → kids p ≡ k → listed (down p (head? k) .given) (rest kids n (down p (head? k) .next .picks) (down p (head? k) .next .phase)) ≡ below kids n p ++ later kids n [] p
+      go : (k : List ℕ) → kids p ≡ k
+          → listed (down p (head? k) .given) (rest kids n (down p (head? k) .next .picks) (down p (head? k) .next .phase)) ≡ below kids n p ++ later kids n [] p
       go [] e = rw (below-kids p v, e)
       go (g ∷ gs) e = rw (below-kids p v, e) (append-rest p [] g gs v e)
   move-rest p Handed h = take-rest p
   move-rest p (Back g) h = go (mem-split g (kids p) h.1)
     where
-      on : (a b : List ℕ) → kids p ≡ a ++ (g ∷ b) → listed (back p (head? b) .given) (rest kids n (back p (head? b) .next .picks) (back p (head? b) .next .phase)) ≡ each (below kids n) p b ++ later kids n [] p
+      on : (a b : List ℕ) → kids p ≡ a ++ (g ∷ b)
+          → listed (back p (head? b) .given) (rest kids n (back p (head? b) .next .picks) (back p (head? b) .next .phase))
+          ≡ each (below kids n) p b ++ later kids n [] p
       on a [] e = take-rest p
       on a (x ∷ xs) e = append-rest p (a ++ (g ∷ [])) x xs h.0 (e ∙ sym (append-assoc a (g ∷ []) (x ∷ xs)))
 
-      go : (a : List ℕ) × (b : List ℕ) × (kids p ≡ a ++ (g ∷ b)) → listed (step kids p (Back g) .given) (rest kids n (step kids p (Back g) .next .picks) (step kids p (Back g) .next .phase)) ≡ rest kids n p (Back g)
+      go : (a : List ℕ) × (b : List ℕ) × (kids p ≡ a ++ (g ∷ b))
+          → listed (step kids p (Back g) .given) (rest kids n (step kids p (Back g) .next .picks) (step kids p (Back g) .next .phase)) ≡ rest kids n p (Back g)
       go r = rw (above-kid kids n t p r.0 g r.1 h.0 r.2) (on r.0 r.1 r.2)
   move-rest p Ended h = refl
 

@@ -45,9 +45,12 @@ module _ (kids : List ℕ → List ℕ) (n : ℕ) (t : Tree kids n) where
       go : (k : List ℕ) → kids p ≡ k → Leads kids (at p Down) (takeBack (cutLast p) .next)
       go [] e = then kids (one kids (at p Down) (at p Handed) (rw e)) (one kids (at p Handed) _ refl)
       go (g ∷ gs) e = absurd (omega (arith, kid-fits kids n t p g v (rw e (List·Memᴰ·head refl))))
-  finish (suc f) p v l = go (kids p) refl (λ (h : ℕ) (m : List·Memᴰ h (kids p)). rw (cut-snoc p h) at (finish f (p ++ (h ∷ [])) (valid-snoc kids p h v m) (omega (arith, length-snoc p h))))
+  finish (suc f) p v l =
+      go (kids p) refl
+      (λ (h : ℕ) (m : List·Memᴰ h (kids p)). rw (cut-snoc p h) at (finish f (p ++ (h ∷ [])) (valid-snoc kids p h v m) (omega (arith, length-snoc p h))))
     where
-      go : (k : List ℕ) → kids p ≡ k → ((h : ℕ) → List·Memᴰ h (kids p) → Leads kids (at (p ++ (h ∷ [])) Down) (at p (Back h))) → Leads kids (at p Down) (takeBack (cutLast p) .next)
+      go : (k : List ℕ) → kids p ≡ k → ((h : ℕ) → List·Memᴰ h (kids p) → Leads kids (at (p ++ (h ∷ [])) Down) (at p (Back h)))
+          → Leads kids (at p Down) (takeBack (cutLast p) .next)
       go [] e sub = then kids (one kids (at p Down) (at p Handed) (rw e)) (one kids (at p Handed) _ refl)
       go (g ∷ gs) e sub =
           then kids (one kids (at p Down) (at (p ++ (g ∷ [])) Down) (rw e))
@@ -88,4 +91,7 @@ module _ (kids : List ℕ → List ℕ) (n : ℕ) (t : Tree kids n) where
 
   -- the states that are reached are those whose picks go with their phase
   pub reachable : (s : State) → Reached kids s ↔ Fits kids (s .picks) (s .phase)
-  reachable s = ((λ r. subst (λ (x : State). Fits kids (x .picks) (x .phase)) (r .leads) (fits-after (r .count) fresh tt)), λ h. let r = reach (s .picks) (s .phase) h in record { count = r .0; leads = r .1 })
+  reachable s = (
+    λ r. subst (λ (x : State). Fits kids (x .picks) (x .phase)) (r .leads) (fits-after (r .count) fresh tt),
+    λ h. let r = reach (s .picks) (s .phase) h in record { count = r .0; leads = r .1 },
+  )

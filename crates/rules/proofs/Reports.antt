@@ -1,6 +1,9 @@
 -- What a call reports is what its moves did: budgets above 1,000,000 are refused and no others, the whole budget of moves is made
--- unless a hand-out or an end stops the call, and "spent" is answered exactly where neither came; for one call, and for each of a list.
--- Nothing else is: `whole-unique` leaves one call, and `each-unique` one list of calls, the one that the rules make.
+-- unless a hand-out or an end stops the call, and "spent" is answered exactly where neither came.
+--
+-- In order: what follows from `Whole`, and that it leaves one call (`whole-unique`); "spent" as a user reads it (`spent-exactly`); that the calls of
+-- the rules are so, one (`call-only18`, `call-spent`) and each of a list (`calls-only18`, `calls-whole`, `calls-spent`); and that nothing else is
+-- (`each-unique`).
 use mathlib.Core.Path.{_≡_, refl, sym, ap, ap₂, _∙_}
 use mathlib.Core.Logic.{_↔_, _≢_}
 use mathlib.Core.List.{List, [], _∷_}
@@ -8,7 +11,7 @@ use Prim.Native.Nat.{ℕ, zero, suc, _-_, _≤_, _<_}
 use native.Mathlib.Decide.{ℕ-discrete, decLt, decLe}
 use native.Mathlib.Omega.{arith}
 use Rattle.rules.specs.Machine.{State, Given, nothing, hands, ends, move, after}
-use Rattle.rules.specs.Calls.{Reply, refused, spent, handed, end, Call, result, mostBudget, proceed, carry, call, callsFrom}
+use Rattle.rules.specs.Calls.{Reply, refused, spent, Call, result, mostBudget, proceed, carry, call, callsFrom}
 use Rattle.rules.specs.Reports.{EachCall, Only18, says, Quiet, lastOf, Whole, Spent}
 use Rattle.rules.proofs.Calls.{call-above, call-within}
 
@@ -77,29 +80,26 @@ module _ (kids : List ℕ → List ℕ) where
 
   pub whole-unique : (out : List ℕ → List ℕ) (b : ℕ) (s : State) (c d : Call) → Whole kids out b s c → Whole kids out b s d → c ≡ d
   whole-unique out b s c d w v =
-      whole-is out b s c w ∙ ap (λ (k : ℕ). result (says out (lastOf kids k s)) k (after kids k s)) (same (decLt (c .moves) (d .moves)) (decLt (d .moves) (c .moves))) ∙ sym (whole-is out b s d v)
+      whole-is out b s c w
+      ∙ ap (λ (k : ℕ). result (says out (lastOf kids k s)) k (after kids k s)) (same (decLt (c .moves) (d .moves)) (decLt (d .moves) (c .moves)))
+      ∙ sym (whole-is out b s d v)
     where
       same : Dec (c .moves < d .moves) → Dec (d .moves < c .moves) → c .moves ≡ d .moves
       same (yes l) m = absurd (whole-most out b s c w d v l)
       same (no l) (yes m) = absurd (whole-most out b s d v c w m)
       same (no l) (no m) = omega arith
 
--- ---- "spent", and each call of a list, as a user reads them
+-- ---- "spent", as a user reads it
 pub spent-exactly : (kids : List ℕ → List ℕ) (b : ℕ) (s : State) (c : Call) → Spent kids b s c → (c .answer ≡ spent) ↔ ((c .moves ≡ b) × Quiet kids b s)
 spent-exactly kids b s c w = (w .only, λ h. w .always (h .0) (h .1))
-
-pub each-map : {P Q : ℕ → State → Call → Type 0} → ((b : ℕ) (s : State) (c : Call) → P b s c → Q b s c) → (bs : List ℕ) (s : State) (cs : List Call) → EachCall P bs s cs → EachCall Q bs s cs
-each-map f [] s [] e = tt
-each-map f [] s (c ∷ cs) e = absurd e
-each-map f (b ∷ bs) s [] e = absurd e
-each-map f (b ∷ bs) s (c ∷ cs) e = (f b s c (e .0), each-map f bs (c .next) cs (e .1))
 
 module _ (kids : List ℕ → List ℕ) (out : List ℕ → List ℕ) where
   carry-whole : (b : ℕ) (s : State) → Whole kids out b s (carry kids out b s)
   carry-whole zero s = record { most = omega arith; leads = refl; sooner = λ i l. absurd (omega arith); last = refl; stops = λ l. absurd (omega arith) }
   carry-whole (suc b) s = go (carry-whole b (move kids s .next)) (move kids s .given) refl
     where
-      go : Whole kids out b (move kids s .next) (carry kids out b (move kids s .next)) → (g : Given) → move kids s .given ≡ g → Whole kids out (suc b) s (proceed kids out (carry kids out b) g (move kids s .next))
+      go : Whole kids out b (move kids s .next) (carry kids out b (move kids s .next)) → (g : Given) → move kids s .given ≡ g
+          → Whole kids out (suc b) s (proceed kids out (carry kids out b) g (move kids s .next))
       go on nothing e = record {
         most = omega (arith, on .most);
         leads = on .leads;
@@ -107,8 +107,22 @@ module _ (kids : List ℕ → List ℕ) (out : List ℕ → List ℕ) where
         last = on .last ∙ ap (says out) (last-on kids (carry kids out b (move kids s .next) .moves) s e);
         stops = λ l z. on .stops (omega arith) (last-on kids (carry kids out b (move kids s .next) .moves) s e ∙ z);
       }
-      go on (hands p) e = record { most = omega arith; leads = refl; sooner = λ i l. absurd (omega arith); last = ap (says out) (sym e); stops = λ l z. let y : _≡_ {A = ℕ} 0 1 = cc in omega arith }
-      go on ends e = record { most = omega arith; leads = refl; sooner = λ i l. absurd (omega arith); last = ap (says out) (sym e); stops = λ l z. let y : _≡_ {A = ℕ} 0 1 = cc in omega arith }
+      go on (hands p) e =
+          record {
+            most = omega arith;
+            leads = refl;
+            sooner = λ i l. absurd (omega arith);
+            last = ap (says out) (sym e);
+            stops = λ l z. let y : _≡_ {A = ℕ} 0 1 = cc in omega arith;
+          }
+      go on ends e =
+          record {
+            most = omega arith;
+            leads = refl;
+            sooner = λ i l. absurd (omega arith);
+            last = ap (says out) (sym e);
+            stops = λ l z. let y : _≡_ {A = ℕ} 0 1 = cc in omega arith;
+          }
 
   -- ---- one call
   call-whole : (b : ℕ) (s : State) → b ≤ mostBudget → Whole kids out b s (call kids out b s)
@@ -121,7 +135,8 @@ module _ (kids : List ℕ → List ℕ) (out : List ℕ → List ℕ) where
   call-spent b s l = whole-spent kids out b s (call kids out b s) (call-whole b s l)
 
   -- ---- each call of a list
-  each-call : (P : ℕ → State → Call → Type 0) → ((b : ℕ) (s : State) → P b s (call kids out b s)) → (bs : List ℕ) (s : State) → EachCall P bs s (callsFrom kids out bs s)
+  each-call : (P : ℕ → State → Call → Type 0) → ((b : ℕ) (s : State) → P b s (call kids out b s)) → (bs : List ℕ) (s : State)
+      → EachCall P bs s (callsFrom kids out bs s)
   each-call P h [] s = tt
   each-call P h (b ∷ bs) s = (h b s, each-call P h bs (call kids out b s .next))
 
@@ -135,7 +150,8 @@ module _ (kids : List ℕ → List ℕ) (out : List ℕ → List ℕ) where
   calls-spent = each-call (λ b x c. b ≤ mostBudget → Spent kids b x c) call-spent
 
   -- what is said of each call leaves the calls that the rules make, one for each budget
-  pub each-unique : (bs : List ℕ) (s : State) (cs : List Call) → EachCall Only18 bs s cs → EachCall (λ b x c. b ≤ mostBudget → Whole kids out b x c) bs s cs → cs ≡ callsFrom kids out bs s
+  pub each-unique : (bs : List ℕ) (s : State) (cs : List Call) → EachCall Only18 bs s cs → EachCall (λ b x c. b ≤ mostBudget → Whole kids out b x c) bs s cs
+      → cs ≡ callsFrom kids out bs s
   each-unique [] s [] o w = refl
   each-unique [] s (c ∷ cs) o w = absurd o
   each-unique (b ∷ bs) s [] o w = absurd o

@@ -1,6 +1,9 @@
--- Laws of lists that ascend: what holds of each element, appending and mapping, the elements above one, the order number by number.
--- Last, two lists against each other: lists that ascend and have the same members are equal, and of a list without repetitions whose
--- members are all in another, the length. Nothing of trees or moves is here.
+-- Laws of lists that ascend. Nothing of trees or moves is here.
+--
+-- In order: what holds of each element (`All-map`, `All-append`, `All-get`, `All-of`); appending and mapping (`Sorted-append`, `Sorted-map`); the
+-- elements above one (`above-at`); the order number by number (`before-irrefl`, `before-trans`, `before-part`); two lists against each other: lists
+-- that ascend and have the same members are equal (`sorted-unique`), and a list without repetitions whose members are all in another is no longer
+-- (`distinct-length`).
 use mathlib.Core.Path.{_≡_, refl, ap, sym, _∙_}
 use mathlib.Core.Logic.{_⊎_, inl, inr, _↔_, _≢_}
 use mathlib.Core.List.{List, [], _∷_, _++_, List·Memᴰ, List·Memᴰ·head, List·Memᴰ·tail, List·Memᴰ·cases-cons, List·Memᴰ·append-cases, List·Memᴰ·not-nil, Memᴰ·append-left, Memᴰ·append-right}
@@ -41,7 +44,7 @@ pub Sorted-map : {A : Type 0} {r q : A → A → Type 0} → ((a b : A) → r a 
 Sorted-map f [] h = tt
 Sorted-map f (x ∷ xs) h = (All-map (f x) xs h.0, Sorted-map f xs h.1)
 
-pub above-all : (g : ℕ) (l : List ℕ) → All (λ x. g < x) l → above g l ≡ l
+above-all : (g : ℕ) (l : List ℕ) → All (λ x. g < x) l → above g l ≡ l
 above-all g [] h = refl
 above-all g (x ∷ xs) h = rw (lt-ltb g x h.0) (ap (λ (t : List ℕ). x ∷ t) (above-all g xs h.1))
 
@@ -139,5 +142,6 @@ module _ {A : Type 0} where
       go : ((zs : List A) → Sorted (λ (a b : A). a ≢ b) xs → ((a : A) → List·Memᴰ a xs → List·Memᴰ a zs) → length xs ≤ length zs)
           → (b : List A) × (c : List A) × (ys ≡ b ++ (x ∷ c)) → suc (length xs) ≤ length ys
       go on (b, c, e) =
-          let r : length xs ≤ length (b ++ c) = on (b ++ c) d.1 (λ a m. mem-other x b c a (λ q. All-get (λ (y : A). x ≢ y) m d.0 (sym q)) (rw e at (h a (List·Memᴰ·tail m)))) in
+          let r : length xs ≤ length (b ++ c) =
+          on (b ++ c) d.1 (λ a m. mem-other x b c a (λ q. All-get (λ (y : A). x ≢ y) m d.0 (sym q)) (rw e at (h a (List·Memᴰ·tail m)))) in
           rw e (omega (arith, length-append b c, length-append b (x ∷ c)))

@@ -1,6 +1,10 @@
 -- Calls of a run with a budget, and lists of them (01, "A run call has a budget .." and the paragraph on demand 3): `kids` as in
 -- Machine.antt, and `out p` is the set that is handed out for the picks p. A call's record has its answer, its moves, and the state that
 -- the next call gets.
+--
+-- In order: an answer and a call; one call; a list of calls; what is read off a list: its hand-outs, and the moves up to a hand-out or an end.
+--
+-- Elsewhere: what a call says of its moves, Reports.antt; the calls of a table's run, crate `lists`.
 use mathlib.Core.Bool.{Bool, true, false, cond}
 use mathlib.Core.List.{List, [], _∷_}
 use Prim.Native.Nat.{ℕ, zero, suc, _+_}

@@ -1,6 +1,10 @@
 -- States and rules 1 to 5 (01, "Moves of a run"), over any rule for candidates: `kids p` are the numbers that may be picked after the
--- picks p, ascending. Crate `listing` puts the candidates of a table for `kids`. Words of 01: "a paused run is a value" is `State`, whose
--- picks stand first pick first, the table beside it; "take back" is `takeBack`. Calls with a budget are in Calls.antt.
+-- picks p, ascending. Words of 01: "a paused run is a value" is `State`, whose picks stand first pick first, the table beside it; "take back" is
+-- `takeBack`.
+--
+-- In order: a state; one move of each rule; the rules together (`step`, `move`); the states that moves lead to (`after`, `Reached`).
+--
+-- Elsewhere: calls with a budget, Calls.antt; the candidates of a table, which stand for `kids`, crate `lists`.
 use mathlib.Core.Path.{_≡_}
 use mathlib.Core.Bool.{cond}
 use mathlib.Core.Option.{Option, none, some}

@@ -1,2 +1,2 @@
--- Definitions that only private steps of this crate's code or proofs mention. No public promise does, and a reader need not believe them.
+-- Definitions that no entry of a user mentions: the laws of this crate and of the crates above it do, and the contract of the inner crate `replay`.
 pub mod Fitting

@@ -25,7 +25,8 @@ carried c f now h = (h, carries-list (gaugeValue (c .args .run)) (rows-length c)
 
 -- the value passed its check
 passed : (c : tie.After-enum-told) → Checked (gaugeValue (c .before .before .before .before .args .run)) 0
-passed c = subst (Checked (gaugeValue (c .before .before .before .before .args .run))) (ap verdict (c .enum-told .given .1)) (c .before .before .check-run .ensures)
+passed c =
+    subst (Checked (gaugeValue (c .before .before .before .before .args .run))) (ap verdict (c .enum-told .given .1)) (c .before .before .check-run .ensures)
 
 check-run-requires : tie.Need-check-run-requires
 check-run-requires c κs = search needs
@@ -41,7 +42,10 @@ returns c =
     let k = c .before .before in
     let g = k .before .before in
     let s = g .before .before in
-    carried s _ _ (filled-refused (gaugeValue (s .args .run)) (s .args .out .now) _ _ (subst (Checked (gaugeValue (s .args .run))) (ap verdict (k .checked .given .1)) (g .check-run .ensures)) (number-pos (k .checked .given .0 .0)) (c .refuse .ensures))
+    carried s _ _
+    (filled-refused (gaugeValue (s .args .run)) (s .args .out .now) _ _
+    (subst (Checked (gaugeValue (s .args .run))) (ap verdict (k .checked .given .1)) (g .check-run .ensures)) (number-pos (k .checked .given .0 .0))
+    (c .refuse .ensures))
 
 enum-told : tie.Need-enum-told
 enum-told c = search needs

@@ -38,28 +38,34 @@ returns : tie.Need-returns
 returns c =
     let g = c .before .before .before .before .before .before .before .before .before in
     let s = g .before .before in
-    turned-handed (gaugeValue (s .args .run)) (rows-length s) (gaugeStep (g .run-gauges .result)) (g .run-gauges .ensures .0) (s .args .out .now) (s .args .at) (s .pre)
-    (chainRows (g .run-gauges .result .chain)) (ap (λ (o : Outcome). outcome o (chainRows (g .run-gauges .result .chain))) (c .before .before .before .before .enum-told .given .1)) _ refl _ _ (c .before .before .put-chain .ensures)
+    turned-handed (gaugeValue (s .args .run)) (rows-length s) (gaugeStep (g .run-gauges .result)) (g .run-gauges .ensures .0) (s .args .out .now)
+    (s .args .at) (s .pre)
+    (chainRows (g .run-gauges .result .chain))
+    (ap (λ (o : Outcome). outcome o (chainRows (g .run-gauges .result .chain))) (c .before .before .before .before .enum-told .given .1)) _ refl _ _
+    (c .before .before .put-chain .ensures)
 
 returns-2 : tie.Need-returns-2
 returns-2 c =
     let g = c .before .before .before .before .before in
     let s = g .before .before in
-    turned-spent (gaugeValue (s .args .run)) (rows-length s) (gaugeStep (g .run-gauges .result)) (g .run-gauges .ensures .0) (s .args .out .now) (s .args .at) (s .pre)
+    turned-spent (gaugeValue (s .args .run)) (rows-length s) (gaugeStep (g .run-gauges .result)) (g .run-gauges .ensures .0) (s .args .out .now) (s .args .at)
+    (s .pre)
     (ap (λ (o : Outcome). outcome o (chainRows (g .run-gauges .result .chain))) (c .enum-told2 .given .1)) _ refl
 
 returns-3 : tie.Need-returns-3
 returns-3 c =
     let g = c .before .before .before .before .before in
     let s = g .before .before in
-    turned-end (gaugeValue (s .args .run)) (rows-length s) (gaugeStep (g .run-gauges .result)) (g .run-gauges .ensures .0) (s .args .out .now) (s .args .at) (s .pre)
+    turned-end (gaugeValue (s .args .run)) (rows-length s) (gaugeStep (g .run-gauges .result)) (g .run-gauges .ensures .0) (s .args .out .now) (s .args .at)
+    (s .pre)
     (ap (λ (o : Outcome). outcome o (chainRows (g .run-gauges .result .chain))) (c .enum-told3 .given .1)) _ refl
 
 returns-4 : tie.Need-returns-4
 returns-4 c =
     let g = c .before .before .before .before .before in
     let s = g .before .before in
-    turned-refused (gaugeValue (s .args .run)) (rows-length s) (gaugeStep (g .run-gauges .result)) (g .run-gauges .ensures .0) (s .args .out .now) (s .args .at) (s .pre)
+    turned-refused (gaugeValue (s .args .run)) (rows-length s) (gaugeStep (g .run-gauges .result)) (g .run-gauges .ensures .0) (s .args .out .now)
+    (s .args .at) (s .pre)
     _ (ap (λ (o : Outcome). outcome o (chainRows (g .run-gauges .result .chain))) (c .enum-told4 .given .1)) _
 
 pub list-one-spec : {M : Type 1} → statement M

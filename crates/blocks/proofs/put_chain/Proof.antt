@@ -29,12 +29,14 @@ write-requires c κs = search needs
 enum-known-written : tie.Need-enum-known-written
 enum-known-written c = search needs
 
-fits : (c : tie.After-known-told) → c .before .before .before .before .before .before .before .before .before .args .at + c .before .written .given .0 .0 ≤ length (c .before .before .before .before .before .before .before .before .before .args .out .now)
+fits : (c : tie.After-known-told)
+    → c .before .before .before .before .before .before .before .before .before .args .at + c .before .written .given .0 .0 ≤ length (c .before .before .before .before .before .before .before .before .before .args .out .now)
 unfolding table
 fits c =
     let w = c .before .before .before .before .before in
     let s = w .before .before .before .before in
-    put-fits (table s) (s .args .out .now) (s .args .at) (s .pre) (c .before .written .given .0 .0) (sym (ap written (c .before .written .given .1)) ∙ w .write .ensures .0)
+    put-fits (table s) (s .args .out .now) (s .args .at) (s .pre) (c .before .written .given .0 .0)
+    (sym (ap written (c .before .written .given .1)) ∙ w .write .ensures .0)
 
 add-result : tie.Need-add-result
 add-result c = omega (arith, fits c)
@@ -50,7 +52,8 @@ unfolding table
 returns c =
     let w = c .before .before .before .before .before in
     let s = w .before .before .before .before in
-    put-length (table s) (s .args .out .now) (s .args .at) (s .pre) (c .before .written .given .0 .0) _ (sym (ap written (c .before .written .given .1)) ∙ w .write .ensures .0) (w .write .ensures .1)
+    put-length (table s) (s .args .out .now) (s .args .at) (s .pre) (c .before .written .given .0 .0) _
+    (sym (ap written (c .before .written .given .1)) ∙ w .write .ensures .0) (w .write .ensures .1)
 
 same-length-2 : tie.Need-same-length-2
 same-length-2 c = search needs
@@ -60,7 +63,8 @@ unfolding table
 returns-2 c =
     let w = c .before .before .before .before in
     let s = w .before .before .before .before in
-    put-refused (table s) (s .args .out .now) (s .args .at) (s .pre) (c .enum-told .given .0 .0) _ (sym (ap written (c .enum-told .given .1)) ∙ w .write .ensures .0)
+    put-refused (table s) (s .args .out .now) (s .args .at) (s .pre) (c .enum-told .given .0 .0) _
+    (sym (ap written (c .enum-told .given .1)) ∙ w .write .ensures .0)
 
 pub put-chain-spec : {M : Type 1} → statement M
 put-chain-spec =

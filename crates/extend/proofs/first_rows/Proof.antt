@@ -30,7 +30,10 @@ next-fitting-requires : tie.Need-next-fitting-requires Inv-loop μ-loop
 next-fitting-requires c κs = omega arith
 
 returns : tie.Need-returns Inv-loop μ-loop
-returns c = last-turn _ _ (given (c .before .before .before .before .before .before .before .before .before .before)) _ (picked-end _ _ _ _ _ _ _ _ (c .before .before .before .before .before .before .loop .inv) _ _ (c .before .before .before .union-to .ensures) (c .before .next-fitting .ensures) (c .before .before .before .before .before .loop-test .taken) (c .if1 .taken))
+returns c =
+    last-turn _ _ (given (c .before .before .before .before .before .before .before .before .before .before)) _
+    (picked-end _ _ _ _ _ _ _ _ (c .before .before .before .before .before .before .loop .inv) _ _ (c .before .before .before .union-to .ensures)
+    (c .before .next-fitting .ensures) (c .before .before .before .before .before .loop-test .taken) (c .if1 .taken))
 
 mul-left : tie.Need-mul-left Inv-loop μ-loop
 mul-left c = omega arith
@@ -63,7 +66,9 @@ loop-less : tie.Need-loop-less Inv-loop μ-loop
 loop-less c = omega arith
 
 loop-again : tie.Need-loop-again Inv-loop μ-loop
-loop-again c = picked-next _ _ _ _ _ _ _ _ (c .before .before .before .before .before .before .loop .inv) _ _ (c .before .before .before .union-to .ensures) (c .before .next-fitting .ensures) (c .before .before .before .before .before .loop-test .taken) (c .if1 .left)
+loop-again c =
+    picked-next _ _ _ _ _ _ _ _ (c .before .before .before .before .before .before .loop .inv) _ _ (c .before .before .before .union-to .ensures)
+    (c .before .next-fitting .ensures) (c .before .before .before .before .before .loop-test .taken) (c .if1 .left)
 
 returns-2 : tie.Need-returns-2 Inv-loop μ-loop
 returns-2 c = last-turn _ _ (given (c .before .before .before .before .before)) _ (picked-all _ _ _ _ _ _ _ _ (c .before .loop .inv) (omega arith))

@@ -21,7 +21,9 @@ fits-requires : tie.Need-fits-requires Inv-loop μ-loop
 fits-requires c κs = omega arith
 
 returns : tie.Need-returns Inv-loop μ-loop
-returns c = first-found _ _ _ _ _ (omega arith) (c .before .before .loop-test .taken) (c .before .before .before .loop .inv) (c .before .fits2 .ensures) (c .if1 .taken)
+returns c =
+    first-found _ _ _ _ _ (omega arith) (c .before .before .loop-test .taken) (c .before .before .before .loop .inv) (c .before .fits2 .ensures)
+    (c .if1 .taken)
 
 add-g : tie.Need-add-g Inv-loop μ-loop
 add-g c = omega arith

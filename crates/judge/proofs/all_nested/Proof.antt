@@ -24,7 +24,8 @@ nested-with-requires c κs = (omega arith, omega arith)
 
 returns : tie.Need-returns Inv-loop μ-loop
 unfolding allNested
-returns c = all-fails _ _ (c .before .before .before .loop .i) _ (c .before .before .loop-test .taken) (c .before .nested-with .ensures) (not-true _ (c .if1 .taken))
+returns c =
+    all-fails _ _ (c .before .before .before .loop .i) _ (c .before .before .loop-test .taken) (c .before .nested-with .ensures) (not-true _ (c .if1 .taken))
 
 add-i : tie.Need-add-i Inv-loop μ-loop
 add-i c = omega arith

@@ -27,13 +27,19 @@ enum-told : tie.Need-enum-told
 enum-told c = search needs
 
 all-nested-requires : tie.Need-all-nested-requires
-all-nested-requires c κs = few-gauges _ _ (passed (c .before .before)) (rows-lengths (c .before .before .before .before .before) .0) (rows-lengths (c .before .before .before .before .before) .1)
+all-nested-requires c κs =
+    few-gauges _ _ (passed (c .before .before)) (rows-lengths (c .before .before .before .before .before) .0)
+    (rows-lengths (c .before .before .before .before .before) .1)
 
 returns-2 : tie.Need-returns-2
-returns-2 c = chain-yes _ _ (passed (c .before .before .before .before)) (rows-lengths (c .before .before .before .before .before .before .before) .0) (rows-lengths (c .before .before .before .before .before .before .before) .1) _ (c .before .all-nested .ensures) (c .if1 .taken)
+returns-2 c =
+    chain-yes _ _ (passed (c .before .before .before .before)) (rows-lengths (c .before .before .before .before .before .before .before) .0)
+    (rows-lengths (c .before .before .before .before .before .before .before) .1) _ (c .before .all-nested .ensures) (c .if1 .taken)
 
 returns-3 : tie.Need-returns-3
-returns-3 c = chain-no _ _ (passed (c .before .before .before .before)) (rows-lengths (c .before .before .before .before .before .before .before) .0) (rows-lengths (c .before .before .before .before .before .before .before) .1) _ (c .before .all-nested .ensures) (c .if1 .left)
+returns-3 c =
+    chain-no _ _ (passed (c .before .before .before .before)) (rows-lengths (c .before .before .before .before .before .before .before) .0)
+    (rows-lengths (c .before .before .before .before .before .before .before) .1) _ (c .before .all-nested .ensures) (c .if1 .left)
 
 pub judge-chain-spec : {M : Type 1} → statement M
 judge-chain-spec =

@@ -28,19 +28,37 @@ enum-told : tie.Need-enum-told
 enum-told c = search needs
 
 all-nested-requires : tie.Need-all-nested-requires
-all-nested-requires c κs = few-gauges _ _ (passed (c .before .before .before)) (rows-lengths (c .before .before .before .before .before .before) .0) (rows-lengths (c .before .before .before .before .before .before) .1)
+all-nested-requires c κs =
+    few-gauges _ _ (passed (c .before .before .before)) (rows-lengths (c .before .before .before .before .before .before) .0)
+    (rows-lengths (c .before .before .before .before .before .before) .1)
 
 returns-2 : tie.Need-returns-2
-returns-2 c = maximal-no-chain _ _ (passed (c .before .before .before .before .before)) (rows-lengths (c .before .before .before .before .before .before .before .before) .0) (rows-lengths (c .before .before .before .before .before .before .before .before) .1) _ (c .before .all-nested .ensures) (not-true _ (c .if1 .taken))
+returns-2 c =
+    maximal-no-chain _ _ (passed (c .before .before .before .before .before))
+    (rows-lengths (c .before .before .before .before .before .before .before .before) .0)
+    (rows-lengths (c .before .before .before .before .before .before .before .before) .1) _ (c .before .all-nested .ensures) (not-true _ (c .if1 .taken))
 
 all-widest-requires : tie.Need-all-widest-requires
-all-widest-requires c κs = few-gauges _ _ (passed (c .before .before .before .before .before .before .before)) (rows-lengths (c .before .before .before .before .before .before .before .before .before .before) .0) (rows-lengths (c .before .before .before .before .before .before .before .before .before .before) .1)
+all-widest-requires c κs =
+    few-gauges _ _ (passed (c .before .before .before .before .before .before .before))
+    (rows-lengths (c .before .before .before .before .before .before .before .before .before .before) .0)
+    (rows-lengths (c .before .before .before .before .before .before .before .before .before .before) .1)
 
 returns-3 : tie.Need-returns-3
-returns-3 c = maximal-yes _ _ (passed (c .before .before .before .before .before .before .before .before .before)) (rows-lengths (c .before .before .before .before .before .before .before .before .before .before .before .before) .0) (rows-lengths (c .before .before .before .before .before .before .before .before .before .before .before .before) .1) _ _ (c .before .before .before .before .before .all-nested .ensures) (not-false _ (c .before .before .before .before .if1 .left)) (c .before .all-widest .ensures) (c .if2 .taken)
+returns-3 c =
+    maximal-yes _ _ (passed (c .before .before .before .before .before .before .before .before .before))
+    (rows-lengths (c .before .before .before .before .before .before .before .before .before .before .before .before) .0)
+    (rows-lengths (c .before .before .before .before .before .before .before .before .before .before .before .before) .1) _ _
+    (c .before .before .before .before .before .all-nested .ensures) (not-false _ (c .before .before .before .before .if1 .left))
+    (c .before .all-widest .ensures) (c .if2 .taken)
 
 returns-4 : tie.Need-returns-4
-returns-4 c = maximal-no _ _ (passed (c .before .before .before .before .before .before .before .before .before)) (rows-lengths (c .before .before .before .before .before .before .before .before .before .before .before .before) .0) (rows-lengths (c .before .before .before .before .before .before .before .before .before .before .before .before) .1) _ _ (c .before .before .before .before .before .all-nested .ensures) (not-false _ (c .before .before .before .before .if1 .left)) (c .before .all-widest .ensures) (c .if2 .left)
+returns-4 c =
+    maximal-no _ _ (passed (c .before .before .before .before .before .before .before .before .before))
+    (rows-lengths (c .before .before .before .before .before .before .before .before .before .before .before .before) .0)
+    (rows-lengths (c .before .before .before .before .before .before .before .before .before .before .before .before) .1) _ _
+    (c .before .before .before .before .before .all-nested .ensures) (not-false _ (c .before .before .before .before .if1 .left))
+    (c .before .all-widest .ensures) (c .if2 .left)
 
 pub judge-maximal-spec : {M : Type 1} → statement M
 judge-maximal-spec =

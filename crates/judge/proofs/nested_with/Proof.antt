@@ -38,7 +38,9 @@ nested-requires c κs = search needs
 
 returns : tie.Need-returns Inv-loop μ-loop
 unfolding nestedWith
-returns c = all-fails _ _ (c .before .before .before .before .loop .j) _ (c .before .before .before .loop-test .taken) (c .before .nested .ensures) (not-true _ (c .if1 .taken))
+returns c =
+    all-fails _ _ (c .before .before .before .before .loop .j) _ (c .before .before .before .loop-test .taken) (c .before .nested .ensures)
+    (not-true _ (c .if1 .taken))
 
 add-j : tie.Need-add-j Inv-loop μ-loop
 add-j c = omega arith
