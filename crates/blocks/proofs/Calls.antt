@@ -1,14 +1,13 @@
 -- The calls of a block, so many from a state on, each with the greatest budget.
 --
--- In order: so many calls and then more (`calls-more`, `after-more`), with what they hand out and whether one ends; one call more (`calls-one`,
--- `after-one`); the state after them is reached (`reached-after`); a call that does not end has a file (`added-some`); some number of calls
--- ends (`calls-end-at`).
+-- In order: lists in two parts; so many calls and then more (`calls-more`); one call more (`calls-one`, `after-one`, `text-one`, `end-one`); the
+-- state after them is reached (`reached-after`); a call that does not end has a file (`added-some`); some number of calls ends (`calls-end-at`).
 --
 -- Elsewhere: a set handed out is one of the table's (Chains.antt); the block that the calls fill (Fillings.antt).
 use mathlib.Core.Path.{_≡_, refl, sym, ap, _∙_}
 use mathlib.Core.Bool.{Bool, true, false, _||_}
 use mathlib.Core.List.{List, [], _∷_, _++_, append-assoc, List·Memᴰ, List·Memᴰ·head, List·Memᴰ·tail}
-use Prim.Native.Nat.{ℕ, zero, suc, _+_, _*_, _≤_, _<_}
+use Prim.Native.Nat.{ℕ, zero, suc, _+_, _<_}
 use native.Mathlib.Nat.{zero-add, suc-add}
 use native.Mathlib.Omega.{arith}
 use lib.ListN.{length, replicate, length-append, length-replicate}
@@ -20,7 +19,7 @@ use Rattle.rules.specs.Machine.{State}
 use Rattle.rules.specs.Calls.{Reply, refused, spent, handed, end, Call, mostBudget, answered, handouts}
 use Rattle.rules.proofs.Calls.{ahead, call-law, answered-append}
 use Rattle.rules.proofs.Reports.{call-only18}
-use Rattle.rules.proofs.Ends.{Enough, end-from}
+use Rattle.rules.proofs.Ends.{Enough, Ended, end-from}
 use Rattle.lists.specs.Lists.{gaugeSide}
 use Rattle.lists.specs.Picks.{candidates}
 use Rattle.lists.specs.OnTable.{handOut, ReachedOn, callOn}
@@ -56,12 +55,8 @@ module _ (t : Table) where
   calls-more (suc n) m s =
       ap (λ (k : ℕ). calls t k s) (suc-add n m) ∙ ap (λ (cs : List Call). callOn (gaugeSide t) mostBudget s ∷ cs) (calls-more n m (next s))
 
-  pub after-more : (n m : ℕ) (s : State) → after t (n + m) s ≡ after t m (after t n s)
-  after-more zero m s = ap (λ (k : ℕ). after t k s) (zero-add m)
-  after-more (suc n) m s = ap (λ (k : ℕ). after t k s) (suc-add n m) ∙ after-more n m (next s)
-
   -- ---- one call more
-  pub calls-one : (n : ℕ) (s : State) → calls t (suc n) s ≡ calls t n s ++ (callOn (gaugeSide t) mostBudget (after t n s) ∷ [])
+  calls-one : (n : ℕ) (s : State) → calls t (suc n) s ≡ calls t n s ++ (callOn (gaugeSide t) mostBudget (after t n s) ∷ [])
   calls-one zero s = refl
   calls-one (suc n) s = ap (λ (cs : List Call). callOn (gaugeSide t) mostBudget s ∷ cs) (calls-one n (next s))
 
@@ -125,7 +120,7 @@ module _ (t : Table) (l : Legal t) (s : State) (reached : ReachedOn (gaugeSide t
       all zero = tt
       all (suc n) = (enough, all n)
 
-      found : (c : Call) × List·Memᴰ c (calls t many s) × (c .answer ≡ end)
+      found : Ended (calls t many s)
       found =
           end-from (candidates (tableRows t)) (handOut (gaugeSide t)) (length (tableRows t)) (candidate-tree (tableRows t)) (replicate many mostBudget) s
           (reached-fits (gaugeSide t) s .0 reached) (all many) (omega (arith, length-replicate {A = ℕ} many mostBudget))

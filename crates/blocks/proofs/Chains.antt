@@ -1,5 +1,5 @@
 -- A set that a call hands out is a set of pairs of the table, so the table of its pairs is legal, and its file has room where the longest has.
-use mathlib.Core.Path.{_≡_, sym, ap, _∙_, subst}
+use mathlib.Core.Path.{_≡_, sym, _∙_, subst}
 use mathlib.Core.List.{List, [], _∷_}
 use Prim.Native.Nat.{ℕ, _^_, _≤_, _<_}
 use native.Mathlib.Omega.{arith}
@@ -15,13 +15,13 @@ use Rattle.table.proofs.Padding.{pad-length, pad-getD}
 use Rattle.table.proofs.Places.{row-past, within-sub}
 use Rattle.table.proofs.Legality.{length-rows, row-tableRows}
 use Rattle.rules.specs.Machine.{State, Given, nothing, hands, ends}
-use Rattle.rules.specs.Calls.{Reply, spent, handed, Call, mostBudget}
+use Rattle.rules.specs.Calls.{spent, handed, Call, mostBudget}
 use Rattle.rules.specs.Reports.{says, lastOf}
 use Rattle.rules.proofs.Calls.{Paid, cost, cost-lap, cost-pos, call-law}
 use Rattle.rules.proofs.Reports.{calls-whole, calls-spent}
 use Rattle.lists.specs.Lists.{gaugeSide}
 use Rattle.lists.specs.Picks.{candidates}
-use Rattle.lists.specs.OnTable.{handOut, callOn, chainOf, ReachedOn}
+use Rattle.lists.specs.OnTable.{handOut, callOn, ReachedOn}
 use Rattle.lists.proofs.CandidateTree.{candidate-tree, reached-fits}
 use Rattle.lists.proofs.ChainRows.{chainOf-within}
 use Rattle.blocks.specs.Filling.{pairTable}

@@ -5,9 +5,9 @@
 -- number (`fills-unique`), and there is such a number (`fills-exist`): the least at which they stop.
 use mathlib.Core.Path.{_≡_, refl, sym, ap, ap₂, _∙_, subst}
 use mathlib.Core.Logic.{_⊎_, inl, inr}
-use mathlib.Core.Bool.{Bool, true, false, Bool-discrete}
+use mathlib.Core.Bool.{Bool, true, Bool-discrete}
 use mathlib.Core.List.{List, [], _∷_, _++_, map, List-discrete, List·Memᴰ, List·Memᴰ·head, List·Memᴰ·tail, List·Memᴰ·cases-cons, List·Memᴰ·not-nil}
-use Prim.Native.Nat.{ℕ, zero, suc, _+_, _-_, _≤_, _<_}
+use Prim.Native.Nat.{ℕ, zero, suc, _+_, _-_, _<_}
 use native.Mathlib.Nat.{add-zero}
 use native.Mathlib.Decide.{ℕ-discrete, decLt}
 use native.Mathlib.Omega.{arith}
@@ -15,7 +15,7 @@ use lib.ListN.{length, take, drop, length-map}
 use lib.Seq.{take-at}
 use Rattle.table.specs.declared.Table.{Table}
 use Rattle.refusals.specs.declared.Verdict.{Verdict}
-use Rattle.table.specs.Tables.{Legal, tableRefusal, tableRows, padded}
+use Rattle.table.specs.Tables.{Legal, tableRefusal, tableRows}
 use Rattle.refusals.proofs.Answering.{verdict-injective}
 use Rattle.table.proofs.Legality.{legal-of}
 use Rattle.rules.specs.Machine.{Phase, Down, Handed, Back, Ended, State, at}
@@ -111,7 +111,7 @@ sound (Back k) = go (ℕ-discrete k (suc (k - 1)))
     go (no n) = no (λ e. n cc)
 sound Ended = yes refl
 
-pub paused-decided : (v : Value) → ((s : State) × PausedAt gaugeSide v s) ⊎ ((s : State) → PausedAt gaugeSide v s → ⊥)
+paused-decided : (v : Value) → ((s : State) × PausedAt gaugeSide v s) ⊎ ((s : State) → PausedAt gaugeSide v s → ⊥)
 unfolding stateOf
 paused-decided v =
     go (both (both (List-discrete ℕ-discrete (v .picks) (w .picks)) (ℕ-discrete (v .count) (w .count))) (sound (v .phase)))
@@ -156,7 +156,7 @@ module _ (t : Table) (s : State) (before : List ℕ) where
           → _≡_ {A = Filling} (record { refusal = n; value = v; used = i; over = o }) (record { refusal = m; value = w; used = j; over = p })
       go n m v w i j o p a b c d = rw (a, b, c, d)
 
-  pub fills-unique : (f g : Filling) (x y : List ℕ) → Fills t s before f x → Fills t s before g y → (f ≡ g) × (x ≡ y)
+  fills-unique : (f g : Filling) (x y : List ℕ) → Fills t s before f x → Fills t s before g y → (f ≡ g) × (x ≡ y)
   fills-unique f g x y a b = (
     filling-same f g (a .accepted ∙ sym (b .accepted)) (a .value ∙ ap (λ (n : ℕ). paused t (after t n s)) same ∙ sym (b .value)) used
         (a .over ∙ ap (λ (n : ℕ). hasEnd (calls t n s)) same ∙ sym (b .over)),
@@ -203,7 +203,7 @@ module _ (t : Table) (s : State) (before : List ℕ) where
       go (yes z) more = (k, z, low)
       go (no z) more = more (λ j l. lower z j l (ℕ-discrete j k)) (let e : k + suc fuel ≡ suc k + fuel = omega arith in subst (Stops t s (length before)) e h)
 
-  pub fills-exist : Legal t → ReachedOn (gaugeSide t) s → (f : Filling) × (now : List ℕ) × Fills t s before f now
+  fills-exist : Legal t → ReachedOn (gaugeSide t) s → (f : Filling) × (now : List ℕ) × Fills t s before f now
   fills-exist l h =
       let e = calls-end-at t l s h in
       let at : e .0 ≡ 0 + e .0 = omega arith in

@@ -15,13 +15,13 @@ use Rattle.rules.specs.Machine.{State, fresh}
 use Rattle.lists.specs.Lists.{gaugeSide, GaugeList}
 use Rattle.lists.specs.OnTable.{ReachedOn}
 use Rattle.runs.specs.Paused.{Value, paused}
-use Rattle.blocks.specs.Filling.{files, longest, Filling, Fills, Item, Blocks, output, Listed}
+use Rattle.blocks.specs.Filling.{files, longest, Fills, Item, Blocks, output, Listed}
 use Rattle.blocks.proofs.Calls.{reached-after}
 use Rattle.blocks.proofs.Deciding.{filled-exists}
 use Rattle.blocks.proofs.Listing.{blocks-listed}
 
 module _ (t : Table) (l : Legal t) where
-  pub blocks-exist : (n : ℕ) (s : State) → ReachedOn (gaugeSide t) s → (is : List Item) × Blocks (paused t s) is × (length is ≡ n)
+  blocks-exist : (n : ℕ) (s : State) → ReachedOn (gaugeSide t) s → (is : List Item) × Blocks (paused t s) is × (length is ≡ n)
   blocks-exist zero s h = ([], tt, refl)
   blocks-exist (suc n) s h =
       let before : List ℕ = replicate longest 0 in

@@ -3,10 +3,10 @@
 -- In order: a block so far (`UpTo`), as it starts and after a turn (`upto-start`, `upto-turn`); where it stops it is `Fills` (`fills-full`,
 -- `fills-over`); a turn that does not end has a file (`some-turn`), so the turns come to an end; what `fill` answers.
 use mathlib.Core.Path.{_≡_, refl, sym, ap, ap₂, _∙_, subst}
-use mathlib.Core.Logic.{_⊎_, inl, inr}
+use mathlib.Core.Logic.{inl, inr}
 use mathlib.Core.Bool.{Bool, true, false}
-use mathlib.Core.List.{List, [], _∷_, _++_, append-assoc}
-use Prim.Native.Nat.{ℕ, zero, suc, _+_, _≤_, _<_}
+use mathlib.Core.List.{List, [], _++_, append-assoc}
+use Prim.Native.Nat.{ℕ, suc, _+_, _≤_, _<_}
 use native.Mathlib.Decide.{ℕ-discrete}
 use native.Mathlib.Omega.{arith}
 use lib.ListN.{length, take, drop, length-append}
@@ -20,7 +20,7 @@ use Rattle.lists.specs.Lists.{gaugeSide}
 use Rattle.lists.specs.OnTable.{ReachedOn, callOn}
 use Rattle.runs.specs.Paused.{Value, paused, blankValue}
 use Rattle.runs.specs.Calling.{PausedAt}
-use Rattle.blocks.specs.Filling.{files, longest, Filling, calls, after, text, isEnd, hasEnd, Untouched, Stops, Fills, Filled}
+use Rattle.blocks.specs.Filling.{files, longest, Filling, calls, after, text, hasEnd, Untouched, Stops, Fills, Filled}
 use Rattle.blocks.specs.private.Turning.{Checked, placed, Added, Turned, FillsOn}
 use Rattle.blocks.proofs.Calls.{text-one, after-one, end-one, reached-after, added-some}
 
@@ -60,7 +60,7 @@ bytes-more f text before mid now used next u m n e =
 
 module _ (t : Table) (ok : tableRefusal t ≡ 0) (s : State) (reached : ReachedOn (gaugeSide t) s) (before : List ℕ) where
   -- where it stops, and where it goes on
-  pub fills-of : (n : ℕ) (f : Filling) (now : List ℕ) → f .refusal ≡ 0 → UpTo t s before n f now → Stops t s (length before) n → Fills t s before f now
+  fills-of : (n : ℕ) (f : Filling) (now : List ℕ) → f .refusal ≡ 0 → UpTo t s before n f now → Stops t s (length before) n → Fills t s before f now
   fills-of n f now e h z = record {
     accepted = e;
     count = n;
@@ -88,7 +88,7 @@ module _ (t : Table) (ok : tableRefusal t ≡ 0) (s : State) (reached : ReachedO
         (record { reached = reached-after t n s reached; stands = refl }) (omega (arith, same, room))
 
     -- a turn more
-    pub upto-turn : UpTo t s before (suc n) (going w next over) now
+    upto-turn : UpTo t s before (suc n) (going w next over) now
     upto-turn = record {
       sooner = λ k l. sooner k l (ℕ-discrete k n);
       used = adds .place ∙ ap (λ (k : ℕ). k + length more) (h .used) ∙ sym (length-append (text t n s) more) ∙ ap length (sym (text-one t n s));
@@ -107,7 +107,7 @@ module _ (t : Table) (ok : tableRefusal t ≡ 0) (s : State) (reached : ReachedO
         sooner k l (no e) = h .sooner k (omega arith)
 
     -- one that does not end has a file
-    pub some-turn : Legal t → over ≡ false → used < next
+    some-turn : Legal t → over ≡ false → used < next
     some-turn l e = omega (arith, adds .place, added-some t l (after t n s) (reached-after t n s reached) (sym (adds .ends) ∙ e))
 
 -- ---- the returns of `fill_on`, and a turn of its loop, for every value

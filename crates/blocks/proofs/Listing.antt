@@ -3,13 +3,13 @@
 --
 -- In order: an end among calls; one block (`block-fills`); blocks from a state on are so many calls (`PutOut`, `put-out`); the promises.
 use mathlib.Core.Path.{_≡_, refl, sym, ap, ap₂, _∙_, subst}
-use mathlib.Core.Logic.{_⊎_, inl, inr}
+use mathlib.Core.Logic.{inl, inr}
 use mathlib.Core.Bool.{Bool, true, false, _||_}
-use mathlib.Core.List.{List, [], _∷_, _++_, List·Memᴰ, List·Memᴰ·head, List·Memᴰ·tail}
+use mathlib.Core.List.{List, [], _∷_, _++_, List·Memᴰ·head, List·Memᴰ·tail}
 use Prim.Native.Nat.{ℕ, _+_, _≤_, _<_, min}
 use native.Mathlib.Decide.{decLt}
 use native.Mathlib.Omega.{arith}
-use lib.ListN.{length, take, drop, replicate, length-append}
+use lib.ListN.{length, take, replicate, length-append}
 use lib.Seq.{take-at}
 use Rattle.table.specs.declared.Table.{Table}
 use Rattle.table.specs.Tables.{Legal, tableRefusal}
@@ -17,7 +17,8 @@ use Rattle.table.proofs.Legality.{legal-of, legal-passes}
 use Rattle.rules.specs.Sequences.{factorial}
 use Rattle.rules.specs.Machine.{State, fresh}
 use Rattle.rules.specs.Calls.{Reply, refused, spent, handed, end, Call, mostBudget, handouts}
-use Rattle.lists.specs.Lists.{gaugeSide, GaugeList}
+use Rattle.rules.proofs.Ends.{Ended}
+use Rattle.lists.specs.Lists.{gaugeSide}
 use Rattle.lists.specs.OnTable.{ReachedOn}
 use Rattle.lists.specs.Demand.{Demand}
 use Rattle.lists.proofs.Listed.{list-unique}
@@ -35,10 +36,6 @@ end-of spent e = let z : _≡_ {A = ℕ} 0 1 = cc in absurd (omega arith)
 end-of (handed x) e = let z : _≡_ {A = ℕ} 0 1 = cc in absurd (omega arith)
 end-of end e = refl
 
--- one of these calls answered end
-abbrev Ended : List Call → Type 0
-Ended cs = (c : Call) × List·Memᴰ c cs × (c .answer ≡ end)
-
 end-in : (cs : List Call) → hasEnd cs ≡ true → Ended cs
 end-in [] e = let z : _≡_ {A = ℕ} 0 1 = cc in absurd (omega arith)
 end-in (c ∷ cs) e = go (isEnd (c .answer)) refl e (end-in cs)
@@ -54,7 +51,7 @@ files-some t (x ∷ xs) h = omega arith
 
 module _ (t : Table) (ok : tableRefusal t ≡ 0) (s : State) (h : ReachedOn (gaugeSide t) s) (i : Item) where
   -- a block that is not refused is filled
-  pub block-fills : Filled (paused t s) (i .before) (i .answer) (i .now) → i .answer .refusal ≡ 0
+  block-fills : Filled (paused t s) (i .before) (i .answer) (i .now) → i .answer .refusal ≡ 0
       → Fills t s (i .before) (i .answer) (i .now) × (longest ≤ length (i .before))
   block-fills f e = go (decLt (length (i .before)) longest)
     where

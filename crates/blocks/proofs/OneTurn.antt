@@ -1,21 +1,23 @@
--- One law for each return of the steps: the check of a value, a file put at a place, and a turn.
+-- One law for each return of the steps.
+--
+-- In order: what the rules give for a call (`same-answer`, `as-answered`); the check of a value (`checked-refused`, `checked-passed`); a file put at a
+-- place (`put-fits`, `put-length`, `put-refused`); a turn (`turned-none`, `turned-refused`, `turned-handed`).
+--
+-- Elsewhere: turns one after another, Fillings.antt.
 use mathlib.Core.Path.{_≡_, refl, sym, ap, _∙_, subst}
-use mathlib.Core.Bool.{Bool, true, false, cond}
-use mathlib.Core.List.{List, [], _∷_, _++_, append-nil}
+use mathlib.Core.Bool.{true, false}
+use mathlib.Core.List.{List, [], _++_, append-nil}
 use Prim.Native.Nat.{ℕ, _+_, _-_, _≤_, _<_}
 use native.Mathlib.Decide.{decLt, ℕ-discrete}
 use native.Mathlib.Nat.{add-zero}
 use native.Mathlib.Omega.{arith}
-use lib.Dec.{eqb}
 use lib.ListN.{length, take, drop, length-drop, take-append-drop, drop-of-length-le}
 use lib.Seq.{take-all, drop-drop}
 use borrow.Author.Tests.{lt-ltb, ne-eqb}
 use Rattle.table.specs.declared.Table.{Table}
-use Rattle.table.specs.declared.Chain.{Chain}
-use Rattle.table.specs.Tables.{Legal, tableRefusal, padded, chainRows}
+use Rattle.table.specs.Tables.{Legal, tableRefusal}
 use Rattle.refusals.specs.Answers.{Answer as Reading, number}
 use Rattle.refusals.specs.declared.Refusal.{Refusal}
-use Rattle.refusals.specs.declared.Refusal.the-variants.{BufferTooShort}
 use Rattle.refusals.proofs.Answering.{number-pos}
 use Rattle.table.proofs.Legality.{legal-of, legal-passes}
 use Rattle.rules.specs.Machine.{State}
@@ -29,12 +31,12 @@ use Rattle.runs.specs.Calling.{Step, byRules, told, refusal, PausedAt, Called}
 use Rattle.writer.specs.Writing.{writeFile, writeRefusal, writeAnswer, bufferAfter}
 use Rattle.writer.proofs.Sizes.{write-length}
 use Rattle.writer.proofs.Files.{long-enough}
-use Rattle.blocks.specs.Filling.{pairTable, files, longest, isEnd}
-use Rattle.blocks.specs.private.Turning.{Checked, placed, Put, Added, Turned}
+use Rattle.blocks.specs.Filling.{pairTable, isEnd}
+use Rattle.blocks.specs.private.Turning.{Checked, placed, Put, Turned}
 use Rattle.blocks.proofs.Chains.{pair-legal, handed-within}
 
 -- ---- what the rules give for a call
-pub told-answer : (t : Table) (a : Reply) (k : ℕ) (s : State) → byRules t a k s .answer ≡ a
+told-answer : (t : Table) (a : Reply) (k : ℕ) (s : State) → byRules t a k s .answer ≡ a
 told-answer t (refused n) k s = refl
 told-answer t spent k s = refl
 told-answer t (handed x) k s = refl
@@ -47,13 +49,13 @@ module _ (v : Value) (b : ℕ) (r : Step) (c : Called gaugeSide v b r) (ok : tab
   by-rules : r ≡ told (v .table) made
   by-rules = c .rules ok s p
 
-  pub same-answer : made .answer ≡ r .answer
+  same-answer : made .answer ≡ r .answer
   same-answer = sym (ap (λ (x : Step). x .answer) by-rules ∙ told-answer (v .table) (made .answer) (made .moves) (made .next))
 
-  pub as-answered : (a : Reply) → r .answer ≡ a → r ≡ byRules (v .table) a (made .moves) (made .next)
+  as-answered : (a : Reply) → r .answer ≡ a → r ≡ byRules (v .table) a (made .moves) (made .next)
   as-answered a e = by-rules ∙ ap (λ (x : Reply). byRules (v .table) x (made .moves) (made .next)) (same-answer ∙ e)
 
-  pub never-refused : b ≤ mostBudget → (n : ℕ) → r .answer ≡ refused n → ⊥
+  never-refused : b ≤ mostBudget → (n : ℕ) → r .answer ≡ refused n → ⊥
   never-refused l n e = call-only18 (candidates (gaugeSide (v .table) .rows)) (handOut (gaugeSide (v .table))) b s .else l n (same-answer ∙ e)
 
 -- ---- the check of a value
@@ -120,8 +122,8 @@ module _ (t : Table) (before : List ℕ) (at : ℕ) (low : at ≤ length before)
         file = λ ok room. (
           ap (λ (k : ℕ). at + k) m,
           back-is ys
-          ∙ ap (λ (k : List ℕ). take at before ++ k)
-          (y ∙ ap (λ (k : List ℕ). writeFile t ++ k) (ap (drop (length (writeFile t))) part-is ∙ drop-drop (length (writeFile t)) at before)),
+              ∙ ap (λ (k : List ℕ). take at before ++ k)
+              (y ∙ ap (λ (k : List ℕ). writeFile t ++ k) (ap (drop (length (writeFile t))) part-is ∙ drop-drop (length (writeFile t)) at before)),
         );
       }
 
@@ -130,46 +132,35 @@ module _ (t : Table) (before : List ℕ) (at : ℕ) (low : at ≤ length before)
       let z : number why ≡ writeRefusal t (length part) = ap (λ (a : Reading ℕ). a .refusal) e in
       record {
         inside = low;
-        file =
-            λ ok room.
-                let x : writeRefusal t (length part) ≡ 0 = long-enough t (length part) ok (omega (arith, part-length, room, low)) in
-                absurd (omega (arith, z, x, number-pos why));
+        file = λ ok room.
+            let x : writeRefusal t (length part) ≡ 0 = long-enough t (length part) ok (omega (arith, part-length, room, low)) in
+            absurd (omega (arith, z, x, number-pos why));
       }
 
 -- ---- a turn
-module _ (v : Value) (size : length (v .table .rows) ≡ 64) (r : Step) (c : Called gaugeSide v mostBudget r) (before : List ℕ) (at : ℕ)
-(low : at ≤ length before) where
+module _ (v : Value) (size : length (v .table .rows) ≡ 64) (r : Step) (called : Called gaugeSide v mostBudget r) (before : List ℕ) (at : ℕ)
+    (low : at ≤ length before) where
   placed-none : placed before at [] ≡ before
   placed-none = ap (λ (k : ℕ). take at before ++ drop k before) (add-zero at) ∙ take-append-drop at before
 
-  pub turned-spent : r .answer ≡ spent → (w : Value) → w ≡ r .next → Turned v before at w at false before
-  turned-spent e w d = record {
+  -- an answer without a set, "spent" or "end"
+  pub turned-none : (a : Reply) → answered a [] ≡ [] → ((k : ℕ) (s : State) → byRules (v .table) a k s .next ≡ paused (v .table) s) → r .answer ≡ a
+      → (w : Value) → w ≡ r .next → Turned v before at w at (isEnd a) before
+  turned-none a none kept e w d = record {
     inside = low;
     adds = λ ok s p room.
-        let a : callOn (gaugeSide (v .table)) mostBudget s .answer ≡ spent = same-answer v mostBudget r c ok s p ∙ e in
+        let c : Call = callOn (gaugeSide (v .table)) mostBudget s in
+        let same : c .answer ≡ a = same-answer v mostBudget r called ok s p ∙ e in
         record {
-          place = rw a (sym (add-zero at));
-          bytes = rw a (sym placed-none);
-          value = d ∙ ap (λ (x : Step). x .next) (as-answered v mostBudget r c ok s p spent e);
-          ends = rw a refl;
-        };
-  }
-
-  pub turned-end : r .answer ≡ end → (w : Value) → w ≡ r .next → Turned v before at w at true before
-  turned-end e w d = record {
-    inside = low;
-    adds = λ ok s p room.
-        let a : callOn (gaugeSide (v .table)) mostBudget s .answer ≡ end = same-answer v mostBudget r c ok s p ∙ e in
-        record {
-          place = rw a (sym (add-zero at));
-          bytes = rw a (sym placed-none);
-          value = d ∙ ap (λ (x : Step). x .next) (as-answered v mostBudget r c ok s p end e);
-          ends = rw a refl;
+          place = rw (same, none) (sym (add-zero at));
+          bytes = rw (same, none) (sym placed-none);
+          value = d ∙ ap (λ (x : Step). x .next) (as-answered v mostBudget r called ok s p a e) ∙ kept (c .moves) (c .next);
+          ends = rw same refl;
         };
   }
 
   pub turned-refused : (n : ℕ) → r .answer ≡ refused n → (w : Value) → Turned v before at w at true before
-  turned-refused n e w = record { inside = low; adds = λ ok s p room. absurd (never-refused v mostBudget r c ok s p (omega arith) n e) }
+  turned-refused n e w = record { inside = low; adds = λ ok s p room. absurd (never-refused v mostBudget r called ok s p (omega arith) n e) }
 
   pub turned-handed : (x : List ℕ) → r .answer ≡ handed x → (w : Value) → w ≡ r .next → (next : ℕ) (now : List ℕ)
       → Put (record { gauges = r .chain .gauges; cases = v .table .cases; rows = r .chain .rows }) before at next now → Turned v before at w next false now
@@ -177,11 +168,11 @@ module _ (v : Value) (size : length (v .table .rows) ≡ 64) (r : Step) (c : Cal
     inside = h .inside;
     adds = λ ok s p room.
         let t : Table = v .table in
-        let a : callOn (gaugeSide t) mostBudget s .answer ≡ handed x = same-answer v mostBudget r c ok s p ∙ e in
+        let a : callOn (gaugeSide t) mostBudget s .answer ≡ handed x = same-answer v mostBudget r called ok s p ∙ e in
         let told : r ≡ byRules t (handed x) (callOn (gaugeSide t) mostBudget s .moves) (callOn (gaugeSide t) mostBudget s .next) =
-            as-answered v mostBudget r c ok s p (handed x) e in
+        as-answered v mostBudget r called ok s p (handed x) e in
         let table : record { gauges = r .chain .gauges; cases = t .cases; rows = r .chain .rows } ≡ pairTable t x =
-            ap (λ (y : Step). record { gauges = y .chain .gauges; cases = t .cases; rows = y .chain .rows }) told in
+        ap (λ (y : Step). record { gauges = y .chain .gauges; cases = t .cases; rows = y .chain .rows }) told in
         let put : Put (pairTable t x) before at next now = subst (λ (y : Table). Put y before at next now) table h in
         let legal : Legal (pairTable t x) = pair-legal t (legal-of t size ok) x (handed-within t s x a) in
         let f = put .file (legal-passes (pairTable t x) legal) (omega (arith, write-length (pairTable t x) legal, room)) in

@@ -7,7 +7,7 @@ use native.Mathlib.Omega.{arith}
 use denote.Enum.Declared
 use borrow.Author.Needs.{needs}
 use Rattle.table.specs.Tables.{chainRows}
-use Rattle.rules.specs.Calls.{Reply, refused, handed, spent, end}
+use Rattle.rules.specs.Calls.{refused}
 use Rattle.runs.specs.Paused.{gaugeValue}
 use Rattle.runs.specs.Calling.{outcome, gaugeStep}
 use Rattle.runs.specs.declared.Outcome.{Outcome}

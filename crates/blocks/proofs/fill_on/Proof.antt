@@ -1,7 +1,7 @@
 -- `blocks::fill_on` meets its contract: after each turn the buffer is what `UpTo` says of the calls made so far, and each return is where no
 -- call follows (Fillings.antt).
 use mathlib.Core.Path.{_≡_, refl, sym, ap, _∙_, subst}
-use mathlib.Core.Bool.{Bool, false}
+use mathlib.Core.Bool.{false}
 use Prim.Native.Nat.{ℕ, _+_, _≤_, _<_}
 use native.Mathlib.Omega.{arith}
 use lib.ListN.{length}
@@ -11,7 +11,7 @@ use Rattle.rules.specs.Machine.{State}
 use Rattle.lists.specs.Lists.{gaugeSide}
 use Rattle.runs.specs.Paused.{Value, gaugeValue}
 use Rattle.runs.specs.Calling.{PausedAt}
-use Rattle.blocks.specs.Filling.{Filling, filling, longest}
+use Rattle.blocks.specs.Filling.{Filling, longest}
 use Rattle.blocks.specs.private.Turning.{FillsOn}
 use Rattle.blocks.proofs.Fillings.{going, UpToOn, upto-start, turn-on, some-on, full-on, over-on}
 use Rattle.blocks.proofs.fill_on.Statement.{statement}

@@ -1,5 +1,5 @@
 -- `blocks::put_chain` meets its contract: what the writer says of the part of the buffer that it is lent, said of the whole buffer.
-use mathlib.Core.Path.{_≡_, sym, ap, _∙_}
+use mathlib.Core.Path.{sym, ap, _∙_}
 use Prim.Native.Nat.{_+_, _≤_}
 use native.Mathlib.Omega.{arith}
 use lib.ListN.{length}
@@ -29,14 +29,19 @@ write-requires c κs = search needs
 enum-known-written : tie.Need-enum-known-written
 enum-known-written c = search needs
 
-fits : (c : tie.After-known-told)
-    → c .before .before .before .before .before .before .before .before .before .args .at + c .before .written .given .0 .0 ≤ length (c .before .before .before .before .before .before .before .before .before .args .out .now)
+-- ---- places on the way: the writer's answer and the start, from where its length was taken
+abbrev wrote : tie.After-known-told → tie.After-write
+wrote k = k .before .before .before .before .before
+
+abbrev start : tie.After-write → tie.Start
+start w = w .before .before .before .before
+
+fits : (k : tie.After-known-told) → start (wrote k) .args .at + k .before .written .given .0 .0 ≤ length (start (wrote k) .args .out .now)
 unfolding table
-fits c =
-    let w = c .before .before .before .before .before in
-    let s = w .before .before .before .before in
-    put-fits (table s) (s .args .out .now) (s .args .at) (s .pre) (c .before .written .given .0 .0)
-    (sym (ap written (c .before .written .given .1)) ∙ w .write .ensures .0)
+fits k =
+    let s = start (wrote k) in
+    put-fits (table s) (s .args .out .now) (s .args .at) (s .pre) (k .before .written .given .0 .0)
+    (sym (ap written (k .before .written .given .1)) ∙ wrote k .write .ensures .0)
 
 add-result : tie.Need-add-result
 add-result c = omega (arith, fits c)
@@ -51,7 +56,7 @@ returns : tie.Need-returns
 unfolding table
 returns c =
     let w = c .before .before .before .before .before in
-    let s = w .before .before .before .before in
+    let s = start w in
     put-length (table s) (s .args .out .now) (s .args .at) (s .pre) (c .before .written .given .0 .0) _
     (sym (ap written (c .before .written .given .1)) ∙ w .write .ensures .0) (w .write .ensures .1)
 
@@ -62,7 +67,7 @@ returns-2 : tie.Need-returns-2
 unfolding table
 returns-2 c =
     let w = c .before .before .before .before in
-    let s = w .before .before .before .before in
+    let s = start w in
     put-refused (table s) (s .args .out .now) (s .args .at) (s .pre) (c .enum-told .given .0 .0) _
     (sym (ap written (c .enum-told .given .1)) ∙ w .write .ensures .0)
 

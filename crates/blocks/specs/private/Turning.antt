@@ -1,8 +1,8 @@
 -- What the private steps promise: the check of a value, a set written at a place, and one turn, which is one call and the file of what it
 -- hands out.
 use mathlib.Core.Path.{_≡_}
-use mathlib.Core.Bool.{Bool, false}
-use mathlib.Core.List.{List, [], _∷_, _++_}
+use mathlib.Core.Bool.{Bool}
+use mathlib.Core.List.{List, [], _++_}
 use Prim.Native.Nat.{ℕ, _+_, _≤_, _<_}
 use lib.ListN.{length, take, drop}
 use Rattle.table.specs.declared.Table.{Table}

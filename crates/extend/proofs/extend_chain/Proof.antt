@@ -24,12 +24,13 @@ enum-told-2 c = search needs
 
 first-rows-requires : tie.Need-first-rows-requires
 first-rows-requires c κs =
-    (judged-passes _ _ _ (c .before .before .judge-chain .ensures) (c .enum-told2 .given .1), judged-chain _ _ _ (c .before .before .judge-chain .ensures) (c .enum-told2 .given .1))
+    let j = c .before .before .judge-chain .ensures in
+    (judged-passes _ _ _ j (c .enum-told2 .given .1), judged-chain _ _ _ j (c .enum-told2 .given .1))
 
 returns : tie.Need-returns
 returns c =
-    extends-refused _ _ _ (c .before .before .before .before .judge-chain .ensures) (c .before .before .judged .given .0 .0) _
-    (c .before .before .judged .given .1) (c .refuse .ensures)
+    let why = c .before .before in
+    extends-refused _ _ _ (why .before .before .judge-chain .ensures) (why .judged .given .0 .0) _ (why .judged .given .1) (c .refuse .ensures)
 
 returns-2 : tie.Need-returns-2
 returns-2 c = extends-no-chain _ _ _ (c .before .before .before .judge-chain .ensures) _ (c .before .enum-told .given .1) (c .refuse2 .ensures)

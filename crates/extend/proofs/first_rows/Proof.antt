@@ -17,6 +17,13 @@ abbrev μ-loop : tie.MeasureT-loop
 given : (c : tie.Start Inv-loop μ-loop) → Given (c .args .t) (c .args .s)
 given c = record { passes = c .pre .0; chain = c .pre .1; size = search needs; size-chain = search needs }
 
+-- ---- places on the way: the loop and the start, from where a place to pick was looked for
+abbrev round : tie.After-next-fitting Inv-loop μ-loop → tie.At-loop Inv-loop μ-loop
+round g = g .before .before .before .before .before
+
+abbrev start : tie.At-loop Inv-loop μ-loop → tie.Start Inv-loop μ-loop
+start l = l .before .before .before .before
+
 lowest-requires : tie.Need-lowest-requires Inv-loop μ-loop
 lowest-requires c κs = search needs
 
@@ -31,9 +38,10 @@ next-fitting-requires c κs = omega arith
 
 returns : tie.Need-returns Inv-loop μ-loop
 returns c =
-    last-turn _ _ (given (c .before .before .before .before .before .before .before .before .before .before)) _
-    (picked-end _ _ _ _ _ _ _ _ (c .before .before .before .before .before .before .loop .inv) _ _ (c .before .before .before .union-to .ensures)
-    (c .before .next-fitting .ensures) (c .before .before .before .before .before .loop-test .taken) (c .if1 .taken))
+    let g = c .before in
+    last-turn _ _ (given (start (round g))) _
+    (picked-end _ _ _ _ _ _ _ _ (round g .loop .inv) _ _ (g .before .before .union-to .ensures) (g .next-fitting .ensures)
+    (g .before .before .before .before .loop-test .taken) (c .if1 .taken))
 
 mul-left : tie.Need-mul-left Inv-loop μ-loop
 mul-left c = omega arith
@@ -67,11 +75,12 @@ loop-less c = omega arith
 
 loop-again : tie.Need-loop-again Inv-loop μ-loop
 loop-again c =
-    picked-next _ _ _ _ _ _ _ _ (c .before .before .before .before .before .before .loop .inv) _ _ (c .before .before .before .union-to .ensures)
-    (c .before .next-fitting .ensures) (c .before .before .before .before .before .loop-test .taken) (c .if1 .left)
+    let g = c .before in
+    picked-next _ _ _ _ _ _ _ _ (round g .loop .inv) _ _ (g .before .before .union-to .ensures) (g .next-fitting .ensures)
+    (g .before .before .before .before .loop-test .taken) (c .if1 .left)
 
 returns-2 : tie.Need-returns-2 Inv-loop μ-loop
-returns-2 c = last-turn _ _ (given (c .before .before .before .before .before)) _ (picked-all _ _ _ _ _ _ _ _ (c .before .loop .inv) (omega arith))
+returns-2 c = last-turn _ _ (given (start (c .before))) _ (picked-all _ _ _ _ _ _ _ _ (c .before .loop .inv) (omega arith))
 
 pub first-rows-spec : {M : Type 1} → statement M
 first-rows-spec =

@@ -40,10 +40,9 @@ element-copy-out-if1 c = omega arith
 returns : tie.Need-returns Inv-loop μ-loop
 unfolding allWidest
 returns c =
-    all-fails _ _ (c .before .before .before .before .before .loop .i) false (c .before .before .before .before .loop-test .taken)
-    (widest-test (c .before .before .before .before .before .before .args .outer .now) _ _ _ _ _ (c .before .before .widest .ensures)
-    (ne-eqb _ _ (c .if1 .taken)))
-    refl
+    let l = c .before .before .before .before .before in
+    all-fails _ _ (l .loop .i) false (c .before .before .before .before .loop-test .taken)
+    (widest-test (l .before .args .outer .now) _ _ _ _ _ (c .before .before .widest .ensures) (ne-eqb _ _ (c .if1 .taken))) refl
 
 add-i : tie.Need-add-i Inv-loop μ-loop
 add-i c = omega arith
@@ -53,7 +52,11 @@ loop-less c = omega arith
 
 loop-again : tie.Need-loop-again Inv-loop μ-loop
 loop-again c =
-    (omega arith, all-more _ _ true (c .before .before .before .before .before .loop .inv .1) (widest-test (c .before .before .before .before .before .before .args .outer .now) _ _ _ _ _ (c .before .before .widest .ensures) (eq-eqb _ _ (c .if1 .left))) refl)
+    let l = c .before .before .before .before .before in (
+      omega arith,
+      all-more _ _ true (l .loop .inv .1)
+          (widest-test (l .before .args .outer .now) _ _ _ _ _ (c .before .before .widest .ensures) (eq-eqb _ _ (c .if1 .left))) refl,
+    )
 
 returns-2 : tie.Need-returns-2 Inv-loop μ-loop
 unfolding allWidest

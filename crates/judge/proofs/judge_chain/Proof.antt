@@ -1,5 +1,7 @@
 -- `judge::judge_chain` meets its contract: the check refuses by its number, and the test of nested rows decides a chain.
 use mathlib.Core.Path.{_≡_}
+use Prim.Native.Nat.{_≤_}
+use native.Mathlib.Omega.{arith}
 use borrow.Author.Needs.{needs}
 use lib.ListN.{length}
 use Rattle.table.specs.Tables.{chainRefusal}
@@ -8,11 +10,24 @@ use Rattle.judge.proofs.Verdicts.{judged-refused, few-gauges, chain-yes
 use Rattle.judge.proofs.judge_chain.Statement.{statement}
 use Rattle.judge.proofs.judge_chain.Tie as tie
 
-rows-lengths : (c : tie.Start) → (length (c .args .t .rows) ≡ 64) × (length (c .args .s .rows) ≡ 64)
-rows-lengths c = (search needs, search needs)
+-- ---- places on the way, and what holds there: the start, and where the check has passed
+abbrev start : tie.After-enum-told → tie.Start
+start k = k .before .before .before
 
-passed : (c : tie.After-enum-told) → chainRefusal (c .before .before .before .args .t) (c .before .before .before .args .s) ≡ 0
-passed c = verdict-accepted _ _ (c .enum-told .given .1) (c .before .before .check-chain .ensures)
+passed : (k : tie.After-enum-told) → chainRefusal (start k .args .t) (start k .args .s) ≡ 0
+passed k = verdict-accepted _ _ (k .enum-told .given .1) (k .before .before .check-chain .ensures)
+
+table-size : (c : tie.Start) → length (c .args .t .rows) ≡ 64
+table-size c = search needs
+
+chain-size : (c : tie.Start) → length (c .args .s .rows) ≡ 64
+chain-size c = search needs
+
+few : (k : tie.After-enum-told) → start k .args .t .gauges ≤ 64
+few k = few-gauges (start k .args .t) (start k .args .s) (passed k) (table-size (start k)) (chain-size (start k))
+
+abbrev told : tie.After-all-nested → tie.After-enum-told
+told n = n .before .before .before
 
 check-chain-requires : tie.Need-check-chain-requires
 check-chain-requires c κs = search needs
@@ -27,19 +42,17 @@ enum-told : tie.Need-enum-told
 enum-told c = search needs
 
 all-nested-requires : tie.Need-all-nested-requires
-all-nested-requires c κs =
-    few-gauges _ _ (passed (c .before .before)) (rows-lengths (c .before .before .before .before .before) .0)
-    (rows-lengths (c .before .before .before .before .before) .1)
+all-nested-requires c κs = omega (arith, few (c .before .before))
 
 returns-2 : tie.Need-returns-2
 returns-2 c =
-    chain-yes _ _ (passed (c .before .before .before .before)) (rows-lengths (c .before .before .before .before .before .before .before) .0)
-    (rows-lengths (c .before .before .before .before .before .before .before) .1) _ (c .before .all-nested .ensures) (c .if1 .taken)
+    let k = told (c .before) in
+    chain-yes _ _ (passed k) (table-size (start k)) (chain-size (start k)) _ (c .before .all-nested .ensures) (c .if1 .taken)
 
 returns-3 : tie.Need-returns-3
 returns-3 c =
-    chain-no _ _ (passed (c .before .before .before .before)) (rows-lengths (c .before .before .before .before .before .before .before) .0)
-    (rows-lengths (c .before .before .before .before .before .before .before) .1) _ (c .before .all-nested .ensures) (c .if1 .left)
+    let k = told (c .before) in
+    chain-no _ _ (passed k) (table-size (start k)) (chain-size (start k)) _ (c .before .all-nested .ensures) (c .if1 .left)
 
 pub judge-chain-spec : {M : Type 1} → statement M
 judge-chain-spec =

@@ -1,5 +1,7 @@
 -- `judge::judge_maximal` meets its contract: the check refuses by its number, and the tests of nested and of widest rows decide.
 use mathlib.Core.Path.{_≡_}
+use Prim.Native.Nat.{_≤_}
+use native.Mathlib.Omega.{arith}
 use borrow.Author.Tests.{not-true, not-false}
 use borrow.Author.Needs.{needs}
 use lib.ListN.{length}
@@ -9,11 +11,27 @@ use Rattle.judge.proofs.Verdicts.{judged-refused, few-gauges, maximal-n
 use Rattle.judge.proofs.judge_maximal.Statement.{statement}
 use Rattle.judge.proofs.judge_maximal.Tie as tie
 
-rows-lengths : (c : tie.Start) → (length (c .args .t .rows) ≡ 64) × (length (c .args .s .rows) ≡ 64)
-rows-lengths c = (search needs, search needs)
+-- ---- places on the way, and what holds there: the start, and where the check has passed
+abbrev start : tie.After-enum-told → tie.Start
+start k = k .before .before .before
 
-passed : (c : tie.After-enum-told) → chainRefusal (c .before .before .before .args .t) (c .before .before .before .args .s) ≡ 0
-passed c = verdict-accepted _ _ (c .enum-told .given .1) (c .before .before .check-chain .ensures)
+passed : (k : tie.After-enum-told) → chainRefusal (start k .args .t) (start k .args .s) ≡ 0
+passed k = verdict-accepted _ _ (k .enum-told .given .1) (k .before .before .check-chain .ensures)
+
+table-size : (c : tie.Start) → length (c .args .t .rows) ≡ 64
+table-size c = search needs
+
+chain-size : (c : tie.Start) → length (c .args .s .rows) ≡ 64
+chain-size c = search needs
+
+few : (k : tie.After-enum-told) → start k .args .t .gauges ≤ 64
+few k = few-gauges (start k .args .t) (start k .args .s) (passed k) (table-size (start k)) (chain-size (start k))
+
+abbrev told : tie.After-all-nested → tie.After-enum-told
+told n = n .before .before .before .before
+
+abbrev nested : tie.After-all-widest → tie.After-all-nested
+nested w = w .before .before .before .before
 
 check-chain-requires : tie.Need-check-chain-requires
 check-chain-requires c κs = search needs
@@ -28,37 +46,30 @@ enum-told : tie.Need-enum-told
 enum-told c = search needs
 
 all-nested-requires : tie.Need-all-nested-requires
-all-nested-requires c κs =
-    few-gauges _ _ (passed (c .before .before .before)) (rows-lengths (c .before .before .before .before .before .before) .0)
-    (rows-lengths (c .before .before .before .before .before .before) .1)
+all-nested-requires c κs = omega (arith, few (c .before .before .before))
 
 returns-2 : tie.Need-returns-2
 returns-2 c =
-    maximal-no-chain _ _ (passed (c .before .before .before .before .before))
-    (rows-lengths (c .before .before .before .before .before .before .before .before) .0)
-    (rows-lengths (c .before .before .before .before .before .before .before .before) .1) _ (c .before .all-nested .ensures) (not-true _ (c .if1 .taken))
+    let k = told (c .before) in
+    maximal-no-chain _ _ (passed k) (table-size (start k)) (chain-size (start k)) _ (c .before .all-nested .ensures) (not-true _ (c .if1 .taken))
 
 all-widest-requires : tie.Need-all-widest-requires
-all-widest-requires c κs =
-    few-gauges _ _ (passed (c .before .before .before .before .before .before .before))
-    (rows-lengths (c .before .before .before .before .before .before .before .before .before .before) .0)
-    (rows-lengths (c .before .before .before .before .before .before .before .before .before .before) .1)
+all-widest-requires c κs = omega (arith, few (c .before .before .before .before .before .before .before))
 
+-- the rows are nested, and the widest test has answered
 returns-3 : tie.Need-returns-3
 returns-3 c =
-    maximal-yes _ _ (passed (c .before .before .before .before .before .before .before .before .before))
-    (rows-lengths (c .before .before .before .before .before .before .before .before .before .before .before .before) .0)
-    (rows-lengths (c .before .before .before .before .before .before .before .before .before .before .before .before) .1) _ _
-    (c .before .before .before .before .before .all-nested .ensures) (not-false _ (c .before .before .before .before .if1 .left))
-    (c .before .all-widest .ensures) (c .if2 .taken)
+    let n = nested (c .before) in
+    let k = told n in
+    maximal-yes _ _ (passed k) (table-size (start k)) (chain-size (start k)) _ _ (n .all-nested .ensures)
+    (not-false _ (c .before .before .before .before .if1 .left)) (c .before .all-widest .ensures) (c .if2 .taken)
 
 returns-4 : tie.Need-returns-4
 returns-4 c =
-    maximal-no _ _ (passed (c .before .before .before .before .before .before .before .before .before))
-    (rows-lengths (c .before .before .before .before .before .before .before .before .before .before .before .before) .0)
-    (rows-lengths (c .before .before .before .before .before .before .before .before .before .before .before .before) .1) _ _
-    (c .before .before .before .before .before .all-nested .ensures) (not-false _ (c .before .before .before .before .if1 .left))
-    (c .before .all-widest .ensures) (c .if2 .left)
+    let n = nested (c .before) in
+    let k = told n in
+    maximal-no _ _ (passed k) (table-size (start k)) (chain-size (start k)) _ _ (n .all-nested .ensures)
+    (not-false _ (c .before .before .before .before .if1 .left)) (c .before .all-widest .ensures) (c .if2 .left)
 
 pub judge-maximal-spec : {M : Type 1} → statement M
 judge-maximal-spec =

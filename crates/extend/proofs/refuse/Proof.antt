@@ -1,0 +1,10 @@
+-- `extend::refuse` meets its contract: the number, and beside it the blank chain.
+use mathlib.Core.Path.{refl}
+use Rattle.extend.proofs.refuse.Statement.{statement}
+use Rattle.extend.proofs.refuse.Tie as tie
+
+returns : tie.Need-returns
+returns c = refl
+
+pub refuse-spec : {M : Type 1} → statement M
+refuse-spec = tie.close (tie.spec returns)
