@@ -43,6 +43,7 @@ pairOf gs cs (Two g c) = cond (inRange gs g && inRange cs c) (Pair (record { 0 =
 pairOf gs cs (Three a b c) = badPair PairFields
 pairOf gs cs Other = badPair PairFields
 
--- a line behind the size line, where gs is the last gauge and cs the last case: blank, or a pair `g c`. "A `%` line after the size line is a malformed pair line"
+-- a line behind the size line, where gs is the last gauge and cs the last case: blank, or a pair `g c`; "A `%` line after the size line
+-- is a malformed pair line"
 abbrev pub pairLine : ℕ → ℕ → List ℕ → PairLine
 pairLine gs cs l = cond (tooLong l) (badPair LineTooLong) (pairOf gs cs (fields l))

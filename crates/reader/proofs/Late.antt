@@ -66,7 +66,10 @@ late-comment gs cs left rows (l ∷ ls) e = go (pairLine gs cs (l .text)) refl (
         (take (hasPair rows (g .0) (c .0)) (eqb left 0) (rw (p, readPairs) at e))
       where
         take : (t u : Bool)
-            → Quiet ls (elim t [ true ↦ refusedFile PairRepeated | false ↦ elim u [ true ↦ refusedFile PairCount | false ↦ readPairs gs cs (left - 1) (addPair rows (g .0) (c .0)) ls ] ])
+            → Quiet ls (elim t [
+              | true ↦ refusedFile PairRepeated
+              | false ↦ elim u [ true ↦ refusedFile PairCount | false ↦ readPairs gs cs (left - 1) (addPair rows (g .0) (c .0)) ls ]
+            ])
         take true u e = absurd (omega arith)
         take false true e = absurd (omega arith)
         take false false e = next (addPair rows (g .0) (c .0)) e

@@ -31,7 +31,8 @@ use Rattle.kinds.specs.declared.PairLine.{PairLine}
 use Rattle.kinds.specs.declared.PairLine.the-variants.{Pair, Skip as skipPair, Bad as badPair}
 
 -- the end of the pair lines; A is what the loop started with
-module _ (f : List ℕ) (at : ℕ) (gs cs left : ℕ) (rows : List ℕ) (A : Answer Table) (q : readPairs gs cs left rows (lines (drop at f)) ≡ A) (h : length f ≤ at) where
+module _ (f : List ℕ) (at : ℕ) (gs cs left : ℕ) (rows : List ℕ) (A : Answer Table)
+    (q : readPairs gs cs left rows (lines (drop at f)) ≡ A) (h : length f ≤ at) where
   pub pairs-done : left ≡ 0 → accepted (record { gauges = gs; cases = cs; rows = rows }) ≡ A
   unfolding readPairs lines
   pairs-done z = rw (eq-eqb left 0 z) at (rw (drop-of-length-le f h) at q)

@@ -143,7 +143,8 @@ lines-size (b ∷ s) = go (eqb b 10) refl (lines-size s)
 from-inside : (k at : ℕ) (ls : List Line) → Sound ls → commentFrom k at ls .value .start + commentFrom k at ls .value .len ≤ at + size ls
 unfolding commentFrom size Sound
 from-inside k at [] h = omega arith
-from-inside k at (l ∷ ls) h = go (isComment (l .text)) refl (ltb 1 k) refl (eqb k 1) refl (from-inside k (at + l .size) ls (h .1)) (from-inside (k - 1) (at + l .size) ls (h .1))
+from-inside k at (l ∷ ls) h =
+    go (isComment (l .text)) refl (ltb 1 k) refl (eqb k 1) refl (from-inside k (at + l .size) ls (h .1)) (from-inside (k - 1) (at + l .size) ls (h .1))
   where
     go : (t : Bool) → isComment (l .text) ≡ t → (u : Bool) → ltb 1 k ≡ u → (v : Bool) → eqb k 1 ≡ v
         → commentFrom k (at + l .size) ls .value .start + commentFrom k (at + l .size) ls .value .len ≤ at + l .size + size ls

@@ -90,14 +90,18 @@ pairs-legal {gs} {cs} b left rows r [] = go (eqb left 0)
     go false e = absurd (refuses PairCount e)
 pairs-legal {gs} {cs} b left rows r (l ∷ ls) = go (pairLine gs cs (l .text)) refl (pairs-legal b left rows r ls) (λ v w. pairs-legal b (left - 1) v w ls)
   where
-    go : (k : PairLine) → pairLine gs cs (l .text) ≡ k → Sound (readPairs gs cs left rows ls) → ((v : List ℕ) → Rows gs cs v → Sound (readPairs gs cs (left - 1) v ls))
+    go : (k : PairLine) → pairLine gs cs (l .text) ≡ k → Sound (readPairs gs cs left rows ls)
+        → ((v : List ℕ) → Rows gs cs v → Sound (readPairs gs cs (left - 1) v ls))
         → Sound (readPairs gs cs left rows (l ∷ ls))
     go skipPair p ih more = rw (p, readPairs) ih
     go (badPair x) p ih more = rw (p, readPairs) (λ e. absurd (refuses x e))
     go (Pair g c) p ih more = rw (p, readPairs) (take (hasPair rows (g .0) (c .0)) (eqb left 0))
       where
         take : (t u : Bool)
-            → Sound (elim t [ true ↦ refusedFile PairRepeated | false ↦ elim u [ true ↦ refusedFile PairCount | false ↦ readPairs gs cs (left - 1) (addPair rows (g .0) (c .0)) ls ] ])
+            → Sound (elim t [
+              | true ↦ refusedFile PairRepeated
+              | false ↦ elim u [ true ↦ refusedFile PairCount | false ↦ readPairs gs cs (left - 1) (addPair rows (g .0) (c .0)) ls ]
+            ])
         take true u e = absurd (refuses PairRepeated e)
         take false true e = absurd (refuses PairCount e)
         take false false e = more (addPair rows (g .0) (c .0)) (rows-more (b .gauge-high) r (pair-range gs cs (l .text) g c (sym p))) e

@@ -18,11 +18,14 @@ pub union-more : (rows : List ℕ) (i to seen all : ℕ) → i < to → to ≤ l
     → join (bitOr seen (row rows i)) (union (slice (i + 1) to rows)) ≡ all
 unfolding union join
 union-more rows i to seen all h l e =
-    rw (add-one i) (join-assoc seen (row rows i) (union (slice (suc i) to rows)) ∙ ap (λ (x : List ℕ). join seen (union x)) (sym (slice-cons i to rows 0 h l)) ∙ e)
+    rw (add-one i)
+    (join-assoc seen (row rows i) (union (slice (suc i) to rows)) ∙ ap (λ (x : List ℕ). join seen (union x)) (sym (slice-cons i to rows 0 h l)) ∙ e)
 
 pub union-done : (rows : List ℕ) (i to seen all : ℕ) → i ≡ to → join seen (union (slice i to rows)) ≡ all → seen ≡ all
 unfolding union
-union-done rows i to seen all d e = sym (join-none seen) ∙ ap (λ (x : List ℕ). join seen (union x)) (sym (slice-empty to rows)) ∙ ap (λ (n : ℕ). join seen (union (slice n to rows))) (sym d) ∙ e
+union-done rows i to seen all d e =
+    sym (join-none seen) ∙ ap (λ (x : List ℕ). join seen (union x)) (sym (slice-empty to rows))
+    ∙ ap (λ (n : ℕ). join seen (union (slice n to rows))) (sym d) ∙ e
 
 -- ---- the rows from i on are within
 within-cons : (outer rows : List ℕ) (i : ℕ) → i < length outer → i < length rows

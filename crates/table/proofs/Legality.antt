@@ -95,7 +95,11 @@ module _ (t : Table) where
   pub legal-passes : Legal t → tableRefusal t ≡ 0
   unfolding tableRefusal
   legal-passes l =
-      rw (in-range 64 (t .gauges) (l .gauges-low) (l .gauges-high), in-range 64 (t .cases) (l .cases-low) (l .cases-high), fit-of (t .gauges) (t .cases) (t .rows) (l .rows-bits) (l .rows-rest))
+      rw (
+        in-range 64 (t .gauges) (l .gauges-low) (l .gauges-high),
+        in-range 64 (t .cases) (l .cases-low) (l .cases-high),
+        fit-of (t .gauges) (t .cases) (t .rows) (l .rows-bits) (l .rows-rest),
+      )
 
   -- ---- the rows of a legal table
   pub length-rows : Legal t → length (tableRows t) ≡ t .gauges
@@ -174,7 +178,8 @@ module _ (g l used rest mask : ℕ) (rows : List ℕ) (t : Bool) (n : length row
     (u : used ≡ union (slice 0 g rows)) (r : rest ≡ union (slice g 64 rows)) (m : mask ≡ lowest l) (test : t ≡ isSubset used mask) where
   fit-both : (t && eqb rest 0) ≡ rowsFit g l rows
   fit-both =
-      ap₂ (λ (a b : Bool). a && b) (test ∙ ap₂ isSubset u m) (ap (λ (x : ℕ). eqb x 0) (r ∙ ap (λ (x : List ℕ). union (drop g x)) (take-all 64 rows (omega (arith, n)))))
+      ap₂ (λ (a b : Bool). a && b) (test ∙ ap₂ isSubset u m)
+      (ap (λ (x : ℕ). eqb x 0) (r ∙ ap (λ (x : List ℕ). union (drop g x)) (take-all 64 rows (omega (arith, n)))))
       ∙ sym (fit-by-unions g l rows h)
 
   pub fit-wide : t ≡ false → false ≡ rowsFit g l rows
@@ -204,7 +209,11 @@ chain-facts t s n e = go (eqb (tableRefusal t) 0) refl (eqb (s .gauges) (t .gaug
   where
     go : (a : Bool) → eqb (tableRefusal t) 0 ≡ a → (b : Bool) → eqb (s .gauges) (t .gauges) ≡ b → (w : Bool) → rowsWithin (t .rows) (s .rows) ≡ w
         → cond a (cond b (cond w 0 13) 12) (tableRefusal t) ≡ 0 → ChainFacts t s
-    go true p true q true r x = record { legal = legal-of t n (eqb-true (tableRefusal t) 0 p); count = eqb-true (s .gauges) (t .gauges) q; inside = within-rows (t .rows) (s .rows) r }
+    go true p true q true r x = record {
+      legal = legal-of t n (eqb-true (tableRefusal t) 0 p);
+      count = eqb-true (s .gauges) (t .gauges) q;
+      inside = within-rows (t .rows) (s .rows) r;
+    }
     go true p true q false r x = absurd (omega arith)
     go true p false q w r x = absurd (omega arith)
     go false p b q w r x = absurd (eqb-false (tableRefusal t) 0 p x)
@@ -219,7 +228,9 @@ module _ (t : Table) (s : Chain) (f : ChainFacts t s) (n : length (s .rows) ≡ 
     where
       go : Dec (i < t .gauges) → row (chainRows s) i ≡ row (s .rows) i
       go (yes h) = getD-take (s .gauges) (s .rows) i 0 (omega (arith, f .count))
-      go (no h) = row-past (chainRows s) i (omega (arith, length-chainRows)) ∙ sym (sub-zero (row (s .rows) i) (subst (λ (x : ℕ). row (s .rows) i ⊆ x) (f .legal .rows-rest i (omega arith)) (f .inside i)))
+      go (no h) =
+          row-past (chainRows s) i (omega (arith, length-chainRows))
+          ∙ sym (sub-zero (row (s .rows) i) (subst (λ (x : ℕ). row (s .rows) i ⊆ x) (f .legal .rows-rest i (omega arith)) (f .inside i)))
 
   pub chain-within : Within (tableRows t) (chainRows s)
   chain-within =

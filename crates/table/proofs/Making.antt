@@ -9,4 +9,6 @@ use Rattle.refusals.proofs.Answering.{verdict-injective}
 
 pub made-injective : (m n : Made) → made m ≡ made n → m ≡ n
 made-injective m n e =
-    ap₂ (λ (v : Verdict) (t : Table). record { verdict = v; table = t }) (verdict-injective (m .verdict) (n .verdict) (ap (λ (a : Answer Table). a .refusal) e)) (ap (λ (a : Answer Table). a .value) e)
+    ap₂ (λ (v : Verdict) (t : Table). record { verdict = v; table = t })
+    (verdict-injective (m .verdict) (n .verdict) (ap (λ (a : Answer Table). a .refusal) e))
+    (ap (λ (a : Answer Table). a .value) e)

@@ -26,7 +26,8 @@ pad-getD xs i = go (decLt i (length xs))
     go (yes l) = List·getD-append xs (replicate (64 - length xs) 0) 0 i l
     go (no l) =
         let e : length xs + (i - length xs) ≡ i = omega arith in
-        ap (λ (j : ℕ). getD (padded xs) j 0) (sym e) ∙ getD-append-add xs (replicate (64 - length xs) 0) (i - length xs) 0 ∙ zeros (64 - length xs) (i - length xs)
+        ap (λ (j : ℕ). getD (padded xs) j 0) (sym e) ∙ getD-append-add xs (replicate (64 - length xs) 0) (i - length xs) 0
+        ∙ zeros (64 - length xs) (i - length xs)
         ∙ sym (List·getD-eq-default xs 0 (omega arith))
 
 pub pad-ext : (xs ys : List ℕ) → length xs ≡ 64 → length ys ≤ 64 → ((i : ℕ) → getD xs i 0 ≡ getD ys i 0) → xs ≡ padded ys

@@ -33,6 +33,9 @@ pub struct Chain {
     pub rows: [u64; 64],
 }
 
+// The rows that a table holds, one for each gauge that it can have.
+const ROWS: usize = Table::MOST_GAUGES as usize;
+
 // A table, or a refusal with the blank table.
 pub struct Made {
     pub verdict: Verdict,
@@ -157,7 +160,7 @@ fn rows_fit(rows: &[u64; 64], gauges: u64, cases: u64) -> bool
 {
     let g = gauges as usize;
     let used = union_of(rows, 0, g);
-    let rest = union_of(rows, g, 64);
+    let rest = union_of(rows, g, ROWS);
     if !sets::subset(used, sets::lowest(cases)) {
         return false;
     }
@@ -184,7 +187,7 @@ fn rows_within(outer: &[u64; 64], rows: &[u64; 64]) -> bool
     ensures { λ r. ⌜ r ≡ rowsWithin (now (outer .entry)) (now (rows .entry)) ⌝ }
 {
     let mut i = 0;
-    while i < 64 {
+    while i < ROWS {
         if !sets::subset(rows[i], outer[i]) {
             return false;
         }

@@ -11,7 +11,20 @@ use borrow.Author.Tests.{ne-eqb, eq-eqb}
 use Rattle.text.specs.Lines.{lines, spanAt}
 use Rattle.text.specs.private.ScanSteps.{endSize}
 use Rattle.text.specs.declared.Span.{Span}
-use Rattle.text.proofs.FirstLine.{lineLen, lineSize, lines-first-of, len-end-of, len-more-of, size-end-of, size-more-of, end-le, size-le, len-le-size, size-pos, span-is}
+use Rattle.text.proofs.FirstLine.{
+  lineLen,
+  lineSize,
+  lines-first-of,
+  len-end-of,
+  len-more-of,
+  size-end-of,
+  size-more-of,
+  end-le,
+  size-le,
+  len-le-size,
+  size-pos,
+  span-is,
+}
 
 -- the end of line at a place, by the bytes there
 module _ (f : List ℕ) (at : ℕ) where
@@ -93,5 +106,8 @@ module _ (f : List ℕ) (at : ℕ) (s : Span) (e : s ≡ spanAt f at) where
   pub lines-at : at < length f
       → (size : ℕ) × (lines (drop at f) ≡ record { text = take (s .end - at) (drop at f); size = size } ∷ lines (drop (s .next) f)) × (at + size ≡ s .next)
   lines-at h =
-      let a : s .end - at ≡ lineLen (drop at f) = omega (arith, end-is) in
-      (lineSize (drop at f), rw (a, next-is, ← drop-drop (lineSize (drop at f)) at f) (lines-first-of (drop at f) (omega (arith, length-drop at f))), sym next-is)
+      let a : s .end - at ≡ lineLen (drop at f) = omega (arith, end-is) in (
+        lineSize (drop at f),
+        rw (a, next-is, ← drop-drop (lineSize (drop at f)) at f) (lines-first-of (drop at f) (omega (arith, length-drop at f))),
+        sym next-is,
+      )

@@ -1,6 +1,7 @@
--- The two sides exchanged: the pairs of a transposed set (`has-transpose`), transposing twice, and chains and maximal chains, which
--- transposing keeps both ways. The square form that the code computes, against the shape of a table, is in Sides.antt.
-use mathlib.Core.Path.{_≡_, refl, sym, ap, _∙_, subst, subst₂}
+-- The two sides exchanged, as sets of pairs. In order: a column, bit by bit; transposing, bit by bit and twice; the pairs of a transposed
+-- set (`has-transpose`); chains and maximal chains, which transposing keeps. The way of the code is in Turning.antt, the square of 64 by
+-- 64 that it computes, cut to the shape of a table, in Sides.antt.
+use mathlib.Core.Path.{_≡_, refl, sym, ap, _∙_, subst}
 use mathlib.Core.Logic.{_⊎_, inl, inr, _↔_}
 use mathlib.Core.List.{List, [], _∷_}
 use Prim.Native.Nat.{ℕ, zero, suc, _+_, _*_, _/_, _%_, _^_, _<_}
@@ -19,7 +20,7 @@ use Rattle.sets.proofs.Tabulated.{length-tabulate, getD-tabulate}
 use Rattle.table.specs.Pairs.{row, Has, Within, Cases}
 use Rattle.table.specs.Chains.{IsChain, IsMaximal}
 use Rattle.transpose.specs.Transposing.{column, transpose}
-use Rattle.table.proofs.Places.{has-place, place-has, by-place, row-past, chain-places, places-chain}
+use Rattle.table.proofs.Places.{has-place, place-has, by-place, row-past, CrossPlaces, chain-places, places-chain}
 use Rattle.sets.proofs.OnePlace.{none-in}
 
 no-case : (k : ℕ) → T (bit 0 k) → ⊥
@@ -81,10 +82,10 @@ cases-within w r s h v i k t = h i k (has-place r i k (v .inside (suc i) (suc k)
 pub chain-transpose : (w : ℕ) (s : List ℕ) → Cases w s → IsChain s → IsChain (transpose w s)
 chain-transpose w s h ch = places-chain (transpose w s) cross
   where
-    c : (i j a b : ℕ) → T (bit (row s i) a) → T (bit (row s j) b) → T (bit (row s i) b) ⊎ T (bit (row s j) a)
+    c : CrossPlaces s
     c = chain-places s ch
 
-    cross : (k l i j : ℕ) → T (bit (row (transpose w s) k) i) → T (bit (row (transpose w s) l) j) → T (bit (row (transpose w s) k) j) ⊎ T (bit (row (transpose w s) l) i)
+    cross : CrossPlaces (transpose w s)
     cross k l i j t u = go (c i j k l (rw (bit-transpose w s h i k) at t) (rw (bit-transpose w s h j l) at u))
       where
         go : T (bit (row s i) l) ⊎ T (bit (row s j) k) → T (bit (row (transpose w s) k) j) ⊎ T (bit (row (transpose w s) l) i)
@@ -120,21 +121,12 @@ maximal-transpose w rows s h m = record {
         back = transpose n s′
 
         inside : Within rows back
-        inside = subst (λ (r : List ℕ). Within r back) (transpose-twice n w rows refl h) (within-transpose n (transpose w rows) s′ (cases-transpose w rows h) v)
+        inside =
+            subst (λ (r : List ℕ). Within r back) (transpose-twice n w rows refl h)
+            (within-transpose n (transpose w rows) s′ (cases-transpose w rows h) v)
 
         contains : Within back s
         contains = subst (λ (r : List ℕ). Within back r) (transpose-twice n w s (m .within .size) hs) (within-transpose n s′ (transpose w s) h′ k)
 
         same : back ≡ s
         same = m .largest back inside (chain-transpose n s′ h′ c) contains
-
--- and the other way: transposing back
-pub transpose-chain : (w : ℕ) (s : List ℕ) → Cases w s → IsChain (transpose w s) → IsChain s
-transpose-chain w s h c =
-    subst IsChain (transpose-twice (length s) w s refl h) (chain-transpose (length s) (transpose w s) (cases-transpose w s h) c)
-
-pub transpose-maximal : (w : ℕ) (rows s : List ℕ) → Cases w rows → Cases w s → length s ≡ length rows
-    → IsMaximal (transpose w rows) (transpose w s) → IsMaximal rows s
-transpose-maximal w rows s h hs e m =
-    subst₂ IsMaximal (transpose-twice (length rows) w rows refl h) (transpose-twice (length rows) w s e hs)
-    (maximal-transpose (length rows) (transpose w rows) (transpose w s) (cases-transpose w rows h) m)

@@ -50,7 +50,8 @@ putting-none x i t n = record {
   bits = λ k j l. sym (ap (λ (y : Bool). bit (row t k) j || y) (none-left (bit x k) (eqb j i)) ∙ or-false (bit (row t k) j));
 }
 
-pub putting-more : (x i : ℕ) (t₀ t : List ℕ) (rest after h v : ℕ) → Putting x i t₀ t rest → h ≡ trailingZeros 64 rest → Lowest rest h → Rest rest after → With (row t h) i v → Putting x i t₀ (set t h v) after
+pub putting-more : (x i : ℕ) (t₀ t : List ℕ) (rest after h v : ℕ)
+    → Putting x i t₀ t rest → h ≡ trailingZeros 64 rest → Lowest rest h → Rest rest after → With (row t h) i v → Putting x i t₀ (set t h v) after
 putting-more x i t₀ t rest after h v p e l r w = record {
   size = length-set t h v ∙ p .size;
   within = λ k b. p .within k (left-of (bit rest k) (not (eqb k (trailingZeros 64 rest))) (sym (r .bits k) ∙ b));
@@ -73,8 +74,12 @@ putting-more x i t₀ t rest after h v p e l r w = record {
     by : (k j : ℕ) → k < 64 → Dec (k ≡ h) → bit (row (set t h v) k) j ≡ (bit (row t₀ k) j || ((bit x k && not (bit after k)) && eqb j i))
     by k j y (yes d) =
         ap (λ (n : ℕ). bit n j) (ap (row (set t h v)) d ∙ getD-set-same t h v 0 (omega (arith, p .size, l .below)))
-        ∙ w .bits j ∙ ap (λ (b : Bool). b || eqb j i) (p .bits h j (l .below) ∙ ap (λ (b : Bool). bit (row t₀ h) j || (b && eqb j i)) (ap₂ (λ (a b : Bool). a && not b) here (l .here)) ∙ or-false (bit (row t₀ h) j))
-        ∙ sym (ap (λ (n : ℕ). bit (row t₀ n) j || ((bit x n && not (bit after n)) && eqb j i)) d ∙ ap (λ (b : Bool). bit (row t₀ h) j || (b && eqb j i)) (ap₂ (λ (a b : Bool). a && not b) here gone))
+        ∙ w .bits j ∙ ap (λ (b : Bool). b || eqb j i) (p .bits h j (l .below) ∙ at-h (bit rest h) (l .here) ∙ or-false (bit (row t₀ h) j))
+        ∙ sym (ap (λ (n : ℕ). bit (row t₀ n) j || ((bit x n && not (bit after n)) && eqb j i)) d ∙ at-h (bit after h) gone)
+      where
+        -- at place h, by whether the place is still to come
+        at-h : (b : Bool) {c : Bool} → b ≡ c → (bit (row t₀ h) j || ((bit x h && not b) && eqb j i)) ≡ (bit (row t₀ h) j || (not c && eqb j i))
+        at-h b q = ap₂ (λ (a b : Bool). bit (row t₀ h) j || ((a && not b) && eqb j i)) here q
     by k j y (no d) =
         ap (λ (n : ℕ). bit n j) (getD-set-other t h k v 0 d) ∙ p .bits k j y
         ∙ ap (λ (b : Bool). bit (row t₀ k) j || ((bit x k && not b) && eqb j i)) (sym (kept k d))
@@ -82,7 +87,10 @@ putting-more x i t₀ t rest after h v p e l r w = record {
 pub putting-all : (x i : ℕ) (t₀ t : List ℕ) (rest : ℕ) → Putting x i t₀ t rest → rest ≡ 0 → Puts x i t₀ t
 putting-all x i t₀ t rest p e = record {
   size = p .size;
-  bits = λ k j l. p .bits k j l ∙ ap (λ (b : Bool). bit (row t₀ k) j || (b && eqb j i)) (ap (λ (b : Bool). bit x k && not b) (ap (λ (n : ℕ). bit n k) e ∙ none-in k) ∙ and-true (bit x k));
+  bits = λ k j l.
+      p .bits k j l
+      ∙ ap (λ (b : Bool). bit (row t₀ k) j || ((bit x k && not b) && eqb j i)) (ap (λ (n : ℕ). bit n k) e ∙ none-in k)
+      ∙ ap (λ (b : Bool). bit (row t₀ k) j || (b && eqb j i)) (and-true (bit x k));
 }
 
 -- ---- all rows
@@ -97,7 +105,10 @@ turned-none rows t n z = record {
 }
 
 pub turned-more : (rows t t′ : List ℕ) (i : ℕ) → Turned rows t i → Puts (row rows i) i t t′ → Turned rows t′ (i + 1)
-turned-more rows t t′ i f p = record { size = p .size; bits = λ k j l. p .bits k j l ∙ ap (λ (b : Bool). b || (bit (row rows i) k && eqb j i)) (f .bits k j l) ∙ go k j (ℕ-discrete j i) (decLt j i) }
+turned-more rows t t′ i f p = record {
+  size = p .size;
+  bits = λ k j l. p .bits k j l ∙ ap (λ (b : Bool). b || (bit (row rows i) k && eqb j i)) (f .bits k j l) ∙ go k j (ℕ-discrete j i) (decLt j i);
+}
   where
     go : (k j : ℕ) → Dec (j ≡ i) → Dec (j < i) → ((ltb j i && bit (row rows j) k) || (bit (row rows i) k && eqb j i)) ≡ (ltb j (i + 1) && bit (row rows j) k)
     go k j (yes e) d =
@@ -116,8 +127,12 @@ unfolding transpose
 turned-all rows t i f a b n = ext-getD 0 t (transpose 64 rows) (f .size ∙ sym (length-transpose 64 rows)) (λ k l. entry k (omega (arith, f .size)))
   where
     entry : (k : ℕ) → k < 64 → getD t k 0 ≡ getD (transpose 64 rows) k 0
-    entry k l = eq-of-bits (getD t k 0) (column rows k) (λ j. f .bits k j l ∙ low j (decLt j i) ∙ sym (bit-column rows k j)) ∙ sym (getD-tabulate (column rows) 64 k l)
+    entry k l =
+        eq-of-bits (getD t k 0) (column rows k) (λ j. f .bits k j l ∙ low j (decLt j i) ∙ sym (bit-column rows k j))
+        ∙ sym (getD-tabulate (column rows) 64 k l)
       where
         low : (j : ℕ) → Dec (j < i) → (ltb j i && bit (row rows j) k) ≡ bit (row rows j) k
         low j (yes y) = ap (λ (x : Bool). x && bit (row rows j) k) (lt-ltb j i y)
-        low j (no y) = ap (λ (x : Bool). x && bit (row rows j) k) (le-ltb j i (omega arith)) ∙ sym (ap (λ (x : ℕ). bit x k) (row-past rows j (omega arith)) ∙ none-in k)
+        low j (no y) =
+            ap (λ (x : Bool). x && bit (row rows j) k) (le-ltb j i (omega arith))
+            ∙ sym (ap (λ (x : ℕ). bit x k) (row-past rows j (omega arith)) ∙ none-in k)

@@ -12,6 +12,9 @@ ghost use Rattle.transpose.specs.private.Puts.{Puts};
 ghost use Rattle.table.specs.Tables.{tableRefusal, blankTable, made};
 ghost use Rattle.refusals.specs.Answers.{answer, verdict};
 
+// The rows that a table holds, one for each gauge that it can have.
+const ROWS: usize = Table::MOST_GAUGES as usize;
+
 // The table with gauges and cases exchanged; 10 and 11 are refused.
 pub fn transpose_table(t: Table) -> Made
     ensures { λ r. ⌜ made r ≡ answer (tableRefusal t) (transposeTable t) blankTable ⌝ }
@@ -39,7 +42,7 @@ pub fn transpose_rows(rows: [u64; 64]) -> [u64; 64]
 {
     let mut turned = [0u64; 64];
     let mut i: usize = 0;
-    while i < 64 {
+    while i < ROWS {
         put_row(&mut turned, rows[i], i);
         i += 1;
     }

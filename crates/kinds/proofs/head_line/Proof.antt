@@ -1,4 +1,5 @@
--- `kinds::head_line` meets its contract: each return has its law of `KindOf`; what no pattern took is neither blank nor three fields.
+-- `kinds::head_line` meets its contract: each return has its law of `KindOf`; what no pattern took is neither blank nor three fields. In
+-- the answers `k` is where the comment test was made, `f` the fields, `w` the three numbers, `i` the first range test.
 use mathlib.Core.List.{[], _∷_}
 use mathlib.Core.Logic.{⊎-elim}
 use native.Mathlib.Omega.{arith}
@@ -20,13 +21,15 @@ no-size (Three a b c) h k = ⊎-elim (λ e. omega arith) (⊎-elim (λ e. omega 
 no-size Other h k = tt
 
 returns : tie.Need-returns
-returns c = search (needs, head-long)
+returns c = head-long (c .before .before .args .line .now) (c .if1 .taken)
 
 is-comment-requires : tie.Need-is-comment-requires
 is-comment-requires c κs = search needs
 
 returns-2 : tie.Need-returns-2
-returns-2 c = search (needs, head-comment)
+returns-2 c =
+    let k = c .before in
+    head-comment (k .before .before .before .args .line .now) (k .before .if1 .left) _ (k .is-comment .ensures) (c .if2 .taken)
 
 fields-of-requires : tie.Need-fields-of-requires
 fields-of-requires c κs = search needs
@@ -44,19 +47,32 @@ returns-4 : tie.Need-returns-4
 returns-4 c =
     let f = c .before .before in
     let k = f .before .before in
-    head-none _ (k .before .if1 .left) _ (k .is-comment .ensures) (f .before .if2 .left) _ (f .fields-of .ensures) (no-size _ (c .before .match .keys2) (c .match2 .keys2))
+    head-none _ (k .before .if1 .left) _ (k .is-comment .ensures) (f .before .if2 .left) _ (f .fields-of .ensures)
+    (no-size _ (c .before .match .keys2) (c .match2 .keys2))
 
 in-range-requires : tie.Need-in-range-requires
 in-range-requires c κs = search needs
 
 returns-5 : tie.Need-returns-5
-returns-5 c = search (needs, head-gauges, not-true)
+returns-5 c =
+    let i = c .before in
+    let w = i .before .before in
+    let f = w .before .before .before in
+    let k = f .before .before in
+    head-gauges _ (k .before .if1 .left) _ (k .is-comment .ensures) (f .before .if2 .left) _ (f .fields-of .ensures) _ _ _ (w .f .given .1)
+    _ (i .in-range .ensures) (not-true _ (c .if3 .taken))
 
 in-range-requires-2 : tie.Need-in-range-requires-2
 in-range-requires-2 c κs = search needs
 
 returns-6 : tie.Need-returns-6
-returns-6 c = search (needs, head-cases, not-true, not-false)
+returns-6 c =
+    let i = c .before .before .before in
+    let w = i .before .before in
+    let f = w .before .before .before in
+    let k = f .before .before in
+    head-cases _ (k .before .if1 .left) _ (k .is-comment .ensures) (f .before .if2 .left) _ (f .fields-of .ensures) _ _ _ (w .f .given .1)
+    _ (i .in-range .ensures) (not-false _ (c .before .before .if3 .left)) _ (c .before .in-range2 .ensures) (not-true _ (c .if4 .taken))
 
 returns-7 : tie.Need-returns-7
 returns-7 c =

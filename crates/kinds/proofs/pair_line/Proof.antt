@@ -1,4 +1,5 @@
--- `kinds::pair_line` meets its contract: each return has its law of `KindOf`; what no pattern took is neither blank nor two fields.
+-- `kinds::pair_line` meets its contract: each return has its law of `KindOf`; what no pattern took is neither blank nor two fields. In
+-- the answers `f` is where the fields were made, `w` the two numbers, `i` the first range test.
 use mathlib.Core.List.{[], _∷_}
 use mathlib.Core.Logic.{⊎-elim}
 use native.Mathlib.Omega.{arith}
@@ -20,7 +21,7 @@ no-pair (Three a b c) h k = tt
 no-pair Other h k = tt
 
 returns : tie.Need-returns
-returns c = search (needs, pair-long)
+returns c = let s = c .before .before in pair-long (s .args .line .now) (s .args .gauges .0) (s .args .cases .0) (c .if1 .taken)
 
 fields-of-requires : tie.Need-fields-of-requires
 fields-of-requires c κs = search needs
@@ -43,13 +44,22 @@ in-range-requires : tie.Need-in-range-requires
 in-range-requires c κs = search needs
 
 returns-4 : tie.Need-returns-4
-returns-4 c = search (needs, pair-gauge, not-true)
+returns-4 c =
+    let i = c .before in
+    let w = i .before .before in
+    let f = w .before .before .before in
+    pair-gauge _ (f .before .if1 .left) _ _ _ (f .fields-of .ensures) _ _ (w .f .given .1) _ (i .in-range .ensures) (not-true _ (c .if2 .taken))
 
 in-range-requires-2 : tie.Need-in-range-requires-2
 in-range-requires-2 c κs = search needs
 
 returns-5 : tie.Need-returns-5
-returns-5 c = search (needs, pair-case, not-true, not-false)
+returns-5 c =
+    let i = c .before .before .before in
+    let w = i .before .before in
+    let f = w .before .before .before in
+    pair-case _ (f .before .if1 .left) _ _ _ (f .fields-of .ensures) _ _ (w .f .given .1)
+    _ (i .in-range .ensures) (not-false _ (c .before .before .if2 .left)) _ (c .before .in-range2 .ensures) (not-true _ (c .if3 .taken))
 
 returns-6 : tie.Need-returns-6
 returns-6 c =

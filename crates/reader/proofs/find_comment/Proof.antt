@@ -71,7 +71,9 @@ loop-less c =
     omega (arith, bounds l .moves (l .before .loop-test .taken), bounds l)
 
 loop-again : tie.Need-loop-again Inv-loop μ-loop
-loop-again c = (bounds (c .before .before .before .before) .fits, find-later (turn (c .before .before)) (c .before .if1 .taken) (c .if2 .taken))
+loop-again c =
+    let k = c .before .before in
+    (bounds (at-line k) .fits, find-later (turn k) (c .before .if1 .taken) (c .if2 .taken))
 
 sub-t17 : tie.Need-sub-t17 Inv-loop μ-loop
 sub-t17 c = omega (arith, bounds (c .before .before .before .before .before))

@@ -153,7 +153,8 @@ loop-again-2 c =
     let h = c .before .before .before in
     let k = taken h in (
       bounds (k .before .before .before .before) .fits,
-      turn-pair (turn (k .before .before)) (k .kind2 .given .1) (h .has .ensures) (c .before .before .if1 .left) (c .before .if2 .left) _ (c .with-case .ensures),
+      turn-pair (turn (k .before .before)) (k .kind2 .given .1) (h .has .ensures) (c .before .before .if1 .left) (c .before .if2 .left)
+          _ (c .with-case .ensures),
     )
 
 refuse-requires-4 : tie.Need-refuse-requires-4 Inv-loop μ-loop
@@ -162,7 +163,8 @@ refuse-requires-4 c κs = search needs
 returns-4 : tie.Need-returns-4 Inv-loop μ-loop
 returns-4 c =
     let l = c .before .before in
-    c .refuse4 .ensures ∙ pairs-fewer (l .before .before .before .args .file .now) _ _ _ _ _ _ (l .before .loop .inv .1) (l .loop-test .left) (c .before .if3 .taken)
+    c .refuse4 .ensures
+    ∙ pairs-fewer (l .before .before .before .args .file .now) _ _ _ _ _ _ (l .before .loop .inv .1) (l .loop-test .left) (c .before .if3 .taken)
 
 accept-requires : tie.Need-accept-requires Inv-loop μ-loop
 accept-requires c κs = search needs
@@ -170,7 +172,8 @@ accept-requires c κs = search needs
 returns-5 : tie.Need-returns-5 Inv-loop μ-loop
 returns-5 c =
     let l = c .before .before in
-    c .accept .ensures ∙ pairs-done (l .before .before .before .args .file .now) _ _ _ _ _ _ (l .before .loop .inv .1) (l .loop-test .left) (c .before .if3 .left)
+    c .accept .ensures
+    ∙ pairs-done (l .before .before .before .args .file .now) _ _ _ _ _ _ (l .before .loop .inv .1) (l .loop-test .left) (c .before .if3 .left)
 
 pub read-pairs-spec : {M : Type 1} → statement M
 read-pairs-spec =

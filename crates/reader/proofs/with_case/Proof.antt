@@ -17,7 +17,9 @@ shl-result c = search needs
 
 returns : tie.Need-returns
 unfolding join
-returns c = ap (join (c .before .args .row)) (shl-exact 1 (c .before .args .c .0 - 1) 64 (omega arith) (omega arith) ∙ one-mul (2 ^ (c .before .args .c .0 - 1)))
+returns c =
+    let k = c .before .args .c .0 - 1 in
+    ap (join (c .before .args .row)) (shl-exact 1 k 64 (omega arith) (omega arith) ∙ one-mul (2 ^ k))
 
 pub with-case-spec : {M : Type 1} → statement M
 with-case-spec = tie.close (tie.spec sub-result shl-result returns)

@@ -18,10 +18,18 @@ subset-requires : tie.Need-subset-requires
 subset-requires c κs = search needs
 
 returns : tie.Need-returns
-returns c = fit-wide _ _ _ _ _ _ _ (c .before .before .before .before .before .pre .2) (c .before .before .before .before .before .pre .1) (c .before .before .before .before .union-of .ensures) (c .before .before .before .union-of2 .ensures) (c .before .before .lowest .ensures) (c .before .subset .ensures) (not-true _ (c .if1 .taken))
+returns c =
+    let u = c .before .before .before in
+    let s = u .before .before in
+    fit-wide _ _ _ _ _ _ _ (s .pre .2) (s .pre .1) (u .before .union-of .ensures) (u .union-of2 .ensures) (c .before .before .lowest .ensures)
+    (c .before .subset .ensures) (not-true _ (c .if1 .taken))
 
 returns-2 : tie.Need-returns-2
-returns-2 c = fit-past _ _ _ _ _ _ _ (c .before .before .before .before .before .pre .2) (c .before .before .before .before .before .pre .1) (c .before .before .before .before .union-of .ensures) (c .before .before .before .union-of2 .ensures) (c .before .before .lowest .ensures) (c .before .subset .ensures) (not-false _ (c .if1 .left))
+returns-2 c =
+    let u = c .before .before .before in
+    let s = u .before .before in
+    fit-past _ _ _ _ _ _ _ (s .pre .2) (s .pre .1) (u .before .union-of .ensures) (u .union-of2 .ensures) (c .before .before .lowest .ensures)
+    (c .before .subset .ensures) (not-false _ (c .if1 .left))
 
 pub rows-fit-spec : {M : Type 1} → statement M
 rows-fit-spec =

@@ -35,7 +35,9 @@ subset-requires : tie.Need-subset-requires Inv-loop μ-loop
 subset-requires c κs = search needs
 
 returns : tie.Need-returns Inv-loop μ-loop
-returns c = within-no _ _ (c .before .before .before .before .before .loop .i) _ _ (omega arith) (omega arith) (c .before .before .before .before .before .loop .inv .1) (c .before .subset .ensures) (not-true _ (c .if1 .taken))
+returns c =
+    let l = c .before .before .before .before .before in
+    within-no _ _ (l .loop .i) _ _ (omega arith) (omega arith) (l .loop .inv .1) (c .before .subset .ensures) (not-true _ (c .if1 .taken))
 
 add-i : tie.Need-add-i Inv-loop μ-loop
 add-i c = omega arith
@@ -44,7 +46,9 @@ loop-less : tie.Need-loop-less Inv-loop μ-loop
 loop-less c = omega arith
 
 loop-again : tie.Need-loop-again Inv-loop μ-loop
-loop-again c = (omega arith, within-yes _ _ (c .before .before .before .before .before .loop .i) _ _ (omega arith) (omega arith) (c .before .before .before .before .before .loop .inv .1) (c .before .subset .ensures) (not-false _ (c .if1 .left)))
+loop-again c =
+    let l = c .before .before .before .before .before in
+    (omega arith, within-yes _ _ (l .loop .i) _ _ (omega arith) (omega arith) (l .loop .inv .1) (c .before .subset .ensures) (not-false _ (c .if1 .left)))
 
 returns-2 : tie.Need-returns-2 Inv-loop μ-loop
 returns-2 c = within-done _ _ (c .before .loop .i) _ (omega arith) (c .before .loop .inv .1)

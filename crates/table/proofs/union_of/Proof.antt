@@ -32,7 +32,9 @@ loop-less : tie.Need-loop-less Inv-loop μ-loop
 loop-less c = omega arith
 
 loop-again : tie.Need-loop-again Inv-loop μ-loop
-loop-again c = (omega arith, union-more _ _ (c .before .before .before .args .to) _ _ (c .before .loop-test .taken) (omega arith) (c .before .before .loop .inv .1))
+loop-again c =
+    let l = c .before .before in
+    (omega arith, union-more _ _ (l .before .args .to) _ _ (c .before .loop-test .taken) (omega arith) (l .loop .inv .1))
 
 returns : tie.Need-returns Inv-loop μ-loop
 returns c = union-done _ (c .before .loop .i) (c .before .before .args .to) _ _ (omega arith) (c .before .loop .inv .1)

@@ -5,7 +5,18 @@ use mathlib.Core.Logic.{⊎-elim}
 use native.Mathlib.Omega.{arith}
 use denote.Enum.Declared
 use Rattle.text.specs.private.ScanSteps.{Found}
-use Rattle.text.proofs.Scanning.{NoNumber, NoEnd, field-number, fields-blank, fields-none, fields-one, fields-two, fields-two-bad, fields-three, fields-more}
+use Rattle.text.proofs.Scanning.{
+  NoNumber,
+  NoEnd,
+  field-number,
+  fields-blank,
+  fields-none,
+  fields-one,
+  fields-two,
+  fields-two-bad,
+  fields-three,
+  fields-more,
+}
 use Rattle.text.specs.declared.Field.{Field}
 use Rattle.text.specs.declared.Field.the-variants.{Number, End, Bad}
 use Rattle.text.proofs.Field.{the-type}
@@ -45,7 +56,8 @@ abbrev second : tie.After-f3 → tie.After-f2
 second c = c .before .before .before .before .before
 
 found3 : (c : tie.After-f3)
-    → Found (first (second c) .before .before .before .before .before .args .line .now) (second c .f2 .given .0 .1 .0) (c .f3 .given .0 .0) (c .f3 .given .0 .1 .0)
+    → Found (first (second c) .before .before .before .before .before .args .line .now) (second c .f2 .given .0 .1 .0) (c .f3 .given .0 .0)
+    (c .f3 .given .0 .1 .0)
 found3 c = field-number (c .before .before .before .field-at3 .ensures) (c .f3 .given .1)
 
 field-at-requires : tie.Need-field-at-requires

@@ -15,7 +15,10 @@ refuse-requires : tie.Need-refuse-requires
 refuse-requires c κs = search needs
 
 returns : tie.Need-returns
-returns c = c .refuse .ensures ∙ answer-refused (c .before .before .checked .given .0 .0) _ _ _ (verdict-refused _ _ _ (c .before .before .checked .given .1) (c .before .before .before .before .check-table .ensures))
+returns c =
+    let k = c .before .before in
+    c .refuse .ensures
+    ∙ answer-refused (k .checked .given .0 .0) _ _ _ (verdict-refused _ _ _ (k .checked .given .1) (k .before .before .check-table .ensures))
 
 enum-told : tie.Need-enum-told
 enum-told c = search needs

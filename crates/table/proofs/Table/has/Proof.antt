@@ -20,7 +20,10 @@ in-range-requires : tie.Need-in-range-requires
 in-range-requires c κs = search needs
 
 returns : tie.Need-returns
-returns c = no-gauge _ (c .before .before .args .g .0) _ (λ h. range-not 64 _ (sym (c .before .in-range .ensures) ∙ not-true _ (c .if1 .taken)) (h .0, omega (arith, h .1, rows-length (c .before .before))))
+returns c =
+    let s = c .before .before in
+    no-gauge _ (s .args .g .0) _ (λ h.
+    range-not 64 _ (sym (c .before .in-range .ensures) ∙ not-true _ (c .if1 .taken)) (h .0, omega (arith, h .1, rows-length s)))
 
 returns-2 : tie.Need-returns-2
 returns-2 c = no-case-number _ _ _ (c .if2 .taken)
