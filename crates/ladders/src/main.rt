@@ -2,7 +2,8 @@
 // another, on standard output; for a refused file `refused n`. It holds one file and one block of output, however many ladders there are,
 // and writes block by block as it goes. What stands in the blocks is proved in crate `blocks`; what is read and written is tested, not
 // proved. A read or write that fails is said on standard error, so that a list that was cut short is never taken for a whole one; a reader
-// that went away ends the program quietly.
+// that went away ends the program quietly. A program of this kind has no exit status: with any argument it says on standard error how it
+// ended in every case, in one line (`say_end`), from which the script `ladders` makes one.
 use libc::EPIPE;
 use libc::STDERR_FILENO;
 use libc::STDIN_FILENO;
@@ -10,29 +11,41 @@ use libc::STDOUT_FILENO;
 use refusals::Verdict;
 use table::Table;
 
+// How a use of the program ended.
+enum End {
+    Listed,
+    Refused(u64),
+    ReadFailed,
+    WriteFailed,
+    Closed,
+    Lost,
+}
+
 fn main() {
+    let asked = 1 < os::arg_count();
     // One byte more than the longest file: a longer input is refused without reading it all.
     let mut file = [0u8; 65537];
     let got = read_input(&mut file);
     if got.failed {
-        io::write_all(STDERR_FILENO, b"ladders: reading failed\n");
+        say_end(End::ReadFailed, asked);
         return;
     }
     let n = got.length;
-    answer(&file, n);
+    let end = answer(&file, n);
+    say_end(end, asked);
 }
 
 // Answers the first `n` bytes.
-fn answer(file: &[u8], n: usize) {
+fn answer(file: &[u8], n: usize) -> End {
     if file.len() < n {
-        return;
+        return End::Lost;
     }
     let from = 0;
     let made = reader::read(&file[from..n]);
     let verdict = made.verdict;
     let t = made.table;
     match verdict {
-        Verdict::Refused(why) => say_refused(refusals::refusal_number(why)),
+        Verdict::Refused(why) => refuse(refusals::refusal_number(why)),
         Verdict::Accepted => list(t),
     }
 }
@@ -99,23 +112,22 @@ fn sum(a: usize, b: usize, most: usize) -> usize {
 }
 
 // "for a refused file `refused n` with LF" (01).
-fn say_refused(n: u64) {
+fn refuse(n: u64) -> End {
     if !io::write_all(STDOUT_FILENO, b"refused ") {
-        say_failed();
-        return;
+        return cut_short();
     }
     if !io::print_decimal(STDOUT_FILENO, n) {
-        say_failed();
-        return;
+        return cut_short();
     }
     if !io::write_all(STDOUT_FILENO, b"\n") {
-        say_failed();
+        return cut_short();
     }
+    End::Refused(n)
 }
 
 // Lists the table's maximal chains. A proved loop has to end, and the number of ladders is bounded only by 64!: the loop counts its blocks
 // down from a number that no run uses up; if it did, that is said.
-fn list(t: Table) {
+fn list(t: Table) -> End {
     let started = runs::start_gauges(t);
     let mut run = started.run;
     let mut space = io::large_buffer();
@@ -126,46 +138,67 @@ fn list(t: Table) {
         let next = block.run;
         let verdict = block.verdict;
         if let Verdict::Refused(_) = verdict {
-            say_lost();
-            return;
+            return End::Lost;
         }
-        if !put(&space, used) {
-            return;
-        }
+        let end = put(&space, used);
+        let End::Listed = end else {
+            return end;
+        };
         if block.over {
-            return;
+            return End::Listed;
         }
         run = next;
         blocks -= 1;
     }
-    say_lost();
+    End::Lost
 }
 
 // Writes the used part of a block.
-fn put(bytes: &[u8], used: usize) -> bool {
+fn put(bytes: &[u8], used: usize) -> End {
     if bytes.len() < used {
-        say_lost();
-        return false;
+        return End::Lost;
     }
     let from = 0;
     if io::write_all(STDOUT_FILENO, &bytes[from..used]) {
-        return true;
+        return End::Listed;
     }
-    say_failed();
-    false
+    cut_short()
 }
 
-// A write failed: it is said, unless nobody reads any more.
-fn say_failed() {
-    if os::errno() != EPIPE {
-        io::write_all(
-            STDERR_FILENO,
+// The last write failed: nobody reads any more, or it could not be made.
+fn cut_short() -> End {
+    if os::errno() == EPIPE {
+        return End::Closed;
+    }
+    End::WriteFailed
+}
+
+// Says how it ended; what is no failure only where that was asked for. The library's contracts rule `Lost` out; should it happen all the
+// same, it is said.
+fn say_end(end: End, asked: bool) {
+    match end {
+        End::ReadFailed => say(b"ladders: reading failed\n", true),
+        End::WriteFailed => say(
             b"ladders: writing failed, the output is not complete\n",
-        );
+            true,
+        ),
+        End::Lost => say(b"ladders: the list is not complete\n", true),
+        End::Closed => say(b"ladders: nobody reads\n", asked),
+        End::Listed => say(b"ladders: listed\n", asked),
+        End::Refused(n) => say_refused(n, asked),
     }
 }
 
-// The library's contracts rule this out. Should it happen all the same, it is said.
-fn say_lost() {
-    io::write_all(STDERR_FILENO, b"ladders: the list is not complete\n");
+fn say_refused(n: u64, asked: bool) {
+    if asked {
+        say(b"ladders: refused ", true);
+        io::print_decimal(STDERR_FILENO, n);
+        say(b"\n", true);
+    }
+}
+
+fn say(line: &[u8], aloud: bool) {
+    if aloud {
+        io::write_all(STDERR_FILENO, line);
+    }
 }

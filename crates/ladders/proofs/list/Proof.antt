@@ -30,9 +30,6 @@ fill-requires c κs = search needs
 enum-told : tie.Need-enum-told Inv-loop μ-loop
 enum-told c = search needs
 
-say-lost-requires : tie.Need-say-lost-requires Inv-loop μ-loop
-say-lost-requires c κs = search needs
-
 returns : tie.Need-returns Inv-loop μ-loop
 returns c = search needs
 
@@ -44,6 +41,9 @@ slice-aggregate-put c = sym (c .before .before .before .before .before .fill .ke
 
 put-requires : tie.Need-put-requires Inv-loop μ-loop
 put-requires c κs = search needs
+
+enum-told-3 : tie.Need-enum-told-3 Inv-loop μ-loop
+enum-told-3 c = search needs
 
 returns-2 : tie.Need-returns-2 Inv-loop μ-loop
 returns-2 c = search needs
@@ -58,10 +58,7 @@ loop-less : tie.Need-loop-less Inv-loop μ-loop
 loop-less c = omega arith
 
 loop-again : tie.Need-loop-again Inv-loop μ-loop
-loop-again c = c .before .before .before .before .before .before .before .before .fill .kept .1 .0 ∙ c .before .before .before .before .before .before .before .before .before .before .before .loop .inv
-
-say-lost-requires-2 : tie.Need-say-lost-requires-2 Inv-loop μ-loop
-say-lost-requires-2 c κs = search needs
+loop-again c = c .before .before .before .before .before .before .before .before .before .fill .kept .1 .0 ∙ c .before .before .before .before .before .before .before .before .before .before .before .before .loop .inv
 
 returns-4 : tie.Need-returns-4 Inv-loop μ-loop
 returns-4 c = search needs
@@ -78,15 +75,14 @@ list-spec =
     slice-aggregate-fill
     fill-requires
     enum-told
-    say-lost-requires
     returns
     enum-told-2
     slice-aggregate-put
     put-requires
+    enum-told-3
     returns-2
     returns-3
     sub-blocks
     loop-less
     loop-again
-    say-lost-requires-2
     returns-4)
