@@ -1,0 +1,146 @@
+// The library by example: a file is read, its ladders are listed with a budget of moves, a chain is judged and grown, a table is made from
+// rows and listed by cases. Every answer is looked at before its values are used.
+use judge::Judgement;
+use libc::STDOUT_FILENO;
+use refusals::Refusal;
+use refusals::Verdict;
+use runs::Outcome;
+use table::Chain;
+use table::Table;
+use writer::Written;
+
+fn main() {
+    let file =
+        b"%%MatrixMarket matrix coordinate pattern general\n% K3\n3 3 6\n1 1\n1 2\n2 1\n2 2\n3 2\n3 3\n";
+    let made = reader::read(file);
+    let verdict = made.verdict;
+    let t = made.table;
+    match verdict {
+        Verdict::Refused(why) => refused(why),
+        Verdict::Accepted => {
+            // Comment line 1, as a part of the bytes read; empty where there is none.
+            say(reader::comment(file, 1));
+            say(b"\n");
+            list(t);
+            grow(t);
+            by_cases();
+        }
+    }
+}
+
+// Lists the ladders of a table: at most 5 moves a call, and each call goes on from the value that the last one returned.
+fn list(t: Table) {
+    let start = runs::start_gauges(t);
+    let verdict = start.verdict;
+    if let Verdict::Refused(why) = verdict {
+        refused(why);
+        return;
+    }
+    let mut run = start.run;
+    let mut calls: u64 = 100;
+    while 0 < calls {
+        let step = runs::run_gauges(run, 5);
+        let outcome = step.outcome;
+        let ladder = step.chain;
+        match outcome {
+            Outcome::HandedOut => show(ladder, t.cases),
+            Outcome::Spent => say(b"spent\n"),
+            Outcome::End => {
+                say(b"end\n");
+                return;
+            }
+            Outcome::Refused(why) => {
+                refused(why);
+                return;
+            }
+        }
+        run = step.next;
+        calls -= 1;
+    }
+}
+
+// Judges the set of the one pair 3:2, and grows it to the first ladder that holds it.
+fn grow(t: Table) {
+    let mut rows = [0u64; 64];
+    rows[2] = 0b010;
+    let chain = Chain {
+        gauges: t.gauges,
+        rows: rows,
+    };
+    let judged = judge::judge_maximal(t, chain);
+    match judged {
+        Judgement::Yes => say(b"a ladder\n"),
+        Judgement::No => say(b"no ladder\n"),
+        Judgement::Refused(why) => refused(why),
+    }
+    let grown = extend::extend_chain(t, chain);
+    let verdict = grown.verdict;
+    let ladder = grown.chain;
+    match verdict {
+        Verdict::Accepted => show(ladder, t.cases),
+        Verdict::Refused(why) => refused(why),
+    }
+}
+
+// Makes a table from rows, bit c - 1 of row g - 1 for the pair g:c, and asks the case run for its first ladder.
+fn by_cases() {
+    let mut rows = [0u64; 64];
+    rows[0] = 0b110;
+    rows[1] = 0b101;
+    rows[2] = 0b011;
+    let made = Table::from_rows(3, 3, rows);
+    let verdict = made.verdict;
+    if let Verdict::Refused(why) = verdict {
+        refused(why);
+        return;
+    }
+    let t = made.table;
+    let start = runs::start_cases(t);
+    let started = start.verdict;
+    if let Verdict::Refused(why) = started {
+        refused(why);
+        return;
+    }
+    let step = runs::run_cases(start.run, 1_000);
+    let outcome = step.outcome;
+    let ladder = step.chain;
+    match outcome {
+        Outcome::HandedOut => show(ladder, t.cases),
+        Outcome::Spent => say(b"spent\n"),
+        Outcome::End => say(b"end\n"),
+        Outcome::Refused(why) => refused(why),
+    }
+}
+
+// Writes a ladder as the file of a table of its own, to the front of a buffer and from there to standard output.
+fn show(ladder: Chain, cases: u64) {
+    let rows = ladder.rows;
+    let t = Table {
+        gauges: ladder.gauges,
+        cases: cases,
+        rows: rows,
+    };
+    let mut buffer = io::large_buffer();
+    let written = writer::write(t, &mut buffer);
+    match written {
+        Written::Length(n) => say_front(&buffer, n),
+        Written::Refused(why) => refused(why),
+    }
+}
+
+fn refused(why: Refusal) {
+    say(b"refused ");
+    io::print_decimal(STDOUT_FILENO, refusals::refusal_number(why));
+    say(b"\n");
+}
+
+fn say_front(bytes: &[u8], n: usize) {
+    let from = 0;
+    if n <= bytes.len() {
+        say(&bytes[from..n]);
+    }
+}
+
+fn say(bytes: &[u8]) {
+    io::write_all(STDOUT_FILENO, bytes);
+}
