@@ -1,4 +1,4 @@
-// The library against a plain lister over all sets of pairs of small tables (design.md, section 6). Each group writes one line with what it
+// The library against a plain lister over all sets of pairs of small tables. Each group writes one line with what it
 // compared; a disagreement shows in its count, and the first of a group is written out before it.
 mod arrays;
 mod chains;
