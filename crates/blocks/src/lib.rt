@@ -36,9 +36,9 @@ pub struct Block {
 
 // One turn: the run after it, the place behind what was written, and whether the list ended.
 struct Turn {
-    pub run: GaugeRun,
-    pub next: usize,
-    pub over: bool,
+    run: GaugeRun,
+    next: usize,
+    over: bool,
 }
 
 // Fills a buffer with the files of the next ladders, on any paused value: 10, 11 and 15 are refused, then 16 for a buffer shorter than the

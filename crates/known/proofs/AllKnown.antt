@@ -89,7 +89,7 @@ holds K5 = (lists k5 _ _ _ (shape k5 _ _ refl refl refl refl) refl refl refl, re
 holds K6 = record { within = k6-within; no-chain = k6-no-chain }
 holds K7 = record { within = k7-within; chain = k7-chain; not-maximal = k7-not-maximal }
 holds K8 = record { within = k8-within; chain = k8-chain; first = grow-first (tableRows k2) k8 k8-within k8-chain }
-holds K9 = record { last = refl; sooner = none-ends k2 24 tt }
+holds K9 = record { last = refl; sooner = none-ends k2 _ tt }
 holds K10 = (shape k10 _ _ refl refl refl refl, refl, refl, refl, refl)
 
 -- what stands at a place of a list is in it

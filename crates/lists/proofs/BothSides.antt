@@ -21,7 +21,7 @@ use Rattle.table.proofs.Legality.{length-rows, legal-cases}
 use Rattle.rules.specs.Sequences.{All, Sorted, factorial}
 use Rattle.rules.proofs.Sequences.{All-of}
 use Rattle.lists.specs.PickSequence.{Precedes}
-use Rattle.lists.specs.Lists.{SideList, Side, gaugeSide, caseSide, GaugeList, CaseList}
+use Rattle.lists.specs.Lists.{Earlier, SideList, Side, gaugeSide, caseSide, GaugeList, CaseList}
 use Rattle.lists.specs.OnTable.{chainOf, handOut}
 use Rattle.lists.proofs.Listed.{picksInOrder, chainsInOrder, listed, lists-length, gauge-list, leaves-few}
 
@@ -87,7 +87,7 @@ module _ (t : Table) (s : Side) (f : Fair t s) where
       onto : (x : List ℕ) → IsMaximal (tableRows t) x → List·Memᴰ x (map (s .byGauges) own)
       onto x m = Memᴰ·cast (sym (f .over x m .1)) (Memᴰ·map (s .byGauges) (gauge-list (s .rows) .members (s .key x) .1 (f .over x m .0)))
 
-      ascends : Sorted (λ (x y : List ℕ). Precedes (s .key x) (s .key y)) (map (s .byGauges) own)
+      ascends : Sorted (Earlier (s .key)) (map (s .byGauges) own)
       ascends =
           sorted-back Precedes (s .byGauges) (s .key) own (All-of (λ (y : List ℕ). s .key (s .byGauges y) ≡ y) own (λ y m. f .home y (own-maximal y m) .1))
           (gauge-list (s .rows) .ascends)

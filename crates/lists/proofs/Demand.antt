@@ -3,7 +3,7 @@
 --
 -- In order: the demand; a run called on long enough ends (`run-ends`), with its side's whole list handed out (`run-lists-all`); the demand leaves
 -- one list of calls (`demand-unique`), also by what it says of each call alone (`demand-each`); the limit after a hand-out (`demand-gap`); two runs
--- that have ended share one set (`one-set`, `one-set-reads`).
+-- that have ended share one set (`one-set-reads`, `one-set`).
 --
 -- Elsewhere: that the limits are attained, `limits-attained` in crate `known`; the lists themselves, BothSides.antt.
 use mathlib.Core.Path.{_≡_, refl, sym, _∙_, subst}
@@ -73,6 +73,11 @@ pub demand-gap : (t : Table) (s : Side) (bs : List ℕ) (sooner later : List Cal
     → c .answer ≡ handed y → movesUntil isHandOutOrEnd later ≤ 2 * s .count + 1
 demand-gap t s bs sooner later c y d h = d .gap sooner later c y refl h
 
+-- what `OneSet` says, as a user reads it
+pub one-set-reads : (t : Table) (xs ys : List (List ℕ)) → OneSet t xs ys
+    → ((x : List ℕ) → List·Memᴰ x xs ↔ List·Memᴰ x ys) × (length xs ≡ length ys) × (length ys ≤ factorial (min (t .gauges) (t .cases)))
+one-set-reads t xs ys o = (o .same, o .equally-many, omega (arith, o .equally-many, o .few))
+
 -- two runs of one table, of whichever sides, that have ended
 pub one-set : (t : Table) (s z : Side) (us vs : List ℕ) (cs ds : List Call) → Demand t s us cs → Demand t z vs ds
     → (c : Call) → List·Memᴰ c cs → c .answer ≡ end → (d : Call) → List·Memᴰ d ds → d .answer ≡ end → OneSet t (handouts cs) (handouts ds)
@@ -87,7 +92,3 @@ one-set t s z us vs cs ds a b c m e d n g = record {
 
     ys : SideList (tableRows t) (z .key) (handouts ds)
     ys = rw (b .complete d n g) (b .listed)
-
-pub one-set-reads : (t : Table) (xs ys : List (List ℕ)) → OneSet t xs ys
-    → ((x : List ℕ) → List·Memᴰ x xs ↔ List·Memᴰ x ys) × (length xs ≡ length ys) × (length ys ≤ factorial (min (t .gauges) (t .cases)))
-one-set-reads t xs ys o = (o .same, o .equally-many, omega (arith, o .equally-many, o .few))

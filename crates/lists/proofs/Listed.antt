@@ -16,7 +16,7 @@ use Rattle.rules.proofs.Sequences.{All-of, Sorted-map, before-irrefl, before-tr
 use Rattle.rules.proofs.Trees.{leaves}
 use Rattle.rules.proofs.Leaves.{leaves-ascend, leaf-iff, leaf-count}
 use Rattle.lists.specs.PickSequence.{pickSeq, Precedes}
-use Rattle.lists.specs.Lists.{SideList}
+use Rattle.lists.specs.Lists.{Earlier, SideList}
 use Rattle.lists.specs.Picks.{candidates}
 use Rattle.lists.specs.OnTable.{chainOf}
 use Rattle.lists.proofs.Candidates.{IsLeaf}
@@ -27,8 +27,7 @@ use Rattle.lists.proofs.Maximal.{leaf-maximal, maximal-leaf, maximal-ch
 module _ {r : List ℕ} {key : List ℕ → List ℕ} where
   pub list-unique : (xs ys : List (List ℕ)) → SideList r key xs → SideList r key ys → xs ≡ ys
   list-unique xs ys a b =
-      sorted-unique (λ (x y : List ℕ). Precedes (key x) (key y)) (λ x. before-irrefl (pickSeq (key x)))
-      (λ x y z. before-trans (pickSeq (key x)) (pickSeq (key y)) (pickSeq (key z))) xs ys (a .ascends) (b .ascends)
+      sorted-unique (Earlier key) (λ x. before-irrefl (pickSeq (key x))) (λ x y z h k. search (before-trans, h, k)) xs ys (a .ascends) (b .ascends)
       (λ x. (λ m. b .members x .1 (a .members x .0 m), λ m. a .members x .1 (b .members x .0 m)))
 
 -- two lists of one table, whatever the keys: the same members, so equally many
@@ -41,7 +40,7 @@ module _ {r : List ℕ} {key key′ : List ℕ → List ℕ} (xs ys : List (List
 
 -- a list that ascends has no set twice
 pub listed : {r : List ℕ} {key : List ℕ → List ℕ} (xs : List (List ℕ)) → ((x : List ℕ) → List·Memᴰ x xs ↔ IsMaximal r x)
-    → Sorted (λ (x y : List ℕ). Precedes (key x) (key y)) xs → SideList r key xs
+    → Sorted (Earlier key) xs → SideList r key xs
 listed {r} {key} xs m a = record { members = m; once = Sorted-map (λ x y h e. before-irrefl (pickSeq (key y)) (rw e at h)) xs a; ascends = a }
 
 -- ---- the list of rows

@@ -14,11 +14,15 @@ use Rattle.transpose.specs.Transposing.{transpose}
 use Rattle.rules.specs.Sequences.{Sorted}
 use Rattle.lists.specs.PickSequence.{Precedes}
 
+-- x comes before y by the pick sequences of their keys
+abbrev pub Earlier : (List ℕ → List ℕ) → List ℕ → List ℕ → Type 0
+Earlier key x y = Precedes (key x) (key y)
+
 -- xs is all the maximal chains of the table whose rows are r, each once, ascending by the pick sequences of their keys
 pub record SideList (r : List ℕ) (key : List ℕ → List ℕ) (xs : List (List ℕ)) : Type 0 where
   pub members : (x : List ℕ) → List·Memᴰ x xs ↔ IsMaximal r x
   pub once : Sorted (λ (x y : List ℕ). x ≢ y) xs
-  pub ascends : Sorted (λ (x y : List ℕ). Precedes (key x) (key y)) xs
+  pub ascends : Sorted (Earlier key) xs
 
 -- One side of a table: how many numbers can be picked, and the rows that its run works on; `key` has a set of the table's pairs as the side
 -- sees it, and `byGauges` gives a set of the side's pairs back by gauge rows.
