@@ -50,7 +50,7 @@ module _ (l : List ℕ) where
   pub head-long : 1024 < length l → badHead LineTooLong ≡ headLine l
   head-long h = rw (lt-ltb 1024 (length l) h)
 
-  pub pair-long : (gs cs : ℕ) → 1024 < length l → badPair LineTooLong ≡ pairLine gs cs l
+  pub pair-long : (gs : Gauge) (cs : Case) → 1024 < length l → badPair LineTooLong ≡ pairLine gs cs l
   pair-long gs cs h = rw (lt-ltb 1024 (length l) h)
 
   module _ (h : length l ≤ 1024) where
@@ -84,7 +84,7 @@ module _ (l : List ℕ) where
         pub head-size : u ≡ true → (v : Bool) → v ≡ inRange 64 c → v ≡ true → Size (record { 0 = g }) (record { 0 = c }) n ≡ headLine l
         head-size k v b m = rw (← a, k, ← b, m) at (ap sizeOf (sym x) ∙ head-fields)
 
-    module _ (gs cs : ℕ) (f : Fields) (q : f ≡ fields l) where
+    module _ (gs : Gauge) (cs : Case) (f : Fields) (q : f ≡ fields l) where
       pair-fields : pairOf gs cs f ≡ pairLine gs cs l
       pair-fields = rw (le-ltb 1024 (length l) h, ← q)
 
@@ -101,57 +101,57 @@ module _ (l : List ℕ) where
           go (Three a b c) n = refl
           go Other n = refl
 
-      module _ (g c : ℕ) (x : f ≡ Two g c) (u : Bool) (a : u ≡ inRange gs g) where
+      module _ (g c : ℕ) (x : f ≡ Two g c) (u : Bool) (a : u ≡ inRange (gs .0) g) where
         pub pair-gauge : u ≡ false → badPair PairRange ≡ pairLine gs cs l
         pair-gauge k = rw (← a, k) at (ap (pairOf gs cs) (sym x) ∙ pair-fields)
 
-        pub pair-case : u ≡ true → (v : Bool) → v ≡ inRange cs c → v ≡ false → badPair PairRange ≡ pairLine gs cs l
+        pub pair-case : u ≡ true → (v : Bool) → v ≡ inRange (cs .0) c → v ≡ false → badPair PairRange ≡ pairLine gs cs l
         pair-case k v b m = rw (← a, k, ← b, m) at (ap (pairOf gs cs) (sym x) ∙ pair-fields)
 
-        pub pair-pair : u ≡ true → (v : Bool) → v ≡ inRange cs c → v ≡ true → Pair (record { 0 = g }) (record { 0 = c }) ≡ pairLine gs cs l
+        pub pair-pair : u ≡ true → (v : Bool) → v ≡ inRange (cs .0) c → v ≡ true → Pair (record { 0 = g }) (record { 0 = c }) ≡ pairLine gs cs l
         pair-pair k v b m = rw (← a, k, ← b, m) at (ap (pairOf gs cs) (sym x) ∙ pair-fields)
 
 -- g is in 1..gs, and c in 1..cs
-pub record Bounded (gs cs g c : ℕ) : Type 0 where
-  pub gauge-low : 1 ≤ g
-  pub gauge-high : g ≤ gs
-  pub case-low : 1 ≤ c
-  pub case-high : c ≤ cs
+pub record Bounded (gs : Gauge) (cs : Case) (g : Gauge) (c : Case) : Type 0 where
+  pub gauge-low : 1 ≤ g .0
+  pub gauge-high : g .0 ≤ gs .0
+  pub case-low : 1 ≤ c .0
+  pub case-high : c .0 ≤ cs .0
 
-bounded : {gs cs g c a b : ℕ} → g ≡ a → c ≡ b → (1 ≤ a) × (a ≤ gs) → (1 ≤ b) × (b ≤ cs) → Bounded gs cs g c
+bounded : {gs g : Gauge} {cs c : Case} {a b : ℕ} → g .0 ≡ a → c .0 ≡ b → (1 ≤ a) × (a ≤ gs .0) → (1 ≤ b) × (b ≤ cs .0) → Bounded gs cs g c
 bounded p q m n = record { gauge-low = omega arith; gauge-high = omega arith; case-low = omega arith; case-high = omega arith }
 
 -- a pair that is taken is in range
-pub pair-range : (gs cs : ℕ) (l : List ℕ) (g : Gauge) (c : Case) → Pair g c ≡ pairLine gs cs l → Bounded gs cs (g .0) (c .0)
+pub pair-range : (gs : Gauge) (cs : Case) (l : List ℕ) (g : Gauge) (c : Case) → Pair g c ≡ pairLine gs cs l → Bounded gs cs g c
 pair-range gs cs l g c e = long (ltb 1024 (length l)) e
   where
-    pairs : (a b : ℕ) (t u : Bool) → inRange gs a ≡ t → inRange cs b ≡ u
-        → Pair g c ≡ cond (t && u) (Pair (record { 0 = a }) (record { 0 = b })) (badPair PairRange) → Bounded gs cs (g .0) (c .0)
+    pairs : (a b : ℕ) (t u : Bool) → inRange (gs .0) a ≡ t → inRange (cs .0) b ≡ u
+        → Pair g c ≡ cond (t && u) (Pair (record { 0 = a }) (record { 0 = b })) (badPair PairRange) → Bounded gs cs g c
     pairs a b true true x y z =
         let p : g ≡ record { 0 = a } = cc in
         let q : c ≡ record { 0 = b } = cc in
-        let m = range-is gs a x in
-        let n = range-is cs b y in
+        let m = range-is (gs .0) a x in
+        let n = range-is (cs .0) b y in
         bounded (ap (λ (x : Gauge). x .0) p) (ap (λ (x : Case). x .0) q) m n
     pairs a b true false x y z = let w : _≡_ {A = ℕ} 0 1 = cc in absurd (omega arith)
     pairs a b false u x y z = let w : _≡_ {A = ℕ} 0 1 = cc in absurd (omega arith)
 
-    kinds : (k : Fields) → Pair g c ≡ pairOf gs cs k → Bounded gs cs (g .0) (c .0)
+    kinds : (k : Fields) → Pair g c ≡ pairOf gs cs k → Bounded gs cs g c
     kinds Blank z = let w : _≡_ {A = ℕ} 0 1 = cc in absurd (omega arith)
-    kinds (Two a b) z = pairs a b (inRange gs a) (inRange cs b) refl refl z
+    kinds (Two a b) z = pairs a b (inRange (gs .0) a) (inRange (cs .0) b) refl refl z
     kinds (Three a b d) z = let w : _≡_ {A = ℕ} 0 1 = cc in absurd (omega arith)
     kinds Other z = let w : _≡_ {A = ℕ} 0 1 = cc in absurd (omega arith)
 
-    long : (t : Bool) → Pair g c ≡ cond t (badPair LineTooLong) (pairOf gs cs (fields l)) → Bounded gs cs (g .0) (c .0)
+    long : (t : Bool) → Pair g c ≡ cond t (badPair LineTooLong) (pairOf gs cs (fields l)) → Bounded gs cs g c
     long true z = let w : _≡_ {A = ℕ} 0 1 = cc in absurd (omega arith)
     long false z = kinds (fields l) z
 
 -- a size that is taken is in range
-pub size-range : (l : List ℕ) (g : Gauge) (c : Case) (n : ℕ) → Size g c n ≡ headLine l → Bounded 64 64 (g .0) (c .0)
+pub size-range : (l : List ℕ) (g : Gauge) (c : Case) (n : ℕ) → Size g c n ≡ headLine l → Bounded (record { 0 = 64 }) (record { 0 = 64 }) g c
 size-range l g c n e = long (ltb 1024 (length l)) e
   where
     sizes : (a b m : ℕ) (t u : Bool) → inRange 64 a ≡ t → inRange 64 b ≡ u
-        → Size g c n ≡ cond (t && u) (Size (record { 0 = a }) (record { 0 = b }) m) (badHead SizeRange) → Bounded 64 64 (g .0) (c .0)
+        → Size g c n ≡ cond (t && u) (Size (record { 0 = a }) (record { 0 = b }) m) (badHead SizeRange) → Bounded (record { 0 = 64 }) (record { 0 = 64 }) g c
     sizes a b m true true x y z =
         let p : g ≡ record { 0 = a } = cc in
         let q : c ≡ record { 0 = b } = cc in
@@ -159,16 +159,16 @@ size-range l g c n e = long (ltb 1024 (length l)) e
     sizes a b m true false x y z = let w : _≡_ {A = ℕ} 0 1 = cc in absurd (omega arith)
     sizes a b m false u x y z = let w : _≡_ {A = ℕ} 0 1 = cc in absurd (omega arith)
 
-    kinds : (k : Fields) → Size g c n ≡ sizeOf k → Bounded 64 64 (g .0) (c .0)
+    kinds : (k : Fields) → Size g c n ≡ sizeOf k → Bounded (record { 0 = 64 }) (record { 0 = 64 }) g c
     kinds Blank z = let w : _≡_ {A = ℕ} 0 1 = cc in absurd (omega arith)
     kinds (Two a b) z = let w : _≡_ {A = ℕ} 0 1 = cc in absurd (omega arith)
     kinds (Three a b m) z = sizes a b m (inRange 64 a) (inRange 64 b) refl refl z
     kinds Other z = let w : _≡_ {A = ℕ} 0 1 = cc in absurd (omega arith)
 
-    comment : (t : Bool) → Size g c n ≡ cond t skipHead (sizeOf (fields l)) → Bounded 64 64 (g .0) (c .0)
+    comment : (t : Bool) → Size g c n ≡ cond t skipHead (sizeOf (fields l)) → Bounded (record { 0 = 64 }) (record { 0 = 64 }) g c
     comment true z = let w : _≡_ {A = ℕ} 0 1 = cc in absurd (omega arith)
     comment false z = kinds (fields l) z
 
-    long : (t : Bool) → Size g c n ≡ cond t (badHead LineTooLong) (cond (isComment l) skipHead (sizeOf (fields l))) → Bounded 64 64 (g .0) (c .0)
+    long : (t : Bool) → Size g c n ≡ cond t (badHead LineTooLong) (cond (isComment l) skipHead (sizeOf (fields l))) → Bounded (record { 0 = 64 }) (record { 0 = 64 }) g c
     long true z = let w : _≡_ {A = ℕ} 0 1 = cc in absurd (omega arith)
     long false z = comment (isComment l) z

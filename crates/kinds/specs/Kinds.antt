@@ -7,6 +7,8 @@ use mathlib.Core.Bool.{Bool, false, cond, _&&_}
 use lib.ListN.{length}
 use lib.Dec.{ltb, eqb}
 use Rattle.table.specs.Tables.{inRange}
+use Rattle.table.specs.declared.Gauge.{Gauge}
+use Rattle.table.specs.declared.Case.{Case}
 use Rattle.refusals.specs.declared.Refusal.the-variants.{LineTooLong, SizeFields, SizeRange, PairFields, PairRange}
 use Rattle.text.specs.Fields.{fields}
 use Rattle.text.specs.declared.Fields.{Fields}
@@ -37,13 +39,13 @@ abbrev pub headLine : List ℕ → HeadLine
 headLine l = cond (tooLong l) (badHead LineTooLong) (cond (isComment l) skipHead (sizeOf (fields l)))
 
 -- "Pair line: 6 not two fields; then 7 g or c outside 1..G, 1..L"; a blank line is skipped
-abbrev pub pairOf : ℕ → ℕ → Fields → PairLine
+abbrev pub pairOf : Gauge → Case → Fields → PairLine
 pairOf gs cs Blank = skipPair
-pairOf gs cs (Two g c) = cond (inRange gs g && inRange cs c) (Pair (record { 0 = g }) (record { 0 = c })) (badPair PairRange)
+pairOf gs cs (Two g c) = cond (inRange (gs .0) g && inRange (cs .0) c) (Pair (record { 0 = g }) (record { 0 = c })) (badPair PairRange)
 pairOf gs cs (Three a b c) = badPair PairFields
 pairOf gs cs Other = badPair PairFields
 
 -- a line behind the size line, where gs is the last gauge and cs the last case: blank, or a pair `g c`; "A `%` line after the size line
 -- is a malformed pair line"
-abbrev pub pairLine : ℕ → ℕ → List ℕ → PairLine
+abbrev pub pairLine : Gauge → Case → List ℕ → PairLine
 pairLine gs cs l = cond (tooLong l) (badPair LineTooLong) (pairOf gs cs (fields l))

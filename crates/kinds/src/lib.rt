@@ -86,7 +86,7 @@ pub fn head_line(line: &[u8]) -> HeadLine
 
 // A line behind the size line, where `gauges` is the last gauge and `cases` the last case: blank, or a pair.
 pub fn pair_line(line: &[u8], gauges: Gauge, cases: Case) -> PairLine
-    ensures { λ r. ⌜ r ≡ pairLine (gauges .0) (cases .0) (now (line .entry)) ⌝ }
+    ensures { λ r. ⌜ r ≡ pairLine gauges cases (now (line .entry)) ⌝ }
 {
     if MOST_LINE < line.len() {
         return PairLine::Bad(Refusal::LineTooLong);

@@ -10,6 +10,8 @@ use borrow.Author.Tests.{eqb-true}
 use Rattle.refusals.specs.Answers.{Answer, number}
 use Rattle.refusals.specs.declared.Refusal.{Refusal}
 use Rattle.refusals.specs.declared.Refusal.the-variants.{LineTooLong, PairFields, PairRepeated, PairCount}
+use Rattle.table.specs.declared.Gauge.{Gauge}
+use Rattle.table.specs.declared.Case.{Case}
 use Rattle.table.specs.declared.Table.{Table}
 use Rattle.refusals.proofs.Answering.{number-pos}
 use Rattle.text.specs.Lines.{Line}
@@ -32,7 +34,7 @@ comment-fields [] e = let z : _≡_ {A = ℕ} 0 1 = cc in absurd (omega arith)
 comment-fields (b ∷ s) e = rw (eqb-true b 37 e)
 
 -- it is a pair line that is refused
-comment-bad : (gs cs : ℕ) (l : List ℕ) → isComment l ≡ true → (x : Refusal) × (pairLine gs cs l ≡ badPair x)
+comment-bad : (gs : Gauge) (cs : Case) (l : List ℕ) → isComment l ≡ true → (x : Refusal) × (pairLine gs cs l ≡ badPair x)
 comment-bad gs cs l e = go (tooLong l)
   where
     go : (t : Bool) → (x : Refusal) × (cond t (badPair LineTooLong) (pairOf gs cs (fields l)) ≡ badPair x)
@@ -40,7 +42,7 @@ comment-bad gs cs l e = go (tooLong l)
     go false = (PairFields, ap (pairOf gs cs) (comment-fields l e))
 
 -- a line that is a pair or blank is no comment
-not-comment : (gs cs : ℕ) (l : List ℕ) (k : PairLine) → pairLine gs cs l ≡ k → ((x : Refusal) → k ≡ badPair x → ⊥) → isComment l ≡ false
+not-comment : (gs : Gauge) (cs : Case) (l : List ℕ) (k : PairLine) → pairLine gs cs l ≡ k → ((x : Refusal) → k ≡ badPair x → ⊥) → isComment l ≡ false
 not-comment gs cs l k p n = go (isComment l) refl
   where
     go : (t : Bool) → isComment l ≡ t → t ≡ false
@@ -51,7 +53,7 @@ not-comment gs cs l k p n = go (isComment l) refl
 abbrev Quiet : List Line → Answer Table → Type 0
 Quiet ls a = a .refusal ≡ 0 → NoComments ls
 
-pub late-comment : (gs cs left : ℕ) (rows : List ℕ) (ls : List Line) → readPairs gs cs left rows ls .refusal ≡ 0 → NoComments ls
+pub late-comment : (gs : Gauge) (cs : Case) (left : ℕ) (rows : List ℕ) (ls : List Line) → readPairs gs cs left rows ls .refusal ≡ 0 → NoComments ls
 unfolding readPairs
 late-comment gs cs left rows [] e = none
 late-comment gs cs left rows (l ∷ ls) e = go (pairLine gs cs (l .text)) refl (late-comment gs cs left rows ls) (λ v. late-comment gs cs (left - 1) v ls) e
@@ -63,13 +65,13 @@ late-comment gs cs left rows (l ∷ ls) e = go (pairLine gs cs (l .text)) refl (
     go (badPair x) p skip next e = let z : number x ≡ 0 = rw (p, readPairs) at e in absurd (omega (arith, number-pos x))
     go (Pair g c) p skip next e =
         more (not-comment gs cs (l .text) (Pair g c) p (λ x q. let z : _≡_ {A = ℕ} 0 1 = cc in omega arith))
-        (take (hasPair rows (g .0) (c .0)) (eqb left 0) (rw (p, readPairs) at e))
+        (take (hasPair rows g c) (eqb left 0) (rw (p, readPairs) at e))
       where
         take : (t u : Bool)
             → Quiet ls (elim t [
               | true ↦ refusedFile PairRepeated
-              | false ↦ elim u [ true ↦ refusedFile PairCount | false ↦ readPairs gs cs (left - 1) (addPair rows (g .0) (c .0)) ls ]
+              | false ↦ elim u [ true ↦ refusedFile PairCount | false ↦ readPairs gs cs (left - 1) (addPair rows g c) ls ]
             ])
         take true u e = absurd (omega arith)
         take false true e = absurd (omega arith)
-        take false false e = next (addPair rows (g .0) (c .0)) e
+        take false false e = next (addPair rows g c) e

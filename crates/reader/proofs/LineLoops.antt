@@ -31,9 +31,9 @@ use Rattle.kinds.specs.declared.PairLine.{PairLine}
 use Rattle.kinds.specs.declared.PairLine.the-variants.{Pair, Skip as skipPair, Bad as badPair}
 
 -- the end of the pair lines; A is what the loop started with
-module _ (f : List ℕ) (at : ℕ) (gs cs left : ℕ) (rows : List ℕ) (A : Answer Table)
+module _ (f : List ℕ) (at : ℕ) (gs : Gauge) (cs : Case) (left : ℕ) (rows : List ℕ) (A : Answer Table)
     (q : readPairs gs cs left rows (lines (drop at f)) ≡ A) (h : length f ≤ at) where
-  pub pairs-done : left ≡ 0 → accepted (record { gauges = gs; cases = cs; rows = rows }) ≡ A
+  pub pairs-done : left ≡ 0 → accepted (record { gauges = gs .0; cases = cs .0; rows = rows }) ≡ A
   unfolding readPairs lines
   pairs-done z = rw (eq-eqb left 0 z) at (rw (drop-of-length-le f h) at q)
 
@@ -42,13 +42,14 @@ module _ (f : List ℕ) (at : ℕ) (gs cs left : ℕ) (rows : List ℕ) (A : Ans
   pairs-fewer z = rw (ne-eqb left 0 z) at (rw (drop-of-length-le f h) at q)
 
 -- a turn of the loop over the pair lines: the line s at the place at is of the kind k
-pub record PairTurn (f : List ℕ) (at : ℕ) (s : Span) (gs cs left : ℕ) (rows : List ℕ) (k : PairLine) (A : Answer Table) : Type 0 where
+pub record PairTurn (f : List ℕ) (at : ℕ) (s : Span) (gs : Gauge) (cs : Case) (left : ℕ) (rows : List ℕ) (k : PairLine) (A : Answer Table) : Type 0 where
   pub here : at < length f
   pub span : s ≡ spanAt f at
   pub kind : k ≡ pairLine gs cs (take (s .end - at) (drop at f))
   pub goal : readPairs gs cs left rows (lines (drop at f)) ≡ A
 
-module _ {f : List ℕ} {at : ℕ} {s : Span} {gs cs left : ℕ} {rows : List ℕ} {k : PairLine} {A : Answer Table} (T : PairTurn f at s gs cs left rows k A) where
+module _ {f : List ℕ} {at : ℕ} {s : Span} {gs : Gauge} {cs : Case} {left : ℕ} {rows : List ℕ} {k : PairLine} {A : Answer Table}
+    (T : PairTurn f at s gs cs left rows k A) where
   one-line : (size : ℕ) × (readPairs gs cs left rows (record { text = take (s .end - at) (drop at f); size = size } ∷ lines (drop (s .next) f)) ≡ A)
   one-line = let w = lines-at f at s (T .span) (T .here) in (w .0, rw (w .1) at (T .goal))
 
@@ -61,10 +62,10 @@ module _ {f : List ℕ} {at : ℕ} {s : Span} {gs cs left : ℕ} {rows : List �
   turn-bad x = rw (sym (T .kind) ∙ x, readPairs) at (one-line .1)
 
   module _ {g : Gauge} {c : Case} (x : k ≡ Pair g c) where
-    pub turn-range : Bounded gs cs (g .0) (c .0)
+    pub turn-range : Bounded gs cs g c
     turn-range = pair-range gs cs (take (s .end - at) (drop at f)) g c (sym x ∙ T .kind)
 
-    module _ {t : Bool} (e : t ≡ hasPair rows (g .0) (c .0)) where
+    module _ {t : Bool} (e : t ≡ hasPair rows g c) where
       pub turn-repeated : t ≡ true → refusedFile PairRepeated ≡ A
       unfolding readPairs
       turn-repeated y = rw (sym e ∙ y) at (rw (sym (T .kind) ∙ x, readPairs) at (one-line .1))
@@ -73,7 +74,7 @@ module _ {f : List ℕ} {at : ℕ} {s : Span} {gs cs left : ℕ} {rows : List �
       unfolding readPairs
       turn-more y z = rw (eq-eqb left 0 z) at (rw (sym e ∙ y) at (rw (sym (T .kind) ∙ x, readPairs) at (one-line .1)))
 
-      pub turn-pair : t ≡ false → (left ≡ 0 → ⊥) → (v : ℕ) → v ≡ withCase (row rows (g .0 - 1)) (c .0)
+      pub turn-pair : t ≡ false → (left ≡ 0 → ⊥) → (v : ℕ) → v ≡ withCase (row rows (g .0 - 1)) c
           → readPairs gs cs (left - 1) (set rows (g .0 - 1) v) (lines (drop (s .next) f)) ≡ A
       unfolding readPairs
       turn-pair y z v w = rw w (rw (ne-eqb left 0 z) at (rw (sym e ∙ y) at (rw (sym (T .kind) ∙ x, readPairs) at (one-line .1))))
@@ -103,10 +104,10 @@ module _ {f : List ℕ} {at : ℕ} {s : Span} {k : HeadLine} {A : Answer Table} 
   head-bad x = rw (sym (T .kind) ∙ x, readHead) at (one-head .1)
 
   module _ {g : Gauge} {c : Case} {n : ℕ} (x : k ≡ Size g c n) where
-    pub head-range : Bounded 64 64 (g .0) (c .0)
+    pub head-range : Bounded (record { 0 = 64 }) (record { 0 = 64 }) g c
     head-range = size-range (take (s .end - at) (drop at f)) g c n (sym x ∙ T .kind)
 
-    pub head-size : readPairs (g .0) (c .0) n noRows (lines (drop (s .next) f)) ≡ A
+    pub head-size : readPairs g c n noRows (lines (drop (s .next) f)) ≡ A
     unfolding readHead
     head-size = rw (sym (T .kind) ∙ x, readHead) at (one-head .1)
 

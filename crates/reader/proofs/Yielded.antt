@@ -17,6 +17,8 @@ use Rattle.table.specs.Tables.{Legal, noRows}
 use Rattle.refusals.specs.Answers.{Answer, number}
 use Rattle.refusals.specs.declared.Refusal.{Refusal}
 use Rattle.refusals.specs.declared.Refusal.the-variants.{FileTooLong, NotTheBanner, SizeFields, PairRepeated, PairCount}
+use Rattle.table.specs.declared.Gauge.{Gauge}
+use Rattle.table.specs.declared.Case.{Case}
 use Rattle.table.specs.declared.Table.{Table}
 use Rattle.text.specs.Lines.{Line, lines}
 use Rattle.kinds.specs.Banner.{isBanner}
@@ -31,39 +33,39 @@ use Rattle.refusals.proofs.Answering.{number-pos}
 use Rattle.reader.proofs.LineLoops.{file-long}
 
 -- the rows of a table of gs gauges and cs cases
-record Rows (gs cs : ℕ) (rows : List ℕ) : Type 0 where
+record Rows (gs : Gauge) (cs : Case) (rows : List ℕ) : Type 0 where
   size : length rows ≡ 64
-  bits : (i : ℕ) → row rows i < 2 ^ cs
-  rest : (i : ℕ) → gs ≤ i → row rows i ≡ 0
+  bits : (i : ℕ) → row rows i < 2 ^ cs .0
+  rest : (i : ℕ) → gs .0 ≤ i → row rows i ≡ 0
 
 no-row : (n i : ℕ) → row (replicate n 0) i ≡ 0
 no-row zero i = refl
 no-row (suc n) zero = refl
 no-row (suc n) (suc i) = no-row n i
 
-rows-none : (gs cs : ℕ) → Rows gs cs noRows
-rows-none gs cs = record { size = refl; bits = λ i. omega (arith, no-row 64 i, pow-pos cs); rest = λ i h. no-row 64 i }
+rows-none : (gs : Gauge) (cs : Case) → Rows gs cs noRows
+rows-none gs cs = record { size = refl; bits = λ i. omega (arith, no-row 64 i, pow-pos (cs .0)); rest = λ i h. no-row 64 i }
 
 -- a pair in range keeps them so
-with-lt : (cs r c : ℕ) → 1 ≤ c → c ≤ cs → r < 2 ^ cs → withCase r c < 2 ^ cs
+with-lt : (cs : Case) (r : ℕ) (c : Case) → 1 ≤ c .0 → c .0 ≤ cs .0 → r < 2 ^ cs .0 → withCase r c < 2 ^ cs .0
 unfolding join
-with-lt cs r c l h k = or-lt cs r (2 ^ (c - 1)) k (pow-lt (omega arith))
+with-lt cs r c l h k = or-lt (cs .0) r (2 ^ (c .0 - 1)) k (pow-lt (omega arith))
 
-rows-more : {gs cs : ℕ} {rows : List ℕ} {g c : ℕ} → gs ≤ 64 → Rows gs cs rows → Bounded gs cs g c → Rows gs cs (addPair rows g c)
+rows-more : {gs : Gauge} {cs : Case} {rows : List ℕ} {g : Gauge} {c : Case} → gs .0 ≤ 64 → Rows gs cs rows → Bounded gs cs g c → Rows gs cs (addPair rows g c)
 rows-more {gs} {cs} {rows} {g} {c} m r b = record {
-  size = length-set rows (g - 1) v ∙ r .size;
-  bits = λ i. bits i (eqb i (g - 1)) refl;
-  rest = λ i h. getD-set-other rows (g - 1) i v 0 (λ e. omega (arith, b .gauge-low, b .gauge-high)) ∙ r .rest i h;
+  size = length-set rows (g .0 - 1) v ∙ r .size;
+  bits = λ i. bits i (eqb i (g .0 - 1)) refl;
+  rest = λ i h. getD-set-other rows (g .0 - 1) i v 0 (λ e. omega (arith, b .gauge-low, b .gauge-high)) ∙ r .rest i h;
 }
   where
     v : ℕ
-    v = withCase (row rows (g - 1)) c
+    v = withCase (row rows (g .0 - 1)) c
 
-    bits : (i : ℕ) (t : Bool) → eqb i (g - 1) ≡ t → row (addPair rows g c) i < 2 ^ cs
+    bits : (i : ℕ) (t : Bool) → eqb i (g .0 - 1) ≡ t → row (addPair rows g c) i < 2 ^ cs .0
     bits i true e =
-        rw (eqb-true i (g - 1) e, getD-set-same rows (g - 1) v 0 (omega (arith, r .size, b .gauge-low, b .gauge-high)))
-        (with-lt cs (row rows (g - 1)) c (b .case-low) (b .case-high) (r .bits (g - 1)))
-    bits i false e = rw (getD-set-other rows (g - 1) i v 0 (eqb-false i (g - 1) e)) (r .bits i)
+        rw (eqb-true i (g .0 - 1) e, getD-set-same rows (g .0 - 1) v 0 (omega (arith, r .size, b .gauge-low, b .gauge-high)))
+        (with-lt cs (row rows (g .0 - 1)) c (b .case-low) (b .case-high) (r .bits (g .0 - 1)))
+    bits i false e = rw (getD-set-other rows (g .0 - 1) i v 0 (eqb-false i (g .0 - 1) e)) (r .bits i)
 
 -- a refusal is not 0
 refuses : (x : Refusal) → number x ≡ 0 → ⊥
@@ -73,11 +75,12 @@ refuses x e = omega (arith, number-pos x)
 abbrev Sound : Answer Table → Type 0
 Sound a = a .refusal ≡ 0 → Legal (a .value)
 
-pairs-legal : {gs cs : ℕ} → Bounded 64 64 gs cs → (left : ℕ) (rows : List ℕ) → Rows gs cs rows → (ls : List Line) → Sound (readPairs gs cs left rows ls)
+pairs-legal : {gs : Gauge} {cs : Case} → Bounded (record { 0 = 64 }) (record { 0 = 64 }) gs cs → (left : ℕ) (rows : List ℕ) → Rows gs cs rows → (ls : List Line)
+    → Sound (readPairs gs cs left rows ls)
 unfolding readPairs
 pairs-legal {gs} {cs} b left rows r [] = go (eqb left 0)
   where
-    go : (t : Bool) → Sound (cond t (accepted (record { gauges = gs; cases = cs; rows = rows })) (refusedFile PairCount))
+    go : (t : Bool) → Sound (cond t (accepted (record { gauges = gs .0; cases = cs .0; rows = rows })) (refusedFile PairCount))
     go true e = record {
       gauges-low = b .gauge-low;
       gauges-high = b .gauge-high;
@@ -95,16 +98,16 @@ pairs-legal {gs} {cs} b left rows r (l ∷ ls) = go (pairLine gs cs (l .text)) r
         → Sound (readPairs gs cs left rows (l ∷ ls))
     go skipPair p ih more = rw (p, readPairs) ih
     go (badPair x) p ih more = rw (p, readPairs) (λ e. absurd (refuses x e))
-    go (Pair g c) p ih more = rw (p, readPairs) (take (hasPair rows (g .0) (c .0)) (eqb left 0))
+    go (Pair g c) p ih more = rw (p, readPairs) (take (hasPair rows g c) (eqb left 0))
       where
         take : (t u : Bool)
             → Sound (elim t [
               | true ↦ refusedFile PairRepeated
-              | false ↦ elim u [ true ↦ refusedFile PairCount | false ↦ readPairs gs cs (left - 1) (addPair rows (g .0) (c .0)) ls ]
+              | false ↦ elim u [ true ↦ refusedFile PairCount | false ↦ readPairs gs cs (left - 1) (addPair rows g c) ls ]
             ])
         take true u e = absurd (refuses PairRepeated e)
         take false true e = absurd (refuses PairCount e)
-        take false false e = more (addPair rows (g .0) (c .0)) (rows-more (b .gauge-high) r (pair-range gs cs (l .text) g c (sym p))) e
+        take false false e = more (addPair rows g c) (rows-more (b .gauge-high) r (pair-range gs cs (l .text) g c (sym p))) e
 
 head-legal : (ls : List Line) → Sound (readHead ls)
 unfolding readHead
@@ -114,7 +117,7 @@ head-legal (l ∷ ls) = go (headLine (l .text)) refl (head-legal ls)
     go : (k : HeadLine) → headLine (l .text) ≡ k → Sound (readHead ls) → Sound (readHead (l ∷ ls))
     go skipHead p ih = rw (p, readHead) ih
     go (badHead x) p ih = rw (p, readHead) (λ e. absurd (refuses x e))
-    go (Size g c n) p ih = rw (p, readHead) (pairs-legal (size-range (l .text) g c n (sym p)) n noRows (rows-none (g .0) (c .0)) ls)
+    go (Size g c n) p ih = rw (p, readHead) (pairs-legal (size-range (l .text) g c n (sym p)) n noRows (rows-none g c) ls)
 
 lines-legal : (ls : List Line) → Sound (readLines ls)
 unfolding readLines

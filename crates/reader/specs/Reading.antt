@@ -9,6 +9,8 @@ use Rattle.sets.specs.Sets.{bit, join}
 use Rattle.table.specs.Pairs.{row}
 use Rattle.table.specs.Tables.{noRows, blankTable}
 use Rattle.refusals.specs.Answers.{Answer, refused}
+use Rattle.table.specs.declared.Gauge.{Gauge}
+use Rattle.table.specs.declared.Case.{Case}
 use Rattle.table.specs.declared.Table.{Table}
 use Rattle.refusals.specs.declared.Refusal.{Refusal}
 use Rattle.refusals.specs.declared.Refusal.the-variants.{FileTooLong, NotTheBanner, SizeFields, PairRepeated, PairCount}
@@ -26,27 +28,27 @@ abbrev pub refusedFile : Refusal → Answer Table
 refusedFile why = refused why blankTable
 
 -- the pair of gauge g and case c is in the rows
-abbrev pub hasPair : List ℕ → ℕ → ℕ → Bool
-hasPair rows g c = bit (row rows (g - 1)) (c - 1)
+abbrev pub hasPair : List ℕ → Gauge → Case → Bool
+hasPair rows g c = bit (row rows (g .0 - 1)) (c .0 - 1)
 
 -- a row with case c, and the rows with the pair
-abbrev pub withCase : ℕ → ℕ → ℕ
-withCase r c = join r (2 ^ (c - 1))
+abbrev pub withCase : ℕ → Case → ℕ
+withCase r c = join r (2 ^ (c .0 - 1))
 
-abbrev pub addPair : List ℕ → ℕ → ℕ → List ℕ
-addPair rows g c = set rows (g - 1) (withCase (row rows (g - 1)) c)
+abbrev pub addPair : List ℕ → Gauge → Case → List ℕ
+addPair rows g c = set rows (g .0 - 1) (withCase (row rows (g .0 - 1)) c)
 
--- the pair lines of gs gauges and cs cases, of which left are still to come: "6 .. 7 .. then 8 pair repeated; then 9 more than N pairs",
+-- the pair lines up to the gauge gs and the case cs, of which left are still to come: "6 .. 7 .. then 8 pair repeated; then 9 more than N pairs",
 -- and at the end of the file "9 fewer than N pairs"
-unfoldable pub readPairs : ℕ → ℕ → ℕ → List ℕ → List Line → Answer Table
-readPairs gs cs left rows [] = cond (eqb left 0) (accepted (record { gauges = gs; cases = cs; rows = rows })) (refusedFile PairCount)
+unfoldable pub readPairs : Gauge → Case → ℕ → List ℕ → List Line → Answer Table
+readPairs gs cs left rows [] = cond (eqb left 0) (accepted (record { gauges = gs .0; cases = cs .0; rows = rows })) (refusedFile PairCount)
 readPairs gs cs left rows (l ∷ ls) =
     elim (pairLine gs cs (l .text)) [
       | skipPair ↦ readPairs gs cs left rows ls
       | Pair g c ↦
-          elim (hasPair rows (g .0) (c .0)) [
+          elim (hasPair rows g c) [
             | true ↦ refusedFile PairRepeated
-            | false ↦ elim (eqb left 0) [ true ↦ refusedFile PairCount | false ↦ readPairs gs cs (left - 1) (addPair rows (g .0) (c .0)) ls ]
+            | false ↦ elim (eqb left 0) [ true ↦ refusedFile PairCount | false ↦ readPairs gs cs (left - 1) (addPair rows g c) ls ]
           ]
       | badPair why ↦ refusedFile why
     ]
@@ -57,7 +59,7 @@ readHead [] = refusedFile SizeFields
 readHead (l ∷ ls) =
     elim (headLine (l .text)) [
       | skipHead ↦ readHead ls
-      | Size g c n ↦ readPairs (g .0) (c .0) n noRows ls
+      | Size g c n ↦ readPairs g c n noRows ls
       | badHead why ↦ refusedFile why
     ]
 

@@ -98,7 +98,7 @@ fn read_head(file: &[u8], from: usize) -> Made
 // The pair lines from a place on, `count` in number, where `gauges` is the last gauge and `cases` the last case.
 fn read_pairs(file: &[u8], from: usize, gauges: Gauge, cases: Case, count: u64) -> Made
     requires { ⌜ (from ≤ length (now file)) × (gauges .0 ≤ 64) × (cases .0 ≤ 64) ⌝ }
-    ensures { λ r. ⌜ made r ≡ readPairs (gauges .0) (cases .0) count noRows (lines (drop from (now (file .entry)))) ⌝ }
+    ensures { λ r. ⌜ made r ≡ readPairs gauges cases count noRows (lines (drop from (now (file .entry)))) ⌝ }
 {
     let mut rows = [0u64; 64];
     let mut left = count;
@@ -139,7 +139,7 @@ fn read_pairs(file: &[u8], from: usize, gauges: Gauge, cases: Case, count: u64) 
 // The row with the bit of a case (01: "bit c-1").
 fn with_case(row: u64, c: Case) -> u64
     requires { ⌜ (1 ≤ c .0) × (c .0 ≤ 64) ⌝ }
-    ensures { λ r. ⌜ r ≡ withCase row (c .0) ⌝ }
+    ensures { λ r. ⌜ r ≡ withCase row c ⌝ }
 {
     row | (1u64 << (c.0 - 1))
 }

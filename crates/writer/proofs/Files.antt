@@ -1,45 +1,54 @@
 -- The file as the code writes it, part by part, and the answers of `write`: one law for each of its returns; and that no two answers
 -- read alike.
-use Prim.Native.Nat.{ℕ, _+_, _≤_, _<_}
+use Prim.Native.Nat.{ℕ, _+_, _^_, _≤_, _<_}
 use mathlib.Core.Path.{_≡_, ap, sym, _∙_, subst}
 use mathlib.Core.List.{List, [], _++_, append-assoc}
 use native.Mathlib.Omega.{arith}
 use lib.ListN.{length, drop, length-append}
 use lib.Seq.{sets-eq}
 use borrow.Author.Tests.{ne-eqb, lt-ltb, le-ltb}
-use Rattle.table.specs.Tables.{tableRefusal}
+use Rattle.table.specs.Tables.{Legal, tableRefusal, tableRows}
+use Rattle.table.proofs.Legality.{row-tableRows}
 use Rattle.refusals.specs.Answers.{number, Answer, refused}
 use Rattle.refusals.specs.declared.Refusal.{Refusal}
 use Rattle.refusals.specs.declared.Refusal.the-variants.{BufferTooShort}
 use Rattle.table.specs.declared.Table.{Table}
 use Rattle.refusals.proofs.Answering.{number-pos, number-injective, answer-refused, answer-given}
-use Rattle.writer.specs.Writing.{written, digits, pairs, writeFile, writeRefusal, writeAnswer, bufferAfter}
+use Rattle.writer.specs.Writing.{written, digits, gaugeOf, pairs, writeFile, writeRefusal, writeAnswer, bufferAfter}
 use Rattle.writer.specs.private.StoreSteps.{Wrote, pairsAt, rowsFrom, fileBytes, IsTotals}
 use Rattle.writer.specs.declared.Written.{Written}
 use Rattle.writer.specs.declared.Written.the-variants.{Length, Refused}
 use Rattle.writer.specs.declared.Totals.{Totals}
+use Rattle.writer.proofs.PairLines.{rows-wide}
 use Rattle.writer.proofs.Counting.{Small, counting-small}
 
 -- ---- the parts of the file
 pub file-length : (t : Table) (n : ℕ) → length (fileBytes t n)
-    ≡ 52 + length (digits (t .gauges)) + length (digits (t .cases)) + length (digits n) + length (rowsFrom (t .cases) (t .gauges) (t .rows) 0)
+    ≡ 52 + length (digits (t .gauges)) + length (digits (t .cases)) + length (digits n) + length (rowsFrom (gaugeOf (t .gauges)) (t .rows) 0)
 file-length t n = simp length-append (omega arith)
 
-pub file-is : (t : Table) (s : Totals) → IsTotals (pairsAt (t .cases) (t .gauges) (t .rows) 0) s → fileBytes t (s .count) ≡ writeFile t
-unfolding writeFile
-file-is t s h = ap (λ (n : ℕ). fileBytes t n) (h .pairs) ∙ simp append-assoc
+module _ (t : Table) (ok : Legal t) where
+  -- the pairs of its rows over all 64 cases are its pairs
+  pub pairs-all : pairsAt (gaugeOf (t .gauges)) (t .rows) 0 ≡ pairs t
+  pairs-all =
+      rows-wide (t .cases) 1 (tableRows t) (ok .cases-high) (λ i. subst (λ (r : ℕ). r < 2 ^ t .cases) (sym (row-tableRows t ok i)) (ok .rows-bits i))
 
-pub totals-small : (t : Table) (s : Totals) → IsTotals (pairsAt (t .cases) (t .gauges) (t .rows) 0) s → t .cases ≤ 64 → t .gauges ≤ 64 → Small (s .count) (s .size)
-totals-small t s h c g =
-    counting-small (t .cases) (t .gauges) (t .rows) {ps = []} (record { pairs = omega (arith, h .pairs); bytes = omega (arith, h .bytes) }) c g
+  module _ (s : Totals) (h : IsTotals (pairsAt (gaugeOf (t .gauges)) (t .rows) 0) s) where
+    pub file-is : fileBytes t (s .count) ≡ writeFile t
+    unfolding writeFile
+    file-is = rw (h .pairs, pairs-all) (simp append-assoc)
 
-pub size-is : (t : Table) (s : Totals) → IsTotals (pairsAt (t .cases) (t .gauges) (t .rows) 0) s → (a b d : ℕ)
-    → a ≡ length (digits (t .gauges)) → b ≡ length (digits (t .cases)) → d ≡ length (digits (s .count)) → 52 + a + b + d + s .size ≡ length (writeFile t)
-size-is t s h a b d p q r = omega (arith, file-length t (s .count), ap length (file-is t s h), h .bytes, p, q, r)
+    pub totals-small : Small (s .count) (s .size)
+    totals-small =
+        counting-small (gaugeOf (t .gauges)) (t .rows) {ps = []} (record { pairs = omega (arith, h .pairs); bytes = omega (arith, h .bytes) })
+        (ok .gauges-high)
 
-pub wrote-is : (t : Table) (s : Totals) {l m : List ℕ} {r : ℕ} → IsTotals (pairsAt (t .cases) (t .gauges) (t .rows) 0) s
-    → Wrote l 0 (fileBytes t (s .count)) m r → Wrote l 0 (writeFile t) m r
-wrote-is t s {l} {m} {r} h w = subst (λ (v : List ℕ). Wrote l 0 v m r) (file-is t s h) w
+    pub size-is : (a b d : ℕ) → a ≡ length (digits (t .gauges)) → b ≡ length (digits (t .cases)) → d ≡ length (digits (s .count))
+        → 52 + a + b + d + s .size ≡ length (writeFile t)
+    size-is a b d p q r = omega (arith, file-length t (s .count), ap length file-is, h .bytes, p, q, r)
+
+    pub wrote-is : {l m : List ℕ} {r : ℕ} → Wrote l 0 (fileBytes t (s .count)) m r → Wrote l 0 (writeFile t) m r
+    wrote-is {l} {m} {r} w = subst (λ (v : List ℕ). Wrote l 0 v m r) file-is w
 
 -- ---- the answers
 module _ (t : Table) (n : ℕ) where
@@ -58,7 +67,10 @@ module _ (t : Table) (n : ℕ) where
 -- a refusal leaves the buffer as it was
 pub write-refused : (t : Table) (out : List ℕ) (x : Refusal) → writeRefusal t (length out) ≡ number x
     → (refused x 0 ≡ writeAnswer t (length out)) × (out ≡ bufferAfter t out)
-write-refused t out x e = (answer-refused x (writeRefusal t (length out)) (length (writeFile t)) 0 (sym e), sym (rw (e, ne-eqb (number x) 0 (λ z. omega (arith, number-pos x)))))
+write-refused t out x e = (
+  answer-refused x (writeRefusal t (length out)) (length (writeFile t)) 0 (sym e),
+  sym (rw (e, ne-eqb (number x) 0 (λ z. omega (arith, number-pos x)))),
+)
 
 -- the file, and behind it what was there
 pub write-done : (t : Table) (out m : List ℕ) (r : ℕ) → writeRefusal t (length out) ≡ 0 → length (writeFile t) ≤ length out → Wrote out 0 (writeFile t) m r

@@ -3,6 +3,7 @@ pub mod Decimals
 pub mod Stores
 pub mod PairLines
 pub mod Sizes
+pub mod RowSizes
 pub mod Counting
 pub mod Files
 pub mod ReadBack

@@ -50,7 +50,14 @@ two-above a b = text-above a (digits b) (decimal-above 9 b)
 pub scan-digit : (k v d : ℕ) (s : List ℕ) → d < 10 → k < 9 → scan k v ((48 + d) ∷ s) ≡ scan (suc k) (v * 10 + d) s
 unfolding scan
 scan-digit k v d s hd hk =
-    rw (ne-eqb (48 + d) 32 (omega arith), ne-eqb (48 + d) 9 (omega arith), le-leb 48 (48 + d) (omega arith), le-leb (48 + d) 57 (omega arith), lt-ltb k 9 hk, scan)
+    rw (
+      ne-eqb (48 + d) 32 (omega arith),
+      ne-eqb (48 + d) 9 (omega arith),
+      le-leb 48 (48 + d) (omega arith),
+      le-leb (48 + d) 57 (omega arith),
+      lt-ltb k 9 hk,
+      scan,
+    )
     (ap (λ (x : ℕ). scan (suc k) (v * 10 + x) s) (omega arith))
 
 pub scan-decimal : (k n : ℕ) (s : List ℕ) → n < 10 ^ k → k ≤ 9 → scan 0 0 (decimal k n ++ s) ≡ scan (length (decimal k n)) n s

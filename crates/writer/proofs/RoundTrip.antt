@@ -25,29 +25,36 @@ use Rattle.kinds.specs.Kinds.{headLine, pairLine}
 use Rattle.reader.specs.Reading.{accepted, addPair, readPairs, readHead, readLines, readFile}
 use Rattle.kinds.specs.declared.PairLine.the-variants.{Pair}
 use Rattle.kinds.specs.declared.HeadLine.the-variants.{Size}
-use Rattle.writer.specs.Writing.{digits, GaugeCase, rowPairs, pairsFrom, pairs, pairLines, sizeText, writeFile, writeRefusal}
+use Rattle.writer.specs.Writing.{digits, gaugeOf, caseOf, GaugeCase, rowPairs, pairsFrom, pairs, pairLines, sizeText, writeFile, writeRefusal}
 use Rattle.writer.proofs.Sizes.{count-bound, write-length}
 use Rattle.writer.proofs.ReadBack.{Above, line-front, fields-two, fields-three, two-above, two-length, three-length, text-above, number-no-comment}
 
 -- the reader, ahead of the lines of the pairs ps
 abbrev run : ℕ → ℕ → List ℕ → List GaugeCase → Answer Table
-run gs cs rows ps = readPairs gs cs (length ps) rows (lines (pairLines ps))
+run gs cs rows ps = readPairs (gaugeOf gs) (caseOf cs) (length ps) rows (lines (pairLines ps))
 
 pair-line : (gs cs g c : ℕ) → gs ≤ 64 → cs ≤ 64 → 1 ≤ g → g ≤ gs → 1 ≤ c → c ≤ cs
-    → pairLine gs cs (digits g ++ 32 ∷ digits c) ≡ Pair (record { 0 = g }) (record { 0 = c })
+    → pairLine (gaugeOf gs) (caseOf cs) (digits g ++ 32 ∷ digits c) ≡ Pair (gaugeOf g) (caseOf c)
 pair-line gs cs g c hgs hcs lg hg lc hc =
-    rw (le-ltb 1024 (length (digits g ++ 32 ∷ digits c)) (omega (arith, two-length g c)), fields-two g c (omega arith) (omega arith), le-leb 1 g lg, le-leb g gs hg, le-leb 1 c lc, le-leb c cs hc)
+    rw (
+      le-ltb 1024 (length (digits g ++ 32 ∷ digits c)) (omega (arith, two-length g c)),
+      fields-two g c (omega arith) (omega arith),
+      le-leb 1 g lg,
+      le-leb g gs hg,
+      le-leb 1 c lc,
+      le-leb c cs hc,
+    )
 
 run-pair : (gs cs g c : ℕ) (rows : List ℕ) (ps : List GaugeCase) → gs ≤ 64 → cs ≤ 64 → 1 ≤ g → g ≤ gs → 1 ≤ c → c ≤ cs
     → bit (row rows (g - 1)) (c - 1) ≡ false
-    → run gs cs rows (record { gauge = g; case = c } ∷ ps) ≡ run gs cs (addPair rows g c) ps
+    → run gs cs rows (record { gauge = gaugeOf g; case = caseOf c } ∷ ps) ≡ run gs cs (addPair rows (gaugeOf g) (caseOf c)) ps
 unfolding readPairs
 run-pair gs cs g c rows ps hgs hcs lg hg lc hc e =
     rw (line-front (digits g ++ 32 ∷ digits c) (pairLines ps) (two-above g c))
     (rw (pair-line gs cs g c hgs hcs lg hg lc hc, readPairs)
     (rw e
     (rw (ne-eqb (suc (length ps)) 0 (omega arith))
-    (ap (λ (n : ℕ). readPairs gs cs n (addPair rows g c) (lines (pairLines ps))) (omega arith)))))
+    (ap (λ (n : ℕ). readPairs (gaugeOf gs) (caseOf cs) n (addPair rows (gaugeOf g) (caseOf c)) (lines (pairLines ps))) (omega arith)))))
 
 -- one bit more
 mod-more : (r c : ℕ) → r % 2 ^ suc c ≡ (r / 2 ^ c % 2) * 2 ^ c + r % 2 ^ c
@@ -73,7 +80,7 @@ row-at : (done : List ℕ) (x : ℕ) (zs : List ℕ) → getD (done ++ x ∷ zs)
 row-at done x zs = getD-at done x zs 0 _ (omega arith)
 
 row-added : (done zs : List ℕ) (r c : ℕ) → r / 2 ^ c % 2 ≡ 1
-    → addPair (done ++ (r % 2 ^ c) ∷ zs) (suc (length done)) (suc c) ≡ done ++ (r % 2 ^ suc c) ∷ zs
+    → addPair (done ++ (r % 2 ^ c) ∷ zs) (gaugeOf (suc (length done))) (caseOf (suc c)) ≡ done ++ (r % 2 ^ suc c) ∷ zs
 row-added done zs r c h =
     let e : suc c - 1 ≡ c = omega arith in
     rw (row-at done (r % 2 ^ c) zs, e, bit-added r c h) (set-at done (r % 2 ^ c) zs _ _ (omega arith))
@@ -85,18 +92,20 @@ row-free done zs r c =
 
 -- the row of the gauge behind done gets the n cases from c
 run-row : (gs cs : ℕ) → gs ≤ 64 → cs ≤ 64 → (r : ℕ) (done zs : List ℕ) → length done < gs → (n c : ℕ) → c + n ≡ cs → (ps : List GaugeCase)
-    → run gs cs (done ++ (r % 2 ^ c) ∷ zs) (rowPairs (suc (length done)) n (suc c) (r / 2 ^ c) ++ ps) ≡ run gs cs (done ++ (r % 2 ^ cs) ∷ zs) ps
+    → run gs cs (done ++ (r % 2 ^ c) ∷ zs) (rowPairs (gaugeOf (suc (length done))) n (suc c) (r / 2 ^ c) ++ ps) ≡ run gs cs (done ++ (r % 2 ^ cs) ∷ zs) ps
 unfolding rowPairs
 run-row gs cs hgs hcs r done zs hd zero c e ps = ap (λ (x : ℕ). run gs cs (done ++ (r % 2 ^ x) ∷ zs) ps) (omega arith)
 run-row gs cs hgs hcs r done zs hd (suc n) c e ps = go (eqb (r / 2 ^ c % 2) 1) refl (run-row gs cs hgs hcs r done zs hd n (suc c) (omega arith) ps)
   where
     go : (t : Bool) → eqb (r / 2 ^ c % 2) 1 ≡ t
-        → run gs cs (done ++ (r % 2 ^ suc c) ∷ zs) (rowPairs (suc (length done)) n (suc (suc c)) (r / 2 ^ suc c) ++ ps) ≡ run gs cs (done ++ (r % 2 ^ cs) ∷ zs) ps
-        → run gs cs (done ++ (r % 2 ^ c) ∷ zs) (rowPairs (suc (length done)) (suc n) (suc c) (r / 2 ^ c) ++ ps) ≡ run gs cs (done ++ (r % 2 ^ cs) ∷ zs) ps
+        → run gs cs (done ++ (r % 2 ^ suc c) ∷ zs) (rowPairs (gaugeOf (suc (length done))) n (suc (suc c)) (r / 2 ^ suc c) ++ ps)
+        ≡ run gs cs (done ++ (r % 2 ^ cs) ∷ zs) ps
+        → run gs cs (done ++ (r % 2 ^ c) ∷ zs) (rowPairs (gaugeOf (suc (length done))) (suc n) (suc c) (r / 2 ^ c) ++ ps)
+        ≡ run gs cs (done ++ (r % 2 ^ cs) ∷ zs) ps
     go true t ih =
         rw (t, rowPairs)
         (rw div-more
-        (run-pair gs cs (suc (length done)) (suc c) (done ++ (r % 2 ^ c) ∷ zs) (rowPairs (suc (length done)) n (suc (suc c)) (r / 2 ^ suc c) ++ ps)
+        (run-pair gs cs (suc (length done)) (suc c) (done ++ (r % 2 ^ c) ∷ zs) (rowPairs (gaugeOf (suc (length done))) n (suc (suc c)) (r / 2 ^ suc c) ++ ps)
         hgs hcs (omega arith) (omega arith) (omega arith) (omega arith) (row-free done zs r c)
         ∙ rw (row-added done zs r c (eqb-true _ _ t)) ih))
     go false t ih =
@@ -104,7 +113,7 @@ run-row gs cs hgs hcs r done zs hd (suc n) c e ps = go (eqb (r / 2 ^ c % 2) 1) r
         rw (t, rowPairs) (rw div-more (rw (bit-clear r c z) at ih))
 
 run-whole-row : (gs cs : ℕ) → gs ≤ 64 → cs ≤ 64 → (r : ℕ) → r < 2 ^ cs → (done zs : List ℕ) → length done < gs → (ps : List GaugeCase)
-    → run gs cs (done ++ 0 ∷ zs) (rowPairs (suc (length done)) cs 1 r ++ ps) ≡ run gs cs (done ++ r ∷ zs) ps
+    → run gs cs (done ++ 0 ∷ zs) (rowPairs (gaugeOf (suc (length done))) cs 1 r ++ ps) ≡ run gs cs (done ++ r ∷ zs) ps
 run-whole-row gs cs hgs hcs r hr done zs hd ps =
     let m : r % 2 ^ 0 ≡ 0 = omega arith in
     let d : r / 2 ^ 0 ≡ r = omega arith in
@@ -168,12 +177,13 @@ module _ (t : Table) (ok : Legal t) where
       let e : t .gauges + (64 - t .gauges) ≡ 64 = omega (arith, ok .gauges-high) in
       replicate-append-replicate (t .gauges) (64 - t .gauges) 0 ∙ ap (λ (n : ℕ). replicate n 0) e
 
-  head-line : headLine (sizeText t) ≡ Size (record { 0 = t .gauges }) (record { 0 = t .cases }) (length (pairs t))
+  head-line : headLine (sizeText t) ≡ Size (gaugeOf (t .gauges)) (caseOf (t .cases)) (length (pairs t))
   head-line =
       rw (
         le-ltb 1024 (length (sizeText t)) (omega (arith, three-length (t .gauges) (t .cases) (length (pairs t)))),
         number-no-comment 9 (t .gauges) (32 ∷ (digits (t .cases) ++ 32 ∷ digits (length (pairs t)))) refl,
-        fields-three (t .gauges) (t .cases) (length (pairs t)) (omega (arith, ok .gauges-high)) (omega (arith, ok .cases-high)) (omega (arith, count-bound t ok)),
+        fields-three (t .gauges) (t .cases) (length (pairs t)) (omega (arith, ok .gauges-high)) (omega (arith, ok .cases-high))
+            (omega (arith, count-bound t ok)),
         le-leb 1 (t .gauges) (ok .gauges-low),
         le-leb (t .gauges) 64 (ok .gauges-high),
         le-leb 1 (t .cases) (ok .cases-low),

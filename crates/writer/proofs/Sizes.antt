@@ -1,17 +1,17 @@
 -- How long the file is: at most 23,484 bytes (`write-length`), and that for the full table (`full-length`).
-use Prim.Native.Nat.{ℕ, zero, suc, _+_, _-_, _*_, _/_, _%_, _^_, _≤_}
+use Prim.Native.Nat.{ℕ, zero, suc, _+_, _-_, _*_, _/_, _^_, _≤_}
 use mathlib.Core.Path.{_≡_, refl}
 use mathlib.Core.List.{List, [], _∷_, _++_}
-use mathlib.Core.Bool.{Bool, true, false}
 use native.Mathlib.Omega.{arith}
 use native.Mathlib.Nat.{mul-le-mul-right}
 use lib.ListN.{length, replicate, length-append}
-use lib.Dec.{eqb}
 use Rattle.table.specs.Tables.{Legal, tableRows}
+use Rattle.table.specs.declared.Gauge.{Gauge}
 use Rattle.table.specs.declared.Table.{Table}
 use Rattle.table.proofs.Legality.{length-rows}
-use Rattle.writer.specs.Writing.{decimal, digits, GaugeCase, rowPairs, pairsFrom, pairs, pairLines, writeFile}
+use Rattle.writer.specs.Writing.{decimal, digits, gaugeOf, GaugeCase, rowPairs, pairsFrom, pairs, pairLines, writeFile}
 use Rattle.writer.proofs.Decimals.{decimal-width}
+use Rattle.writer.proofs.PairLines.{by-low}
 
 -- the digits of the n numbers from c
 widths : ℕ → ℕ → ℕ
@@ -24,39 +24,27 @@ widths-mono zero m c h = omega arith
 widths-mono (suc n) zero c h = absurd (omega arith)
 widths-mono (suc n) (suc m) c h = omega (arith, widths-mono n m (suc c) (omega arith))
 
--- by the bit whether a pair is there
-row-cases : (P : List GaugeCase → Type 0) (g n c bits : ℕ) (ps : List GaugeCase)
-    → P (record { gauge = g; case = c } ∷ (rowPairs g n (suc c) (bits / 2) ++ ps))
-    → P (rowPairs g n (suc c) (bits / 2) ++ ps)
-    → P (rowPairs g (suc n) c bits ++ ps)
-unfolding rowPairs
-row-cases P g n c bits ps a b = go (eqb (bits % 2) 1) refl
-  where
-    go : (t : Bool) → eqb (bits % 2) 1 ≡ t → P (rowPairs g (suc n) c bits ++ ps)
-    go true t = rw (t, rowPairs) a
-    go false t = rw (t, rowPairs) b
-
-row-count : (g n c bits : ℕ) (ps : List GaugeCase) → length (rowPairs g n c bits ++ ps) ≤ n + length ps
+row-count : (g : Gauge) (n c bits : ℕ) (ps : List GaugeCase) → length (rowPairs g n c bits ++ ps) ≤ n + length ps
 unfolding rowPairs
 row-count g zero c bits ps = omega arith
 row-count g (suc n) c bits ps =
-    row-cases (λ l. length l ≤ suc n + length ps) g n c bits ps
-    (omega (arith, row-count g n (suc c) (bits / 2) ps))
-    (omega (arith, row-count g n (suc c) (bits / 2) ps))
+    by-low (λ l. length (l ++ ps) ≤ suc n + length ps) g n c bits
+    (λ e. omega (arith, row-count g n (suc c) (bits / 2) ps))
+    (λ e. omega (arith, row-count g n (suc c) (bits / 2) ps))
 
 pub pairs-count : (cs g : ℕ) (rs : List ℕ) → cs ≤ 64 → length (pairsFrom cs g rs) ≤ 64 * length rs
 unfolding pairsFrom
 pairs-count cs g [] h = omega arith
-pairs-count cs g (r ∷ rs) h = omega (arith, row-count g cs 1 r (pairsFrom cs (suc g) rs), pairs-count cs (suc g) rs h)
+pairs-count cs g (r ∷ rs) h = omega (arith, row-count (gaugeOf g) cs 1 r (pairsFrom cs (suc g) rs), pairs-count cs (suc g) rs h)
 
-row-size : (g n c bits : ℕ) (ps : List GaugeCase)
-    → length (pairLines (rowPairs g n c bits ++ ps)) ≤ n * (length (digits g) + 2) + widths n c + length (pairLines ps)
+row-size : (g : Gauge) (n c bits : ℕ) (ps : List GaugeCase)
+    → length (pairLines (rowPairs g n c bits ++ ps)) ≤ n * (length (digits (g .0)) + 2) + widths n c + length (pairLines ps)
 unfolding rowPairs widths
 row-size g zero c bits ps = omega arith
 row-size g (suc n) c bits ps =
-    row-cases (λ l. length (pairLines l) ≤ suc n * (length (digits g) + 2) + widths (suc n) c + length (pairLines ps)) g n c bits ps
-    (simp length-append (omega (arith, row-size g n (suc c) (bits / 2) ps)))
-    (omega (arith, row-size g n (suc c) (bits / 2) ps))
+    by-low (λ l. length (pairLines (l ++ ps)) ≤ suc n * (length (digits (g .0)) + 2) + widths (suc n) c + length (pairLines ps)) g n c bits
+    (λ e. simp length-append (omega (arith, row-size g n (suc c) (bits / 2) ps)))
+    (λ e. omega (arith, row-size g n (suc c) (bits / 2) ps))
 
 all-widths : widths 64 1 ≡ 119
 unfolding widths decimal
@@ -69,7 +57,13 @@ pairs-size : (cs g : ℕ) (rs : List ℕ) → cs ≤ 64 → length (pairLines (p
 unfolding pairsFrom widths
 pairs-size cs g [] h = omega arith
 pairs-size cs g (r ∷ rs) h =
-    omega (arith, row-size g cs 1 r (pairsFrom cs (suc g) rs), pairs-size cs (suc g) rs h, widths-bound cs h, mul-le-mul-right (length (digits g) + 2) h)
+    omega (
+      arith,
+      row-size (gaugeOf g) cs 1 r (pairsFrom cs (suc g) rs),
+      pairs-size cs (suc g) rs h,
+      widths-bound cs h,
+      mul-le-mul-right (length (digits g) + 2) h,
+    )
 
 pub pairs-bytes : (cs : ℕ) (rs : List ℕ) → cs ≤ 64 → length rs ≤ 64 → length (pairLines (pairsFrom cs 1 rs)) ≤ 23424
 pairs-bytes cs rs h k = omega (arith, pairs-size cs 1 rs h, widths-bound (length rs) k)

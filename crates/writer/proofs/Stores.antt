@@ -9,8 +9,8 @@ use native.Mathlib.Nat.{add-zero}
 use lib.ListN.{length, getD, set, drop, length-append, drop-of-length-le}
 use lib.Seq.{sets, length-sets, drop-cons}
 use Rattle.writer.specs.Writing.{digits}
-use Rattle.writer.specs.private.StoreSteps.{Wrote}
-use Rattle.writer.proofs.Decimals.{digits-short, digits-long}
+use Rattle.writer.specs.private.StoreSteps.{Wrote, fieldBytes}
+use Rattle.writer.proofs.Decimals.{digits-short, digits-long, width-one, width-two}
 
 pub sets-append : (l : List ℕ) (i : ℕ) (vs ws : List ℕ) → sets l i (vs ++ ws) ≡ sets (sets l i vs) (i + length vs) ws
 sets-append l i [] ws = ap (λ (n : ℕ). sets l n ws) (sym (add-zero i))
@@ -44,6 +44,27 @@ wrote-long {l} {at} {n} {m} {p} a h w = rw (digits-long n a h) (wrote-both w (wr
 pub wrote-store : {l : List ℕ} {at : ℕ} {vs : List ℕ} {m : List ℕ} {p : ℕ} → Wrote l at vs m p → (b : ℕ) → Wrote l at (vs ++ b ∷ []) (set m p b) (p + 1)
 wrote-store {l} {at} {vs} {m} {p} w b = wrote-both w (wrote-byte m p b)
 
+-- a number of one digit, or of two, and the byte e behind it
+wrote-to : {l : List ℕ} {at : ℕ} {vs : List ℕ} {m : List ℕ} {p q : ℕ} → Wrote l at vs m p → p ≡ q → Wrote l at vs m q
+wrote-to {l} {at} {vs} {m} w e = subst (Wrote l at vs m) e w
+
+pub place-one : (l : List ℕ) (at n e : ℕ) → n < 10 → Wrote l at (fieldBytes n e) (set (set l at (48 + n)) (at + 1) e) (at + 2)
+place-one l at n e h = wrote-to (wrote-store (wrote-short {l = l} {at = at} h) e) (omega arith)
+
+pub place-two : (l : List ℕ) (at n e : ℕ) → 10 ≤ n → n < 100
+    → Wrote l at (fieldBytes n e) (set (set (set l at (48 + n / 10)) (at + 1) (48 + n % 10)) (at + 2) e) (at + 3)
+place-two l at n e k h =
+    wrote-to (wrote-store (wrote-to (wrote-long k (omega arith) (wrote-short {l = l} {at = at} {n = n / 10} (omega arith))) two) e) (omega arith)
+  where
+    two : at + 1 + 1 ≡ at + 2
+    two = omega arith
+
+pub field-one : (n e : ℕ) → n < 10 → length (fieldBytes n e) ≡ 2
+field-one n e h = length-append (digits n) (e ∷ []) ∙ omega (arith, width-one n h)
+
+pub field-two : (n e : ℕ) → 10 ≤ n → n < 100 → length (fieldBytes n e) ≡ 3
+field-two n e k h = length-append (digits n) (e ∷ []) ∙ omega (arith, width-two n k h)
+
 -- the room that a front takes, and what is left behind it
 pub front-room : (at n : ℕ) (vs ws : List ℕ) → at + length (vs ++ ws) ≤ n → at + length vs ≤ n
 front-room at n vs ws h = omega (arith, length-append vs ws)
@@ -71,7 +92,8 @@ writing-step {l} {at} {total} {m} {p} {rem} {vs} {ws} w e a = record {
   same = wrote-length a ∙ w .same;
 }
 
-pub writing-skip : {l : List ℕ} {at : ℕ} {total : List ℕ} {m : List ℕ} {p : ℕ} {rem ws : List ℕ} → Writing l at total m p rem → rem ≡ ws → Writing l at total m p ws
+writing-skip : {l : List ℕ} {at : ℕ} {total : List ℕ} {m : List ℕ} {p : ℕ} {rem ws : List ℕ}
+    → Writing l at total m p rem → rem ≡ ws → Writing l at total m p ws
 writing-skip {l} {at} {total} {m} {p} w e = subst (Writing l at total m p) e w
 
 pub writing-done : {l : List ℕ} {at : ℕ} {total : List ℕ} {m : List ℕ} {p : ℕ} {rem : List ℕ} → Writing l at total m p rem → rem ≡ [] → Wrote l at total m p
@@ -90,5 +112,6 @@ bytes-next b i h = rw (add-one i) (drop-cons b i 0 h)
 pub bytes-end : (b : List ℕ) (i : ℕ) → length b ≤ i → drop i b ≡ []
 bytes-end b i h = drop-of-length-le b h
 
-pub bytes-room : {l : List ℕ} {at : ℕ} {m : List ℕ} {p : ℕ} (b : List ℕ) (i : ℕ) → Writing l at b m p (drop i b) → i < length b → at + length b ≤ length l → p < length m
+pub bytes-room : {l : List ℕ} {at : ℕ} {m : List ℕ} {p : ℕ} (b : List ℕ) (i : ℕ)
+    → Writing l at b m p (drop i b) → i < length b → at + length b ≤ length l → p < length m
 bytes-room b i w h k = omega (arith, writing-room w (getD b i 0 ∷ []) (drop (i + 1) b) (bytes-next b i h) k)

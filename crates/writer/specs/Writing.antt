@@ -9,6 +9,8 @@ use lib.Dec.{ltb, eqb}
 use Rattle.table.specs.Tables.{tableRefusal, tableRows}
 use Rattle.refusals.specs.Answers.{Answer, answer, refused, number}
 use Rattle.refusals.specs.declared.Refusal.the-variants.{BufferTooShort}
+use Rattle.table.specs.declared.Gauge.{Gauge}
+use Rattle.table.specs.declared.Case.{Case}
 use Rattle.table.specs.declared.Table.{Table}
 use Rattle.kinds.specs.Banner.{banner}
 use Rattle.writer.specs.declared.Written.{Written}
@@ -28,24 +30,31 @@ decimal (suc k) n = elim (ltb n 10) [ true ↦ (48 + n) ∷ [] | false ↦ decim
 abbrev pub digits : ℕ → List ℕ
 digits n = decimal 9 n
 
+-- the gauge of a number, and the case of one
+abbrev pub gaugeOf : ℕ → Gauge
+gaugeOf n = record { 0 = n }
+
+abbrev pub caseOf : ℕ → Case
+caseOf n = record { 0 = n }
+
 -- a pair g:c
 pub record GaugeCase : Type 0 where
-  pub gauge : ℕ
-  pub case : ℕ
+  pub gauge : Gauge
+  pub case : Case
 
 -- the pairs of gauge g whose case is one of the n cases from c on; bit 0 of bits is case c
-unfoldable pub rowPairs : ℕ → ℕ → ℕ → ℕ → List GaugeCase
+unfoldable pub rowPairs : Gauge → ℕ → ℕ → ℕ → List GaugeCase
 rowPairs g zero c bits = []
 rowPairs g (suc n) c bits =
     elim (eqb (bits % 2) 1) [
-      | true ↦ record { gauge = g; case = c } ∷ rowPairs g n (suc c) (bits / 2)
+      | true ↦ record { gauge = g; case = caseOf c } ∷ rowPairs g n (suc c) (bits / 2)
       | false ↦ rowPairs g n (suc c) (bits / 2)
     ]
 
 -- the pairs of the rows over cs cases, the first of which is gauge g's
 unfoldable pub pairsFrom : ℕ → ℕ → List ℕ → List GaugeCase
 pairsFrom cs g [] = []
-pairsFrom cs g (r ∷ rows) = rowPairs g cs 1 r ++ pairsFrom cs (suc g) rows
+pairsFrom cs g (r ∷ rows) = rowPairs (gaugeOf g) cs 1 r ++ pairsFrom cs (suc g) rows
 
 -- the pairs of a table, "by gauge and then case"
 abbrev pub pairs : Table → List GaugeCase
@@ -53,7 +62,7 @@ pairs t = pairsFrom (t .cases) 1 (tableRows t)
 
 -- the pair lines, each with its LF
 abbrev pub pairText : GaugeCase → List ℕ
-pairText p = digits (p .gauge) ++ 32 ∷ digits (p .case)
+pairText p = digits (p .gauge .0) ++ 32 ∷ digits (p .case .0)
 
 abbrev pub pairLines : List GaugeCase → List ℕ
 pairLines [] = []

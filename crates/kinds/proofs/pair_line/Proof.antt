@@ -21,7 +21,7 @@ no-pair (Three a b c) h k = tt
 no-pair Other h k = tt
 
 returns : tie.Need-returns
-returns c = let s = c .before .before in pair-long (s .args .line .now) (s .args .gauges .0) (s .args .cases .0) (c .if1 .taken)
+returns c = let s = c .before .before in pair-long (s .args .line .now) (s .args .gauges) (s .args .cases) (c .if1 .taken)
 
 fields-of-requires : tie.Need-fields-of-requires
 fields-of-requires c κs = search needs

@@ -16,7 +16,7 @@ use Rattle.reader.proofs.read_pairs.Tie as tie
 abbrev Inv-loop : tie.InvT-loop
 Inv-loop file from gauges cases count rows₀ left₀ at₀ rows left at =
     (at ≤ length file)
-    × (readPairs (gauges .0) (cases .0) left rows (lines (drop at file)) ≡ readPairs (gauges .0) (cases .0) count noRows (lines (drop from file)))
+    × (readPairs gauges cases left rows (lines (drop at file)) ≡ readPairs gauges cases count noRows (lines (drop from file)))
 
 abbrev μ-loop : tie.MeasureT-loop
 μ-loop file from gauges cases count rows₀ left₀ at₀ rows left at = length file - at
@@ -38,9 +38,9 @@ abbrev start : tie.After-pair-line Inv-loop μ-loop → tie.Start Inv-loop μ-lo
 start c = round c .before .before
 
 turn : (c : tie.After-pair-line Inv-loop μ-loop)
-    → PairTurn (start c .args .file .now) (round c .loop .at) (at-line c .line-at .result) (start c .args .gauges .0) (start c .args .cases .0)
+    → PairTurn (start c .args .file .now) (round c .loop .at) (at-line c .line-at .result) (start c .args .gauges) (start c .args .cases)
     (round c .loop .left) (round c .loop .rows) (c .pair-line .result)
-    (readPairs (start c .args .gauges .0) (start c .args .cases .0) (start c .args .count) noRows
+    (readPairs (start c .args .gauges) (start c .args .cases) (start c .args .count) noRows
     (lines (drop (start c .args .from) (start c .args .file .now))))
 turn c = record {
   here = at-line c .before .loop-test .taken;
@@ -50,7 +50,7 @@ turn c = record {
 }
 
 range : (c : tie.After-kind2 Inv-loop μ-loop)
-    → Bounded (start (c .before .before) .args .gauges .0) (start (c .before .before) .args .cases .0) (c .kind2 .given .0 .0 .0) (c .kind2 .given .0 .1 .0 .0)
+    → Bounded (start (c .before .before) .args .gauges) (start (c .before .before) .args .cases) (c .kind2 .given .0 .0) (c .kind2 .given .0 .1 .0)
 range c = turn-range (turn (c .before .before)) (c .kind2 .given .1)
 
 -- from the test for a repeated pair back to where the pair was taken apart

@@ -71,7 +71,8 @@ put-number-put-number-requires : (t : ℕ) → put-number-lts.Need-put-number-re
 ) (put-number-at t) put-number.Post
 put-number-put-number-requires t c κs =
     let s = c .before .before .before in
-    (omega (arith, c .before .if1 .left, s .pre .0), (omega (arith, s .pre .1), omega (arith, digits-long-length (s .args .n) (c .before .if1 .left) (s .pre .1 .0), s .pre .1)))
+    let d = digits-long-length (s .args .n) (c .before .if1 .left) (s .pre .1 .0) in
+    (omega (arith, c .before .if1 .left, s .pre .0), (omega (arith, s .pre .1), omega (arith, d, s .pre .1)))
 
 put-number-add-out-2 : (t : ℕ) → put-number-lts.Need-add-out-2 (
   put-number-below t,
@@ -92,7 +93,8 @@ put-number-slice-write-out-2 : (t : ℕ) → put-number-lts.Need-slice-write-out
 put-number-slice-write-out-2 t c =
     let p = c .before .before in
     let s = p .before .before .before .before in
-    omega (arith, digits-long-length (s .args .n) (p .before .before .if1 .left) (s .pre .1 .0), p .put-number .ensures .place, wrote-length (p .put-number .ensures), s .pre .1)
+    let d = digits-long-length (s .args .n) (p .before .before .if1 .left) (s .pre .1 .0) in
+    omega (arith, d, p .put-number .ensures .place, wrote-length (p .put-number .ensures), s .pre .1)
 
 put-number-add-result-2 : (t : ℕ) → put-number-lts.Need-add-result-2 (
   put-number-below t,
@@ -101,7 +103,8 @@ put-number-add-result-2 : (t : ℕ) → put-number-lts.Need-add-result-2 (
 put-number-add-result-2 t c =
     let p = c .before .before in
     let s = p .before .before .before .before in
-    omega (arith, digits-long-length (s .args .n) (p .before .before .if1 .left) (s .pre .1 .0), p .put-number .ensures .place, wrote-length (p .put-number .ensures), s .pre .1)
+    let d = digits-long-length (s .args .n) (p .before .before .if1 .left) (s .pre .1 .0) in
+    omega (arith, d, p .put-number .ensures .place, wrote-length (p .put-number .ensures), s .pre .1)
 
 put-number-same-length-2 : (t : ℕ) → put-number-lts.Need-same-length-2 (
   put-number-below t,

@@ -3,6 +3,7 @@ use Prim.Native.Nat.{ℕ, _+_, _≤_}
 use mathlib.Core.List.{List, _++_}
 use native.Mathlib.Omega.{arith}
 use lib.ListN.{length}
+use Rattle.writer.specs.Writing.{gaugeOf, caseOf}
 use Rattle.writer.specs.private.StoreSteps.{sizeBytes, rowsFrom}
 use Rattle.writer.proofs.Stores.{front-room, rest-room, wrote-both}
 use borrow.Author.Needs.{needs}
@@ -11,7 +12,9 @@ use Rattle.writer.proofs.put_file.Tie as tie
 
 -- the file behind its banner
 abbrev rest : tie.Start → List ℕ
-rest s = sizeBytes (s .args .t .gauges) (s .args .t .cases) (s .args .count) ++ rowsFrom (s .args .t .cases) (s .args .t .gauges) (s .args .t .rows) 0
+rest s =
+    let t = s .args .t in
+    sizeBytes (gaugeOf (t .gauges)) (caseOf (t .cases)) (s .args .count) ++ rowsFrom (gaugeOf (t .gauges)) (t .rows) 0
 
 -- there is room for it
 behind-banner : (b : tie.After-put-bytes)
@@ -28,14 +31,15 @@ put-size-requires c κs =
     let b = c .before .before .before in
     let s = b .before .before .before .before .before .before in
     let t = s .args .t in
-    (s .pre .0, s .pre .1, s .pre .2, front-room _ _ (sizeBytes (t .gauges) (t .cases) (s .args .count)) (rowsFrom (t .cases) (t .gauges) (t .rows) 0) (behind-banner b))
+    let size = sizeBytes (gaugeOf (t .gauges)) (caseOf (t .cases)) (s .args .count) in
+    (s .pre .0, s .pre .1, s .pre .2, front-room _ _ size (rowsFrom (gaugeOf (t .gauges)) (t .rows) 0) (behind-banner b))
 
 put-rows-requires : tie.Need-put-rows-requires
 put-rows-requires c κs =
     let q = c .before .before .before in
     let b = q .before .before .before .before in
     let s = b .before .before .before .before .before .before in
-    (s .pre .0, s .pre .1, rest-room (q .put-size .ensures) _ (behind-banner b))
+    (s .pre .0, rest-room (q .put-size .ensures) _ (behind-banner b))
 
 same-length : tie.Need-same-length
 same-length c = search needs

@@ -6,13 +6,13 @@ use borrow.Author.Needs.{needs}
 use Rattle.writer.proofs.put_pair.Statement.{statement}
 use Rattle.writer.proofs.put_pair.Tie as tie
 
-put-field-requires : tie.Need-put-field-requires
-put-field-requires c κs = let s = c .before .before in (omega arith, front-room _ _ (fieldBytes (s .args .g) 32) (fieldBytes (s .args .c) 10) (s .pre .2))
+put-place-requires : tie.Need-put-place-requires
+put-place-requires c κs = let s = c .before .before in (omega arith, front-room _ _ (fieldBytes (s .args .g .0) 32) (fieldBytes (s .args .c .0) 10) (s .pre .2))
 
-put-field-requires-2 : tie.Need-put-field-requires-2
-put-field-requires-2 c κs =
+put-place-requires-2 : tie.Need-put-place-requires-2
+put-place-requires-2 c κs =
     let p = c .before .before .before in
-    (omega arith, rest-room (p .put-field .ensures) _ (p .before .before .before .pre .2))
+    (omega arith, rest-room (p .put-place .ensures) _ (p .before .before .before .pre .2))
 
 same-length : tie.Need-same-length
 same-length c = search needs
@@ -21,7 +21,7 @@ returns : tie.Need-returns
 returns c =
     let q = c .before .before in
     let p = q .before .before .before .before in
-    wrote-both (p .put-field .ensures) (q .put-field2 .ensures)
+    wrote-both (p .put-place .ensures) (q .put-place2 .ensures)
 
 pub put-pair-spec : {M : Type 1} → statement M
-put-pair-spec = tie.close (tie.spec put-field-requires put-field-requires-2 same-length returns)
+put-pair-spec = tie.close (tie.spec put-place-requires put-place-requires-2 same-length returns)

@@ -1,60 +1,64 @@
--- `writer::put_row` meets its contract: at each case what is stored and what is still to be stored are the lines of the row (`Writing`).
-use Prim.Native.Nat.{_+_}
+-- `writer::put_row` meets its contract: at each turn what is stored and what is still to be stored are the lines of the row (`Writing`),
+-- and the lowest case left is the next to be written (`row-first`).
 use mathlib.Core.Path.{_≡_}
 use native.Mathlib.Omega.{arith}
+use Rattle.sets.specs.First.{Lowest, Rest}
 use Rattle.writer.specs.Writing.{pairLines, rowPairs}
-use Rattle.writer.proofs.Stores.{Writing, writing-start, writing-step, writing-skip, writing-done}
-use Rattle.writer.proofs.PairLines.{row-room, row-end, row-set, row-clear}
+use Rattle.writer.proofs.Stores.{Writing, writing-start, writing-step, writing-done}
+use Rattle.writer.proofs.PairLines.{row-first, row-room, row-end}
+use borrow.Author.Needs.{needs}
 use Rattle.writer.proofs.put_row.Statement.{statement}
 use Rattle.writer.proofs.put_row.Tie as tie
 
 abbrev Inv-loop : tie.InvT-loop
-Inv-loop out₀ at g cases row p₀ n₀ c₀ bits₀ out p n c bits =
-    (c + n ≡ cases + 1) × Writing out₀ at (pairLines (rowPairs g cases 1 row)) out p (pairLines (rowPairs g n c bits))
+Inv-loop out₀ at g row p₀ left₀ out p left = Writing out₀ at (pairLines (rowPairs g 64 1 row)) out p (pairLines (rowPairs g 64 1 left))
 
 abbrev μ-loop : tie.MeasureT-loop
-μ-loop out₀ at g cases row p₀ n₀ c₀ bits₀ out p n c bits = n
+μ-loop out₀ at g row p₀ left₀ out p left = left
+
+-- the cases left at a turn, their lowest place, and the others
+abbrev round : tie.After-rest Inv-loop μ-loop → tie.At-loop Inv-loop μ-loop
+round c = c .before .before .before
+
+lowest : (c : tie.After-rest Inv-loop μ-loop) → Lowest (round c .loop .left) (c .before .first .result)
+lowest c = c .before .first .ensures .1 (c .before .before .loop-test .taken)
+
+others : (c : tie.After-rest Inv-loop μ-loop) → Rest (round c .loop .left) (c .rest .result)
+others c = c .rest .ensures (c .before .before .loop-test .taken)
 
 loop-holds : tie.Need-loop-holds Inv-loop μ-loop
-loop-holds c = (omega arith, writing-start)
+loop-holds c = writing-start
+
+first-requires : tie.Need-first-requires Inv-loop μ-loop
+first-requires c κs = search needs
+
+rest-requires : tie.Need-rest-requires Inv-loop μ-loop
+rest-requires c κs = search needs
+
+add-t12 : tie.Need-add-t12 Inv-loop μ-loop
+add-t12 c = omega (arith, lowest (c .before))
 
 put-pair-requires : tie.Need-put-pair-requires Inv-loop μ-loop
 put-pair-requires c κs =
-    let l = c .before .before .before in
-    (omega arith, omega arith, row-room _ _ _ _ (l .loop .inv .1) (c .before .before .loop-test .taken) (c .before .if1 .taken) (l .before .before .pre .2))
-
-sub-n : tie.Need-sub-n Inv-loop μ-loop
-sub-n c = omega arith
-
-add-c : tie.Need-add-c Inv-loop μ-loop
-add-c c = omega arith
+    let r = c .before in
+    let l = round r in
+    let s = l .before .before in
+    (s .pre .0, omega (arith, lowest r), row-room _ _ _ _ (r .before .first .ensures .0) (lowest r) (others r) (l .loop .inv) (s .pre .1))
 
 loop-less : tie.Need-loop-less Inv-loop μ-loop
-loop-less c = omega arith
+loop-less c = others (c .before .before .before .before) .fewer
 
 loop-again : tie.Need-loop-again Inv-loop μ-loop
 loop-again c =
     let p = c .before .before in
-    let t = p .before .before in
-    (omega arith, writing-step (t .before .before .loop .inv .1) (row-set _ _ _ _ (t .before .loop-test .taken) (t .if1 .taken)) (p .put-pair .ensures))
-
-sub-n-2 : tie.Need-sub-n-2 Inv-loop μ-loop
-sub-n-2 c = omega arith
-
-add-c-2 : tie.Need-add-c-2 Inv-loop μ-loop
-add-c-2 c = omega arith
-
-loop-less-2 : tie.Need-loop-less-2 Inv-loop μ-loop
-loop-less-2 c = omega arith
-
-loop-again-2 : tie.Need-loop-again-2 Inv-loop μ-loop
-loop-again-2 c = (omega arith, writing-skip (c .before .before .loop .inv .1) (row-clear _ _ _ _ (c .before .loop-test .taken) (c .if1 .left)))
+    let r = p .before .before in
+    writing-step (round r .loop .inv) (row-first _ _ _ _ (r .before .first .ensures .0) (lowest r) (others r)) (p .put-pair .ensures)
 
 same-length : tie.Need-same-length Inv-loop μ-loop
-same-length c = c .before .loop .inv .1 .same
+same-length c = c .before .loop .inv .same
 
 returns : tie.Need-returns Inv-loop μ-loop
-returns c = writing-done (c .before .loop .inv .1) (row-end _ _ _ _ (c .loop-test .left))
+returns c = writing-done (c .before .loop .inv) (row-end _ _ (c .loop-test .left))
 
 pub put-row-spec : {M : Type 1} → statement M
 put-row-spec =
@@ -63,14 +67,11 @@ put-row-spec =
     Inv-loop
     μ-loop
     loop-holds
+    first-requires
+    rest-requires
+    add-t12
     put-pair-requires
-    sub-n
-    add-c
     loop-less
     loop-again
-    sub-n-2
-    add-c-2
-    loop-less-2
-    loop-again-2
     same-length
     returns)

@@ -3,6 +3,7 @@ use mathlib.Core.Path.{_≡_}
 use lib.ListN.{length}
 use Prim.Native.Nat.{_-_, _≤_}
 use native.Mathlib.Omega.{arith}
+use Rattle.writer.specs.Writing.{gaugeOf}
 use Rattle.writer.specs.private.StoreSteps.{rowsFrom}
 use Rattle.writer.proofs.Stores.{Writing, writing-start, writing-step, writing-done}
 use Rattle.writer.proofs.PairLines.{rows-end, rows-next, rows-room}
@@ -11,11 +12,10 @@ use Rattle.writer.proofs.put_rows.Statement.{statement}
 use Rattle.writer.proofs.put_rows.Tie as tie
 
 abbrev Inv-loop : tie.InvT-loop
-Inv-loop out₀ at gauges cases rows p₀ i₀ out p i =
-    (i ≤ gauges) × Writing out₀ at (rowsFrom cases gauges rows 0) out p (rowsFrom cases gauges rows i)
+Inv-loop out₀ at rows most p₀ i₀ out p i = (i ≤ most) × Writing out₀ at (rowsFrom (gaugeOf most) rows 0) out p (rowsFrom (gaugeOf most) rows i)
 
 abbrev μ-loop : tie.MeasureT-loop
-μ-loop out₀ at gauges cases rows p₀ i₀ out p i = gauges - i
+μ-loop out₀ at rows most p₀ i₀ out p i = most - i
 
 rows-length : (c : tie.Start Inv-loop μ-loop) → length (c .args .t3) ≡ 64
 rows-length c = search needs
@@ -29,14 +29,14 @@ mul-row c = omega arith
 array-read-row : tie.Need-array-read-row Inv-loop μ-loop
 array-read-row c = omega arith
 
-add-put-row : tie.Need-add-put-row Inv-loop μ-loop
-add-put-row c = omega arith
+add-t15 : tie.Need-add-t15 Inv-loop μ-loop
+add-t15 c = omega arith
 
 put-row-requires : tie.Need-put-row-requires Inv-loop μ-loop
 put-row-requires c κs =
     let l = c .before .before in
     let s = l .before .before in
-    (omega arith, omega arith, rows-room _ _ _ _ (l .loop .inv .1) (c .before .loop-test .taken) (omega (arith, rows-length s)) (s .pre .2))
+    (omega arith, rows-room (gaugeOf (s .args .gauges .0)) _ _ (l .loop .inv .1) (c .before .loop-test .taken) (omega (arith, rows-length s)) (s .pre .1))
 
 add-i : tie.Need-add-i Inv-loop μ-loop
 add-i c = omega arith
@@ -48,13 +48,15 @@ loop-again : tie.Need-loop-again Inv-loop μ-loop
 loop-again c =
     let p = c .before .before in
     let l = p .before .before .before in
-    (omega arith, writing-step (l .loop .inv .1) (rows-next _ _ _ _ (p .before .before .loop-test .taken) (omega (arith, rows-length (l .before .before)))) (p .put-row .ensures))
+    let s = l .before .before in
+    let next = rows-next (gaugeOf (s .args .gauges .0)) (s .args .t3) (l .loop .i) (p .before .before .loop-test .taken) (omega (arith, rows-length s)) in
+    (omega arith, writing-step (l .loop .inv .1) next (p .put-row .ensures))
 
 same-length : tie.Need-same-length Inv-loop μ-loop
 same-length c = c .before .loop .inv .1 .same
 
 returns : tie.Need-returns Inv-loop μ-loop
-returns c = writing-done (c .before .loop .inv .1) (rows-end _ _ _ _ (c .loop-test .left))
+returns c = writing-done (c .before .loop .inv .1) (rows-end _ _ _ (c .loop-test .left))
 
 pub put-rows-spec : {M : Type 1} → statement M
 put-rows-spec =
@@ -65,7 +67,7 @@ put-rows-spec =
     loop-holds
     mul-row
     array-read-row
-    add-put-row
+    add-t15
     put-row-requires
     add-i
     loop-less

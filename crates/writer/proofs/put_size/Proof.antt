@@ -7,22 +7,22 @@ use borrow.Author.Needs.{needs}
 use Rattle.writer.proofs.put_size.Statement.{statement}
 use Rattle.writer.proofs.put_size.Tie as tie
 
-put-field-requires : tie.Need-put-field-requires
-put-field-requires c κs =
+put-place-requires : tie.Need-put-place-requires
+put-place-requires c κs =
     let s = c .before .before in
-    (omega arith, front-room _ _ (fieldBytes (s .args .gauges) 32) (fieldBytes (s .args .cases) 32 ++ fieldBytes (s .args .count) 10) (s .pre .3))
+    (omega arith, front-room _ _ (fieldBytes (s .args .gauges .0) 32) (fieldBytes (s .args .cases .0) 32 ++ fieldBytes (s .args .count) 10) (s .pre .3))
 
-put-field-requires-2 : tie.Need-put-field-requires-2
-put-field-requires-2 c κs =
+put-place-requires-2 : tie.Need-put-place-requires-2
+put-place-requires-2 c κs =
     let p = c .before .before .before in
     let s = p .before .before .before in
-    (omega arith, front-room _ _ (fieldBytes (s .args .cases) 32) (fieldBytes (s .args .count) 10) (rest-room (p .put-field .ensures) _ (s .pre .3)))
+    (omega arith, front-room _ _ (fieldBytes (s .args .cases .0) 32) (fieldBytes (s .args .count) 10) (rest-room (p .put-place .ensures) _ (s .pre .3)))
 
-put-field-requires-3 : tie.Need-put-field-requires-3
-put-field-requires-3 c κs =
+put-field-requires : tie.Need-put-field-requires
+put-field-requires c κs =
     let q = c .before .before .before in
     let p = q .before .before .before .before in
-    (omega arith, rest-room (q .put-field2 .ensures) _ (rest-room (p .put-field .ensures) _ (p .before .before .before .pre .3)))
+    (omega arith, rest-room (q .put-place2 .ensures) _ (rest-room (p .put-place .ensures) _ (p .before .before .before .pre .3)))
 
 same-length : tie.Need-same-length
 same-length c = search needs
@@ -32,7 +32,7 @@ returns c =
     let r = c .before .before in
     let q = r .before .before .before .before in
     let p = q .before .before .before .before in
-    wrote-both (p .put-field .ensures) (wrote-both (q .put-field2 .ensures) (r .put-field3 .ensures))
+    wrote-both (p .put-place .ensures) (wrote-both (q .put-place2 .ensures) (r .put-field .ensures))
 
 pub put-size-spec : {M : Type 1} → statement M
-put-size-spec = tie.close (tie.spec put-field-requires put-field-requires-2 put-field-requires-3 same-length returns)
+put-size-spec = tie.close (tie.spec put-place-requires put-place-requires-2 put-field-requires same-length returns)

@@ -1,93 +1,60 @@
--- `writer::row_totals` meets its contract: at each case the pairs counted and those to come are the pairs of the row (`Counting`).
-use Prim.Native.Nat.{_+_, _*_, _≤_}
-use mathlib.Core.Path.{_≡_}
+-- `writer::row_totals` meets its contract: the bits of a row count its pairs, and the cases of one digit what their lines lack (`row-totals`).
+use Prim.Native.Nat.{_^_, _<_}
 use native.Mathlib.Omega.{arith}
-use Rattle.writer.specs.Writing.{rowPairs}
-use Rattle.writer.proofs.Counting.{Counting, counting-start, counting-set, counting-clear, counting-done}
+use Rattle.writer.proofs.RowSizes.{row-small, row-short, row-totals}
 use borrow.Author.Needs.{needs}
 use Rattle.writer.proofs.row_totals.Statement.{statement}
 use Rattle.writer.proofs.row_totals.Tie as tie
 
-abbrev Inv-loop : tie.InvT-loop
-Inv-loop g cases row x count₀ size₀ n₀ c₀ bits₀ count size n c bits =
-    (c + n ≡ cases + 1) × (count + n ≤ cases) × (size + 20 * n ≤ 20 * cases) × Counting (rowPairs g cases 1 row) count size (rowPairs g n c bits)
+word : (s : tie.Start) → s .args .row < 2 ^ 64
+word s = omega arith
 
-abbrev μ-loop : tie.MeasureT-loop
-μ-loop g cases row x count₀ size₀ n₀ c₀ bits₀ count size n c bits = n
+number-width-requires : tie.Need-number-width-requires
+number-width-requires c κs = search needs
 
-number-width-requires : tie.Need-number-width-requires Inv-loop μ-loop
-number-width-requires c κs = omega arith
+count-requires : tie.Need-count-requires
+count-requires c κs = search needs
 
-loop-holds : tie.Need-loop-holds Inv-loop μ-loop
-loop-holds c = (omega arith, omega arith, omega arith, counting-start)
+cast-count : tie.Need-cast-count
+cast-count c = search needs
 
-number-width-requires-2 : tie.Need-number-width-requires-2 Inv-loop μ-loop
-number-width-requires-2 c κs = omega arith
+count-requires-2 : tie.Need-count-requires-2
+count-requires-2 c κs = search needs
 
-add-count : tie.Need-add-count Inv-loop μ-loop
-add-count c = search needs
+cast-short : tie.Need-cast-short
+cast-short c = search needs
 
-add-size : tie.Need-add-size Inv-loop μ-loop
-add-size c = search needs
+add-t7 : tie.Need-add-t7
+add-t7 c = search needs
 
-add-size-2 : tie.Need-add-size-2 Inv-loop μ-loop
-add-size-2 c = search needs
+mul-t8 : tie.Need-mul-t8
+mul-t8 c =
+    let w = c .before .before in
+    let s = w .before in
+    omega (arith, row-small (s .args .g) (s .args .row) _ _ _ (word s) (w .number-width .ensures) (c .before .count .ensures) (c .count2 .ensures))
 
-add-size-3 : tie.Need-add-size-3 Inv-loop μ-loop
-add-size-3 c = search needs
+sub-t9 : tie.Need-sub-t9
+sub-t9 c =
+    let w = c .before .before in
+    let s = w .before in
+    row-short (s .args .g) (s .args .row) _ _ _ (word s) (w .number-width .ensures) (c .before .count .ensures) (c .count2 .ensures)
 
-sub-n : tie.Need-sub-n Inv-loop μ-loop
-sub-n c = omega arith
-
-add-c : tie.Need-add-c Inv-loop μ-loop
-add-c c = omega arith
-
-loop-less : tie.Need-loop-less Inv-loop μ-loop
-loop-less c = omega arith
-
-loop-again : tie.Need-loop-again Inv-loop μ-loop
-loop-again c =
-    let l = c .before .before .before in (
-      omega arith,
-      omega arith,
-      omega arith,
-      counting-set _ _ _ _ (l .loop .inv .3) (c .before .before .loop-test .taken) (c .before .if1 .taken) _ _ (l .before .number-width .ensures .is) (c .number-width2 .ensures .is),
-    )
-
-sub-n-2 : tie.Need-sub-n-2 Inv-loop μ-loop
-sub-n-2 c = omega arith
-
-add-c-2 : tie.Need-add-c-2 Inv-loop μ-loop
-add-c-2 c = omega arith
-
-loop-less-2 : tie.Need-loop-less-2 Inv-loop μ-loop
-loop-less-2 c = omega arith
-
-loop-again-2 : tie.Need-loop-again-2 Inv-loop μ-loop
-loop-again-2 c = (omega arith, omega arith, omega arith, counting-clear _ _ _ _ (c .before .before .loop .inv .3) (c .before .loop-test .taken) (c .if1 .left))
-
-returns : tie.Need-returns Inv-loop μ-loop
-returns c = counting-done _ _ _ _ (c .before .loop .inv .3) (c .loop-test .left)
+returns : tie.Need-returns
+returns c =
+    let w = c .before .before in
+    let s = w .before in
+    row-totals (s .args .g) (s .args .row) _ _ _ (word s) (w .number-width .ensures) (c .before .count .ensures) (c .count2 .ensures)
 
 pub row-totals-spec : {M : Type 1} → statement M
 row-totals-spec =
     tie.close
     (tie.spec
-    Inv-loop
-    μ-loop
     number-width-requires
-    loop-holds
-    number-width-requires-2
-    add-count
-    add-size
-    add-size-2
-    add-size-3
-    sub-n
-    add-c
-    loop-less
-    loop-again
-    sub-n-2
-    add-c-2
-    loop-less-2
-    loop-again-2
+    count-requires
+    cast-count
+    count-requires-2
+    cast-short
+    add-t7
+    mul-t8
+    sub-t9
     returns)

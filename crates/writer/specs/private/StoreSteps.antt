@@ -5,9 +5,11 @@ use mathlib.Core.Path.{_≡_}
 use mathlib.Core.List.{List, [], _∷_, _++_}
 use lib.ListN.{length, take, drop}
 use lib.Seq.{sets}
+use Rattle.table.specs.declared.Gauge.{Gauge}
+use Rattle.table.specs.declared.Case.{Case}
 use Rattle.table.specs.declared.Table.{Table}
 use Rattle.kinds.specs.Banner.{banner}
-use Rattle.writer.specs.Writing.{digits, GaugeCase, pairsFrom, pairLines}
+use Rattle.writer.specs.Writing.{digits, gaugeOf, caseOf, GaugeCase, pairsFrom, pairLines}
 use Rattle.writer.specs.declared.Totals.{Totals}
 
 -- the step stored the bytes vs from the place at on, and nothing else; next is the place behind them
@@ -20,19 +22,20 @@ abbrev pub fieldBytes : ℕ → ℕ → List ℕ
 fieldBytes n b = digits n ++ b ∷ []
 
 -- the line of a pair
-abbrev pub pairBytes : ℕ → ℕ → List ℕ
-pairBytes g c = fieldBytes g 32 ++ fieldBytes c 10
+abbrev pub pairBytes : Gauge → Case → List ℕ
+pairBytes g c = fieldBytes (g .0) 32 ++ fieldBytes (c .0) 10
 
--- the size line
-abbrev pub sizeBytes : ℕ → ℕ → ℕ → List ℕ
-sizeBytes g c n = fieldBytes g 32 ++ (fieldBytes c 32 ++ fieldBytes n 10)
+-- the size line, of the last gauge, the last case and n pairs
+abbrev pub sizeBytes : Gauge → Case → ℕ → List ℕ
+sizeBytes g c n = fieldBytes (g .0) 32 ++ (fieldBytes (c .0) 32 ++ fieldBytes n 10)
 
--- the pairs of the first gs rows from row i on, and their lines
-abbrev pub pairsAt : ℕ → ℕ → List ℕ → ℕ → List GaugeCase
-pairsAt cs gs rows i = pairsFrom cs (i + 1) (drop i (take gs rows))
+-- the pairs of the rows up to the gauge gs from row i on, over all 64 cases, and their lines; of a legal table these are its own
+-- (`pairs-all` in proofs/Files.antt)
+abbrev pub pairsAt : Gauge → List ℕ → ℕ → List GaugeCase
+pairsAt gs rows i = pairsFrom 64 (i + 1) (drop i (take (gs .0) rows))
 
-abbrev pub rowsFrom : ℕ → ℕ → List ℕ → ℕ → List ℕ
-rowsFrom cs gs rows i = pairLines (pairsAt cs gs rows i)
+abbrev pub rowsFrom : Gauge → List ℕ → ℕ → List ℕ
+rowsFrom gs rows i = pairLines (pairsAt gs rows i)
 
 -- the banner's line
 abbrev pub bannerBytes : List ℕ
@@ -40,7 +43,7 @@ bannerBytes = banner ++ 10 ∷ []
 
 -- the file of a table whose size line counts n pairs
 abbrev pub fileBytes : Table → ℕ → List ℕ
-fileBytes t n = bannerBytes ++ (sizeBytes (t .gauges) (t .cases) n ++ rowsFrom (t .cases) (t .gauges) (t .rows) 0)
+fileBytes t n = bannerBytes ++ (sizeBytes (gaugeOf (t .gauges)) (caseOf (t .cases)) n ++ rowsFrom (gaugeOf (t .gauges)) (t .rows) 0)
 
 -- r is the number of digits of n, and small
 pub record Width (n r : ℕ) : Type 0 where
