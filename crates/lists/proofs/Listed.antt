@@ -66,7 +66,7 @@ module _ (r : List ℕ) where
   -- ---- the gauge list
   pub gauge-list : SideList r (λ x. x) chainsInOrder
   gauge-list =
-      listed chainsInOrder (λ x. (into x, onto x))
+      listed {key = λ x. x} chainsInOrder (λ x. (into x, onto x))
       (chains-ascend picksInOrder (All-of (IsLeaf r) picksInOrder (λ p m. leaf-of p .0 m)) (leaves-ascend (candidates r) (length r) (candidate-tree r)))
     where
       into : (x : List ℕ) → List·Memᴰ x chainsInOrder → IsMaximal r x
