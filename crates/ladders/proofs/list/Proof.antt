@@ -12,6 +12,13 @@ Inv-loop run₀ space₀ blocks₀ run space blocks = length space ≡ 65536
 abbrev μ-loop : tie.MeasureT-loop
 μ-loop run₀ space₀ blocks₀ run space blocks = blocks
 
+-- From the block's write back to its filling, and from there to the loop's head.
+abbrev filled : tie.After-space3 Inv-loop μ-loop → tie.After-fill Inv-loop μ-loop
+filled c = c .before .before .before .before .before
+
+abbrev round : tie.After-fill Inv-loop μ-loop → tie.At-loop Inv-loop μ-loop
+round c = c .before .before .before
+
 start-gauges-requires : tie.Need-start-gauges-requires Inv-loop μ-loop
 start-gauges-requires c κs = search needs
 
@@ -37,7 +44,7 @@ enum-told-2 : tie.Need-enum-told-2 Inv-loop μ-loop
 enum-told-2 c = search needs
 
 slice-aggregate-put : tie.Need-slice-aggregate-put Inv-loop μ-loop
-slice-aggregate-put c = sym (c .before .before .before .before .before .fill .kept .1 .0 ∙ c .before .before .before .before .before .before .before .before .loop .inv)
+slice-aggregate-put c = sym (filled c .fill .kept .1 .0 ∙ round (filled c) .loop .inv)
 
 put-requires : tie.Need-put-requires Inv-loop μ-loop
 put-requires c κs = search needs
@@ -58,7 +65,7 @@ loop-less : tie.Need-loop-less Inv-loop μ-loop
 loop-less c = omega arith
 
 loop-again : tie.Need-loop-again Inv-loop μ-loop
-loop-again c = c .before .before .before .before .before .before .before .before .before .fill .kept .1 .0 ∙ c .before .before .before .before .before .before .before .before .before .before .before .before .loop .inv
+loop-again c = filled (c .before .before .before .before) .fill .kept .1 .0 ∙ round (filled (c .before .before .before .before)) .loop .inv
 
 returns-4 : tie.Need-returns-4 Inv-loop μ-loop
 returns-4 c = search needs

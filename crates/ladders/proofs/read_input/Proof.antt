@@ -12,6 +12,13 @@ Inv-loop file₀ most have₀ turns₀ file have turns = length file ≡ length 
 abbrev μ-loop : tie.MeasureT-loop
 μ-loop file₀ most have₀ turns₀ file have turns = turns
 
+-- From behind a read back to it, and from there to the loop's head.
+abbrev read : tie.After-slice-known2 Inv-loop μ-loop → tie.After-read-more Inv-loop μ-loop
+read c = c .before .before
+
+abbrev round : tie.After-read-more Inv-loop μ-loop → tie.At-loop Inv-loop μ-loop
+round c = c .before .before .before
+
 loop-holds : tie.Need-loop-holds Inv-loop μ-loop
 loop-holds c = refl
 
@@ -19,7 +26,7 @@ read-more-requires : tie.Need-read-more-requires Inv-loop μ-loop
 read-more-requires c κs = search needs
 
 same-length : tie.Need-same-length Inv-loop μ-loop
-same-length c = c .before .before .before .read-more .kept .0 ∙ c .before .before .before .before .before .before .loop .inv
+same-length c = read (c .before) .read-more .kept .0 ∙ round (read (c .before)) .loop .inv
 
 returns : tie.Need-returns Inv-loop μ-loop
 returns c = search needs
@@ -28,7 +35,7 @@ loop-less : tie.Need-loop-less Inv-loop μ-loop
 loop-less c = omega arith
 
 loop-again : tie.Need-loop-again Inv-loop μ-loop
-loop-again c = c .before .before .before .before .before .read-more .kept .0 ∙ c .before .before .before .before .before .before .before .before .loop .inv
+loop-again c = read (c .before .before .before) .read-more .kept .0 ∙ round (read (c .before .before .before)) .loop .inv
 
 sum-requires : tie.Need-sum-requires Inv-loop μ-loop
 sum-requires c κs = search needs
@@ -40,7 +47,7 @@ loop-less-2 : tie.Need-loop-less-2 Inv-loop μ-loop
 loop-less-2 c = omega arith
 
 loop-again-2 : tie.Need-loop-again-2 Inv-loop μ-loop
-loop-again-2 c = c .before .before .before .before .before .before .read-more .kept .0 ∙ c .before .before .before .before .before .before .before .before .before .loop .inv
+loop-again-2 c = read (c .before .before .before .before) .read-more .kept .0 ∙ round (read (c .before .before .before .before)) .loop .inv
 
 same-length-2 : tie.Need-same-length-2 Inv-loop μ-loop
 same-length-2 c = c .before .loop .inv
