@@ -4,6 +4,7 @@
 use refusals::Refusal;
 use refusals::Verdict;
 use runs;
+use runs::GaugePicks;
 use runs::GaugeRun;
 use runs::Outcome;
 use runs::Phase;
@@ -104,7 +105,7 @@ fn refuse(why: Refusal) -> Block
     };
     let run = GaugeRun {
         table: blank,
-        picks: [0u8; 64],
+        picks: GaugePicks([0u8; 64]),
         count: 0,
         phase: Phase::Down,
     };

@@ -11,7 +11,7 @@ use Rattle.sets.specs.Sets.{bit}
 use Rattle.sets.specs.First.{Lowest}
 use Rattle.table.specs.Pairs.{row}
 use Rattle.search.proofs.Within.{clash, Passed, passed-all}
-use Rattle.replay.specs.Picked.{Goes, Judges, Against, NoneAgainst}
+use Rattle.replay.specs.private.Steps.{Goes, Judges, Against, NoneAgainst}
 use Rattle.replay.specs.declared.Judged.{Judged}
 
 module _ (t-row own before left last g : ℕ) where

@@ -1,2 +1,3 @@
--- What a reader must believe of picks handed in.
+-- What a reader must believe of picks handed in; `private` is for the steps alone.
 pub mod Picked
+pub mod private

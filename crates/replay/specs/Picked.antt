@@ -1,57 +1,43 @@
--- Picks handed in: by number, in an array of 64, of which the first `count` are given. They can have been made where they are the numbers
--- of a sequence that is `Valid`: each pick a candidate after those before it.
+-- Picks handed in (01, "Moves of a run", and refusal 15): by number, in an array of which the first `count` places are given, on the first n
+-- rows of another. They can have been made where Down with these picks is a state that some number of moves from a fresh start leads to.
+-- Arrays are read by place, 64 of them, so each of these says what holds for every n, every count and any numbers in the arrays; that they
+-- leave one answer is `replays-unique` in proofs/Going.antt.
 use mathlib.Core.Path.{_≡_}
-use mathlib.Core.Bool.{Bool, true, false}
-use mathlib.Core.List.{List, map}
-use Prim.Native.Nat.{ℕ, suc, _≤_, _<_}
-use lib.Bits.{bitAnd}
-use lib.ListN.{length, take}
-use Rattle.sets.specs.Sets.{bit, _⊆_, lowest}
+use mathlib.Core.Bool.{true, false, not, _&&_}
+use mathlib.Core.List.{List}
+use Prim.Native.Nat.{ℕ, suc, _<_, min}
+use lib.Dec.{ltb}
+use lib.ListN.{length, getD}
+use Rattle.sets.specs.Sets.{bit, meet, lowest}
+use Rattle.sets.specs.Lists.{tabulate}
 use Rattle.table.specs.Pairs.{row}
-use Rattle.table.specs.Tables.{noRows, padded}
-use Rattle.rules.specs.private.Fitting.{Valid}
-use Rattle.lists.specs.Picks.{candidates}
-use Rattle.lists.specs.OnTable.{chainOf}
-use Rattle.search.specs.Finding.{within}
-use Rattle.search.proofs.AfterPicks.{After}
+use Rattle.rules.specs.Machine.{Down, at, Reached}
+use Rattle.lists.specs.PickSequence.{isIn}
+use Rattle.lists.specs.Picks.{common, candidates}
 use Rattle.replay.specs.declared.Replayed.{Replayed}
-use Rattle.replay.specs.declared.Judged.{Judged}
 
--- 64 rows of 64 cases and 64 places for picks, as every array of the code's types has
-pub record Arrays (rows k : List ℕ) : Type 0 where
-  pub size : length rows ≡ 64
-  pub inside : (i : ℕ) → row rows i ⊆ lowest 64
-  pub places : length k ≡ 64
+-- the first n rows of an array, at most 64, each with its 64 cases
+unfoldable pub arrayRows : ℕ → List ℕ → List ℕ
+arrayRows n rows = tabulate (λ i. meet (row rows i) (lowest 64)) (min n 64)
 
--- the first i numbers in k are the picks p of the rows r, each a candidate after those before it; u has the rows of the unpicked gauges, and
--- c the chain of the picks
-pub record Front (r u c k : List ℕ) (i left : ℕ) : Type 0 where
+-- the first `count` numbers in k are those of the picks p, which can have been made on the rows r
+pub record Picked (r k : List ℕ) (count : ℕ) (p : List ℕ) : Type 0 where
+  pub counted : length p ≡ count
+  pub numbers : (i : ℕ) → i < count → getD k i 0 ≡ suc (getD p i 0)
+  pub reached : Reached (candidates r) (at p Down)
+
+-- what the picks given come to: the places of the rows that are unpicked, as a set, and the left cases
+pub record Made (r k : List ℕ) (count : ℕ) (s : Replayed) : Type 0 where
   pub picks : List ℕ
-  pub numbers : take i k ≡ map suc picks
-  pub valid : Valid (candidates r) picks
-  pub after : After r picks u left
-  pub size : length u ≡ 64
-  pub chained : c ≡ padded (chainOf r picks)
+  pub given : Picked r k count picks
+  pub unpicked : (j : ℕ) → bit (s .unpicked) j ≡ (ltb j (length r) && not (isIn j picks))
+  pub left : s .left ≡ common r picks (lowest 64)
 
--- ok says whether the first `count` numbers in k are picks that can have been made on the first n rows
-pub record Replays (n : ℕ) (rows c₀ c k : List ℕ) (count : ℕ) (s : Replayed) : Type 0 where
-  pub yes : s .ok ≡ true → Arrays rows k → c₀ ≡ noRows → (count ≤ 64) × Front (take n rows) (within (s .unpicked) rows) c k count (s .left)
-  pub no : s .ok ≡ false → Arrays rows k → count ≤ 64 → (p : List ℕ) → take count k ≡ map suc p → Valid (candidates (take n rows)) p → ⊥
+-- what stands beside a no
+abbrev pub notMade : Replayed
+notMade = record { ok = false; unpicked = 0; left = 0 }
 
--- ---- the steps
--- a gauge that has all left cases left the same as the last picks, and stands behind the last
-abbrev pub Goes : ℕ → ℕ → ℕ → ℕ → ℕ → Type 0
-Goes row before left last g = (bitAnd row before ≡ left) × (last ≤ g)
-
-pub record Judges (row own before left last g : ℕ) (r : Judged) : Type 0 where
-  pub fewer : r .ok ≡ true → ¬ (own ≡ left) → r .before ≡ left
-  pub twin : r .ok ≡ true → own ≡ left → (r .before ≡ before) × Goes row before left last g
-  pub no : r .ok ≡ false → (own ≡ left) × (Goes row before left last g → ⊥)
-
-pub record Against (row left before last h : ℕ) (t : Bool) : Type 0 where
-  pub yes : t ≡ true → (bitAnd row left ≡ left) × (Goes row before left last h → ⊥)
-  pub no : t ≡ false → bitAnd row left ≡ left → Goes row before left last h
-
-pub record NoneAgainst (rows : List ℕ) (unpicked left before last : ℕ) (t : Bool) : Type 0 where
-  pub yes : t ≡ true → (h : ℕ) → bit unpicked h ≡ true → bitAnd (row rows h) left ≡ left → Goes (row rows h) before left last h
-  pub no : t ≡ false → (h : ℕ) × (bit unpicked h ≡ true) × (bitAnd (row rows h) left ≡ left) × (Goes (row rows h) before left last h → ⊥)
+-- s says whether the first `count` numbers in k are picks that can have been made on the first n rows, and what they come to
+pub record Replays (n : ℕ) (rows k : List ℕ) (count : ℕ) (s : Replayed) : Type 0 where
+  pub yes : s .ok ≡ true → Made (arrayRows n rows) k count s
+  pub no : s .ok ≡ false → (s ≡ notMade) × ((p : List ℕ) → Picked (arrayRows n rows) k count p → ⊥)

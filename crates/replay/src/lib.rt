@@ -1,13 +1,14 @@
 // Picks handed in (01, "Moves of a run"): whether they can have been made one after the other, each a candidate after those before it,
-// judged in one pass over the picks and one over what is unpicked then. Any rows and any picks are taken, and nothing is refused; the
-// theory is proofs/Replaying.antt of crate `lists`.
+// judged in one pass over the picks and one over what is unpicked then. Any rows and any picks are taken, nothing is refused, and no memory
+// is lent; the theory is proofs/Replaying.antt of crate `lists`.
 use sets;
+use table::Table;
 ghost use mathlib.Core.Path.{_≡_};
-ghost use mathlib.Core.Bool.{false};
-ghost use Rattle.replay.specs.Picked.{Replays, Judges, Against, NoneAgainst};
+ghost use Rattle.replay.specs.Picked.{Replays, notMade};
+ghost use Rattle.replay.specs.private.Steps.{Judges, Against, NoneAgainst};
 
 // The picks that there can be.
-const PLACES: usize = 64;
+const PLACES: usize = Table::MOST_GAUGES as usize;
 
 // All 64 cases: the left cases before any pick.
 const ALL: u64 = 0xffff_ffff_ffff_ffff;
@@ -20,20 +21,14 @@ pub struct Replayed {
 }
 
 // What a pick's own cases say beside the left ones, and the cases before the last picks that left the same.
-pub struct Judged {
+struct Judged {
     pub ok: bool,
     pub before: u64,
 }
 
-// Makes the first `count` picks again, on the first `n` rows; `chain` gets what each pick leaves.
-pub fn replay(
-    rows: &[u64; 64],
-    n: usize,
-    chain: &mut [u64; 64],
-    picks: &[u8; 64],
-    count: usize,
-) -> Replayed
-    ensures { λ r. ⌜ Replays n (now (rows .entry)) (now (chain .entry)) (now (chain .exit)) (now (picks .entry)) count r ⌝ }
+// Makes the first `count` picks again, on the first `n` rows.
+pub fn replay(rows: &[u64; 64], n: usize, picks: &[u8; 64], count: usize) -> Replayed
+    ensures { λ r. ⌜ Replays n (now (rows .entry)) (now (picks .entry)) count r ⌝ }
 {
     if PLACES < count {
         return not_replayed();
@@ -63,7 +58,6 @@ pub fn replay(
         }
         before = judged.before;
         unpicked = sets::without(unpicked, g as u64);
-        chain[g] = own;
         left = own;
         last = number;
         i += 1;
@@ -79,7 +73,7 @@ pub fn replay(
 }
 
 fn not_replayed() -> Replayed
-    ensures { λ r. ⌜ r .ok ≡ false ⌝ }
+    ensures { λ r. ⌜ r ≡ notMade ⌝ }
 {
     Replayed {
         ok: false,

@@ -1,6 +1,6 @@
--- From the core's words to the public ones: a value of which the core says that it stands for a state is the paused value of a reached
--- state, and what the core says of a call is what `Called` asks, for either side.
-use mathlib.Core.Path.{_≡_, sym, ap, ap₂, _∙_}
+-- From the core's words to the public ones, for either side: a value of which the core says that it stands for a state is the paused value
+-- of a reached state; refusals and fresh starts. A call that is not refused is in SideCalls.antt.
+use mathlib.Core.Path.{_≡_, refl, sym, ap, _∙_}
 use mathlib.Core.List.{List, map}
 use Prim.Native.Nat.{ℕ, suc, _-_, _≤_, _<_}
 use native.Mathlib.Omega.{arith}
@@ -20,22 +20,20 @@ use Rattle.lists.specs.OnTable.{handOut, callOn}
 use Rattle.lists.proofs.CandidateTree.{reached-fits}
 use Rattle.runs.specs.Paused.{Value, numbered, paused, blankValue}
 use Rattle.runs.specs.Calling.{Step, refusal, byRules, told, PausedAt, Called}
-use Rattle.runs.specs.private.Working.{ComesOut, doneAnswer, StandsFor, placed}
-use Rattle.runs.specs.declared.engine.Done.{Done}
+use Rattle.runs.specs.private.Working.{placed, StandsFor}
 use Rattle.replay.proofs.Numbers.{length-numbers, places-numbers}
 use Rattle.runs.proofs.Padding.{take-padded}
-use Rattle.runs.proofs.Holding.{placed-numbered}
+use Rattle.runs.proofs.Holding.{state-by}
 
 -- ---- a paused value has one state
 pub paused-state : (t : Table) (s z : State) → paused t s ≡ paused t z → s ≡ z
 paused-state t s z e =
-    ap₂ (λ (p : List ℕ) (f : Phase). at p f) (sym (picks-of s) ∙ ap₂ (λ (n : ℕ) (k : List ℕ). map (λ x. x - 1) (take n k)) (ap (λ (v : Value). v .count) e) (ap (λ (v : Value). v .picks) e) ∙ picks-of z)
-    (sym (placed-numbered (s .phase)) ∙ ap (λ (v : Value). placed (v .phase)) e ∙ placed-numbered (z .phase))
-  where
-    picks-of : (x : State) → map (λ y. y - 1) (take (length (x .picks)) (padded (map suc (x .picks)))) ≡ x .picks
-    picks-of x = ap (map (λ y. y - 1)) (take-padded (map suc (x .picks)) (length (x .picks)) (sym (length-numbers (x .picks)))) ∙ places-numbers (x .picks)
+    let v = paused t s in
+    sym (state-by (v .picks) (v .count) (v .phase) s refl refl refl)
+    ∙ state-by (v .picks) (v .count) (v .phase) z (ap (λ (y : Value). y .picks) e) (ap (λ (y : Value). y .count) e) (ap (λ (y : Value). y .phase) e)
 
-module _ (side : Table → Side) (v : Value) (b : ℕ) (ok : tableRefusal (v .table) ≡ 0) where
+-- a value that stands for a state, in the core's words and in the public ones
+module _ (side : Table → Side) (v : Value) where
   abbrev t : Table
   t = v .table
 
@@ -45,7 +43,7 @@ module _ (side : Table → Side) (v : Value) (b : ℕ) (ok : tableRefusal (v .ta
   abbrev Stands : State → Type 0
   Stands s = StandsFor r (v .picks) (v .count) (v .phase) s
 
-  stands-paused : (s : State) → Stands s → PausedAt side v s
+  pub stands-paused : (s : State) → Stands s → PausedAt side v s
   stands-paused s h = record {
     reached = reached-fits (side t) s .1 (h .fits);
     stands = same (v .picks) (v .count) (v .phase) (h .picked) (h .counted) (h .phased);
@@ -55,39 +53,12 @@ module _ (side : Table → Side) (v : Value) (b : ℕ) (ok : tableRefusal (v .ta
           → record { table = t; picks = k; count = n; phase = f } ≡ paused t s
       same k n f a c d = rw (a, c, d)
 
-  paused-stands : (s : State) → PausedAt side v s → Stands s
+  pub paused-stands : (s : State) → PausedAt side v s → Stands s
   paused-stands s h = record {
     picked = ap (λ (y : Value). y .picks) (h .stands);
     counted = ap (λ (y : Value). y .count) (h .stands);
     phased = ap (λ (y : Value). y .phase) (h .stands);
     fits = reached-fits (side t) s .0 (h .reached);
-  }
-
-  none : 0 < tableRefusal t → ⊥
-  none h = omega arith
-
-  pub called-unreached : ((s : State) → Stands s → ⊥) → (r : Step) → r ≡ refusal 15 → Called side v b r
-  called-unreached h r e = record {
-    table = λ l. absurd (none l);
-    value = λ z n. e;
-    rules = λ z s p. absurd (h s (paused-stands s p));
-  }
-
-  pub called-large : mostBudget < b → (x : State) → Stands x → (r : Step) → r ≡ refusal 18 → Called side v b r
-  called-large l x h r e = record {
-    table = λ y. absurd (none y);
-    value = λ z n. absurd (n x (stands-paused x h));
-    rules = λ z s p. e ∙ sym (ap (told t) (call-above (candidates (side t .rows)) (handOut (side t)) b s l));
-  }
-
-  pub called-moves : (x : State) → Stands x → b ≤ mostBudget → (done : Done) (k : ℕ) (y : State) → ComesOut (side t .rows) b x done k y
-      → (r : Step) → r ≡ byRules t (doneAnswer (handOut (side t)) done y) k y → Called side v b r
-  called-moves x h l done k y comes r e = record {
-    table = λ w. absurd (none w);
-    value = λ z n. absurd (n x (stands-paused x h));
-    rules = λ z s p.
-        let same : s ≡ x = paused-state t s x (sym (p .stands) ∙ stands-paused x h .stands) in
-        e ∙ sym (ap (told t) (ap (callOn (side t) b) same ∙ call-within (candidates (side t .rows)) (handOut (side t)) b x l ∙ comes (handOut (side t))));
   }
 
 pub called-refused : (side : Table → Side) (v : Value) (b n : ℕ) → n ≡ tableRefusal (v .table) → 0 < n → (r : Step) → r ≡ refusal n → Called side v b r

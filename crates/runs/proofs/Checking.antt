@@ -1,7 +1,7 @@
--- Checking a value handed in: the picks made again (crate `replay`), the zeros behind them, and the phase, decide whether it is the value of a
--- state whose picks fit its phase (`StandsFor`).
+-- Checking a value handed in: the picks made again (crate `replay`), as many places filled as there are picks, and the phase, decide
+-- whether it is the value of a state whose picks fit its phase (`StandsFor`).
 use mathlib.Core.Path.{_≡_, refl, sym, ap, ap₂, _∙_, subst}
-use mathlib.Core.Bool.{Bool, true, false, _&&_}
+use mathlib.Core.Bool.{Bool, true, false, not, _&&_, cond}
 use mathlib.Core.List.{List, [], _∷_, _++_, map, append-nil, List·Memᴰ}
 use Prim.Native.Nat.{ℕ, zero, suc, _+_, _-_, _≤_, _<_, min}
 use native.Mathlib.Nat.{min-eq-left}
@@ -10,35 +10,55 @@ use native.Mathlib.Numerals.{add-one}
 use native.Mathlib.Omega.{arith}
 use lib.Bits.{bitAnd}
 use lib.Dec.{not-T, eqb, leb, ltb}
-use lib.ListN.{length, getD, set, take, length-set, List·getD-eq-default}
-use lib.Seq.{take-suc, getD-take, take-take, append-snoc, length-take-le}
-use borrow.Author.Tests.{ltb-true, leb-true, leb-false, eqb-true, eqb-false}
+use lib.ListN.{length, getD, take, length-take, List·getD-eq-default}
+use lib.Seq.{ext-getD, getD-take, length-take-le}
+use borrow.Author.Tests.{lt-ltb, le-ltb, leb-true, leb-false, eqb-true, eqb-false}
 use Rattle.table.proofs.Padding.{pad-getD, pad-ext}
-use Rattle.sets.specs.Sets.{meet}
+use Rattle.sets.specs.Sets.{bit}
 use Rattle.sets.proofs.Tests.{is-true, is-false}
 use Rattle.table.specs.Pairs.{row}
 use Rattle.table.specs.Tables.{noRows}
 use Rattle.table.proofs.Places.{row-past}
 use Rattle.rules.specs.Machine.{Phase, Down, Handed, Back, Ended, State, at}
 use Rattle.rules.specs.private.Fitting.{ValidFrom, Valid, Fits}
-use Rattle.rules.proofs.Trees.{valid-snoc}
+use Rattle.rules.proofs.Reach.{reachable}
 use Rattle.lists.specs.PickSequence.{isIn}
 use Rattle.lists.specs.Picks.{candidate, candidates}
 use Rattle.lists.proofs.Candidates.{Cand, cand-of, of-cand, mem-candidates, no-candidate, none-candidate}
 use Rattle.lists.proofs.CandidateTree.{candidate-tree}
-use Rattle.search.specs.Finding.{candidateIn, First}
-use Rattle.search.proofs.AfterPicks.{candidate-wide}
+use Rattle.search.specs.Finding.{candidateIn, First, within}
+use Rattle.search.proofs.AfterPicks.{After, candidate-wide}
+use Rattle.search.proofs.Within.{row-in, row-out}
 use Rattle.runs.specs.Paused.{numbered}
-use Rattle.runs.specs.private.Working.{Sized, modePhase, placed, Decides, RestZero, PhaseIn, StandsFor}
+use Rattle.runs.specs.private.Working.{Sized, modePhase, placed, Decides, filled, PhaseIn, StandsFor}
 use Rattle.runs.specs.declared.engine.Mode.{Mode}
 use Rattle.runs.specs.declared.engine.Mode.the-variants.{Down as modeDown, Handed as modeHanded, Back as modeBack, Ended as modeEnded}
-use Rattle.replay.specs.Picked.{Front}
-use Rattle.replay.proofs.Numbers.{length-numbers, numbers-same}
+use Rattle.replay.specs.Picked.{arrayRows, Picked, Made}
+use Rattle.replay.specs.declared.Replayed.{Replayed}
+use Rattle.replay.proofs.Going.{rows-length, row-side, picked-few}
+use Rattle.replay.proofs.Numbers.{length-numbers, getD-numbers, numbers-same}
+use Rattle.runs.proofs.Filled.{filled-most, filled-picks, rest-zero}
 use Rattle.runs.proofs.Padding.{take-padded}
 use Rattle.runs.proofs.Stepping.{side-length, side-rows}
 
+-- the first `count` numbers in k are the picks p of the rows r, each a candidate after those before it; u has the rows of the unpicked
+-- gauges
+pub record Front (r u k : List ℕ) (count left : ℕ) : Type 0 where
+  pub picks : List ℕ
+  pub numbers : take count k ≡ map suc picks
+  pub counted : count ≡ length picks
+  pub valid : Valid (candidates r) picks
+  pub after : After r picks u left
+
+-- the rows of a side's array, by place
+arrays-are : (n : ℕ) (rows : List ℕ) → Sized n rows → arrayRows n rows ≡ take n rows
+arrays-are n rows z = ext-getD 0 (arrayRows n rows) (take n rows) (rows-length n rows ∙ sym (length-take n rows ∙ ap (min n) (z .size))) (λ i l. go i (omega (arith, rows-length n rows)))
+  where
+    go : (i : ℕ) → i < min n 64 → getD (arrayRows n rows) i 0 ≡ getD (take n rows) i 0
+    go i l = row-side n rows i l ∙ z .inside i ∙ sym (getD-take n rows i 0 (omega arith))
+
 -- ---- the whole value
-module _ (n : ℕ) (rows u c k : List ℕ) (count left : ℕ) (f : Phase) (z : Sized n rows) (size : length k ≡ 64) where
+module _ (n : ℕ) (rows k : List ℕ) (count : ℕ) (f : Phase) (z : Sized n rows) (size : length k ≡ 64) where
   abbrev side : List ℕ
   side = take n rows
 
@@ -48,23 +68,59 @@ module _ (n : ℕ) (rows u c k : List ℕ) (count left : ℕ) (f : Phase) (z : S
   valid-of p (Back i) v = v .0
   valid-of p Ended v = subst (Valid (candidates side)) (sym v) tt
 
-  legal-few : (s : State) → StandsFor side k count f s → count ≤ 64
-  legal-few s l = omega (arith, l .counted, candidate-tree side .depth (s .picks) (valid-of (s .picks) (s .phase) (l .fits)), side-length n rows z, z .few)
+  module _ (s : State) (l : StandsFor side k count f s) where
+    legal-few : length (s .picks) ≤ 64
+    legal-few = omega (arith, candidate-tree side .depth (s .picks) (valid-of (s .picks) (s .phase) (l .fits)), side-length n rows z, z .few)
 
-  legal-take : (s : State) → StandsFor side k count f s → take count k ≡ map suc (s .picks)
-  legal-take s l = ap (take count) (l .picked) ∙ take-padded (map suc (s .picks)) count (l .counted ∙ sym (length-numbers (s .picks)))
+    legal-take : take count k ≡ map suc (s .picks)
+    legal-take = ap (take count) (l .picked) ∙ take-padded (map suc (s .picks)) count (l .counted ∙ sym (length-numbers (s .picks)))
 
-  pub no-count : 64 < count → (s : State) → StandsFor side k count f s → ⊥
-  no-count h s l = omega (arith, legal-few s l)
+    pub stands-filled : filled k 64 ≡ count
+    stands-filled = ap (λ (x : List ℕ). filled x 64) (l .picked) ∙ filled-picks (s .picks) legal-few ∙ sym (l .counted)
 
-  pub no-rest : ¬ RestZero k count → (s : State) → StandsFor side k count f s → ⊥
-  no-rest h s l = h (λ i a b.
-      ap (λ (x : List ℕ). getD x i 0) (l .picked) ∙ pad-getD (map suc (s .picks)) i ∙ List·getD-eq-default (map suc (s .picks)) 0 (omega (arith, length-numbers (s .picks), l .counted)))
+    pub stands-picked : Picked (arrayRows n rows) k count (s .picks)
+    stands-picked = rw (arrays-are n rows z) (record {
+      counted = sym (l .counted);
+      numbers = λ i y. ap (λ (x : List ℕ). getD x i 0) (l .picked) ∙ pad-getD (map suc (s .picks)) i ∙ getD-numbers (s .picks) i (omega (arith, l .counted));
+      reached = reachable (candidates side) (length side) (candidate-tree side) (at (s .picks) Down) .1 (valid-of (s .picks) (s .phase) (l .fits));
+    })
 
-  pub no-replay : ((p : List ℕ) → take count k ≡ map suc p → Valid (candidates side) p → ⊥) → (s : State) → StandsFor side k count f s → ⊥
-  no-replay h s l = h (s .picks) (legal-take s l) (valid-of (s .picks) (s .phase) (l .fits))
+  -- picks that are made again
+  pub made-front : (s : Replayed) → Made (arrayRows n rows) k count s → Front side (within (s .unpicked) rows) k count (s .left)
+  made-front s m = record {
+    picks = m .picks;
+    numbers = ext-getD 0 (take count k) (map suc (m .picks)) (length-take-le count k (omega (arith, few)) ∙ sym (length-numbers (m .picks) ∙ m .given .counted)) (λ i l.
+        getD-take count k i 0 (low i l) ∙ m .given .numbers i (low i l) ∙ sym (getD-numbers (m .picks) i (omega (arith, low i l, m .given .counted))));
+    counted = sym (m .given .counted);
+    valid = reachable (candidates side) (length side) (candidate-tree side) (at (m .picks) Down) .0 (rw (arrays-are n rows z) at (m .given .reached));
+    after = record { entry = λ h. entry h (isIn h (m .picks)) refl (decLt h (length side)); remains = rw (arrays-are n rows z) at (m .left) };
+  }
+    where
+      few : count ≤ 64
+      few = picked-few n rows k count (m .picks) (m .given)
 
-  module _ (m : Front side u c k count left) (few : count ≤ 64) where
+      low : (i : ℕ) → i < length (take count k) → i < count
+      low i l = omega (arith, length-take-le count k (omega (arith, few)))
+
+      bits : (h : ℕ) → bit (s .unpicked) h ≡ (ltb h (length side) && not (isIn h (m .picks)))
+      bits h = rw (arrays-are n rows z) at (m .unpicked h)
+
+      entry : (h : ℕ) (b : Bool) → isIn h (m .picks) ≡ b → Dec (h < length side) → row (within (s .unpicked) rows) h ≡ cond (isIn h (m .picks)) 0 (row side h)
+      entry h true b y =
+          row-out (s .unpicked) rows h (bits h ∙ ap (λ (x : Bool). ltb h (length side) && not x) b ∙ and-false (ltb h (length side)))
+          ∙ sym (ap (λ (x : Bool). cond x 0 (row side h)) b)
+        where
+          and-false : (x : Bool) → (x && false) ≡ false
+          and-false true = refl
+          and-false false = refl
+      entry h false b (yes y) =
+          row-in (s .unpicked) rows h (omega (arith, side-length n rows z, z .few)) (bits h ∙ ap₂ (λ (x w : Bool). x && not w) (lt-ltb h (length side) y) b)
+          ∙ sym (getD-take n rows h 0 (omega (arith, side-length n rows z))) ∙ sym (ap (λ (x : Bool). cond x 0 (row side h)) b)
+      entry h false b (no y) =
+          row-out (s .unpicked) rows h (bits h ∙ ap (λ (x : Bool). x && not (isIn h (m .picks))) (le-ltb h (length side) (omega arith)))
+          ∙ sym (ap (λ (x : Bool). cond x 0 (row side h)) b ∙ row-past side h (omega arith))
+
+  module _ (u : List ℕ) (left : ℕ) (m : Front side u k count left) where
     in-side : (i : ℕ) → candidateIn u left 64 i ≡ candidate side (m .picks) i
     in-side i = candidate-wide side (m .picks) u left (side-rows n rows z) (m .after) i
 
@@ -77,19 +133,16 @@ module _ (n : ℕ) (rows u c k : List ℕ) (count left : ℕ) (f : Phase) (z : S
     phase-of (Back j) e v =
         let d : suc j - 1 ≡ j = omega arith in
         rw e (omega arith, ap (candidateIn u left 64) d ∙ in-side j ∙ is-true (candidate side (m .picks) j) (of-cand side (m .picks) j (mem-candidates side (m .picks) j .0 (v .1))))
-    phase-of Ended e v = rw e (omega (arith, length-take-le count k (omega arith), ap length (m .numbers), length-numbers (m .picks), ap length v))
+    phase-of Ended e v = rw e (omega (arith, m .counted, ap length v))
 
     pub no-phase : ¬ PhaseIn u left count f → (s : State) → StandsFor side k count f s → ⊥
     no-phase h s l = h (phase-of (s .phase) (l .phased) (subst (λ (p : List ℕ). Fits (candidates side) p (s .phase)) (numbers-same (s .picks) (m .picks) (sym (legal-take s l) ∙ m .numbers)) (l .fits)))
-
-    counted : count ≡ length (m .picks)
-    counted = sym (length-take-le count k (omega arith)) ∙ ap length (m .numbers) ∙ length-numbers (m .picks)
 
     fits-of : (g : Phase) → PhaseIn u left count g → Fits (candidates side) (m .picks) (placed g)
     fits-of Down v = m .valid
     fits-of Handed v = (m .valid, none-candidate side (m .picks) (λ i cand. let w : true ≡ false = sym (is-true (candidate side (m .picks) i) (of-cand side (m .picks) i cand)) ∙ sym (in-side i) ∙ v i (omega (arith, cand .below, side-length n rows z, z .few)) in let y : _≡_ {A = ℕ} 0 1 = cc in omega arith))
     fits-of (Back j) v = (m .valid, mem-candidates side (m .picks) (j - 1) .1 (cand-of side (m .picks) (j - 1) (rw (← in-side (j - 1), v .1) tt)))
-    fits-of Ended v = none (m .picks) (omega (arith, counted))
+    fits-of Ended v = none (m .picks) (omega (arith, m .counted))
       where
         none : (p : List ℕ) → length p ≡ 0 → p ≡ []
         none [] e = refl
@@ -101,20 +154,24 @@ module _ (n : ℕ) (rows u c k : List ℕ) (count left : ℕ) (f : Phase) (z : S
     number-of (Back j) v = let e : j ≡ suc (j - 1) = omega (arith, v .0) in ap Back e
     number-of Ended v = refl
 
-    pub legal-of : RestZero k count → PhaseIn u left count f → StandsFor side k count f (at (m .picks) (placed f))
-    legal-of rest v = record {
-      picked = pad-ext k (map suc (m .picks)) size (omega (arith, length-numbers (m .picks), counted)) (λ i. go i (decLt i count) (decLt i 64));
-      counted = counted;
+    pub legal-of : filled k 64 ≡ count → PhaseIn u left count f → StandsFor side k count f (at (m .picks) (placed f))
+    legal-of full v = record {
+      picked = pad-ext k (map suc (m .picks)) size (omega (arith, length-numbers (m .picks), m .counted, full, filled-most k 64)) (λ i. go i (decLt i count) (decLt i 64));
+      counted = m .counted;
       phased = number-of f v;
       fits = fits-of f v;
     }
       where
+        front : (i : ℕ) → i < count → getD k i 0 ≡ getD (map suc (m .picks)) i 0
+        front i l = sym (getD-take count k i 0 l) ∙ ap (λ (x : List ℕ). getD x i 0) (m .numbers)
+
         past : (i : ℕ) → ¬ (i < count) → getD (map suc (m .picks)) i 0 ≡ 0
-        past i l = List·getD-eq-default (map suc (m .picks)) 0 (omega (arith, length-numbers (m .picks), counted))
+        past i l = List·getD-eq-default (map suc (m .picks)) 0 (omega (arith, length-numbers (m .picks), m .counted))
 
         go : (i : ℕ) → Dec (i < count) → Dec (i < 64) → getD k i 0 ≡ getD (map suc (m .picks)) i 0
-        go i (yes l) b = sym (getD-take count k i 0 l) ∙ ap (λ (x : List ℕ). getD x i 0) (m .numbers)
-        go i (no l) (yes b) = rest i (omega arith) b ∙ sym (past i l)
+        go i (yes l) b = front i l
+        go i (no l) (yes b) =
+            rest-zero k count full (λ j y e. omega (arith, front j y, getD-numbers (m .picks) j (omega (arith, m .counted)))) i (omega arith) b ∙ sym (past i l)
         go i (no l) (no b) = List·getD-eq-default k 0 (omega arith) ∙ sym (past i l)
 
 -- ---- what the tests answer

@@ -31,7 +31,7 @@ use Rattle.search.specs.Finding.{within}
 use Rattle.search.proofs.ChainArrays.{chain-pick}
 use Rattle.search.proofs.AfterPicks.{full, Rows, After, after-pick, after-unpick, remains-unpicked}
 use Rattle.runs.specs.Paused.{numbered}
-use Rattle.runs.specs.private.Working.{placed, stateOf, HoldsAt, leftAfter, NumberAt, spotDown, Stepped}
+use Rattle.runs.specs.private.Working.{modePhase, placed, placesOf, stateOf, HoldsAt, StandsFor, leftAfter, NumberAt, spotDown, Stepped}
 use Rattle.runs.specs.declared.engine.Mode.the-variants.{Back as modeBack}
 use Rattle.runs.specs.declared.engine.Spot.{Spot}
 use Rattle.runs.specs.declared.engine.Moved.the-variants.{On, Out, Over}
@@ -44,12 +44,21 @@ placed-numbered Handed = refl
 placed-numbered (Back i) = let e : suc i - 1 ≡ i = omega arith in ap Back e
 placed-numbered Ended = refl
 
--- the state that the spot and its picks stand for
+-- the state that picks by number, with zeros behind them, their count and a phase by number stand for
+pub state-by : (k : List ℕ) (count : ℕ) (f : Phase) (x : State) → k ≡ padded (map suc (x .picks)) → count ≡ length (x .picks) → f ≡ numbered (x .phase)
+    → at (placesOf k count) (placed f) ≡ x
+state-by k count f x a b c =
+    ap₂ (λ (p : List ℕ) (g : Phase). at p g)
+    (ap (map (λ x. x - 1)) (ap (take count) a ∙ take-padded (map suc (x .picks)) count (b ∙ sym (length-numbers (x .picks)))) ∙ places-numbers (x .picks))
+    (ap placed c ∙ placed-numbered (x .phase))
+
+-- so a value has one state
+pub stands-unique : (r k : List ℕ) (count : ℕ) (f : Phase) (s z : State) → StandsFor r k count f s → StandsFor r k count f z → s ≡ z
+stands-unique r k count f s z a b = sym (state-by k count f s (a .picked) (a .counted) (a .phased)) ∙ state-by k count f z (b .picked) (b .counted) (b .phased)
+
+-- and a spot too
 pub state-is : {r u c k : List ℕ} {s : Spot} {x : State} → HoldsAt r u c k s x → stateOf k s ≡ x
-state-is {r} {u} {c} {k} {s} {x} h =
-    ap₂ (λ (p : List ℕ) (f : Phase). at p f)
-    (ap (map (λ x. x - 1)) (ap (take (s .count)) (h .picked) ∙ take-padded (map suc (x .picks)) (s .count) (h .counted ∙ sym (length-numbers (x .picks)))) ∙ places-numbers (x .picks))
-    (ap placed (h .phased) ∙ placed-numbered (x .phase))
+state-is {r} {u} {c} {k} {s} {x} h = state-by k (s .count) (modePhase (s .mode)) x (h .picked) (h .counted) (h .phased)
 
 pub holds-own : {r u c k : List ℕ} {s : Spot} {x : State} → HoldsAt r u c k s x → HoldsAt r u c k s (stateOf k s)
 holds-own {r} {u} {c} {k} {s} h = subst (HoldsAt r u c k s) (sym (state-is h)) h

@@ -1,8 +1,10 @@
 -- Laws that belong to no one function.
 pub mod Padding
+pub mod Filled
 pub mod Holding
 pub mod Stepping
 pub mod Advancing
+pub mod Laying
 pub mod Checking
 pub mod Carrying
 pub mod Answered

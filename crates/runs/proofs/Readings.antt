@@ -17,16 +17,16 @@ use Rattle.refusals.proofs.Answering.{named, named-number, verdict-injective}
 use Rattle.rules.specs.Machine.{Phase, Down, Handed, Back, Ended, State}
 use Rattle.rules.specs.Calls.{Reply, refused, spent, handed, end}
 use Rattle.lists.specs.Lists.{Side, gaugeSide, caseSide}
-use Rattle.runs.specs.declared.Phase.the-variants.{Down as gaugeDown, Handed as gaugeHanded, Back as gaugeBack, Ended as gaugeEnded}
-use Rattle.runs.specs.declared.Phase.{Phase as GaugePhase}
-use Rattle.runs.specs.declared.CasePhase.the-variants.{Down as caseDown, Handed as caseHanded, Back as caseBack, Ended as caseEnded}
-use Rattle.runs.specs.declared.CasePhase.{CasePhase}
-use Rattle.runs.specs.declared.GaugeRun.{GaugeRun}
-use Rattle.runs.specs.declared.CaseRun.{CaseRun}
-use Rattle.runs.specs.declared.GaugeStart.{GaugeStart}
-use Rattle.runs.specs.declared.CaseStart.{CaseStart}
-use Rattle.runs.specs.declared.GaugeStep.{GaugeStep}
-use Rattle.runs.specs.declared.CaseStep.{CaseStep}
+use Rattle.runs.specs.declared.gauges.Phase.the-variants.{Down as gaugeDown, Handed as gaugeHanded, Back as gaugeBack, Ended as gaugeEnded}
+use Rattle.runs.specs.declared.gauges.Phase.{Phase as GaugePhase}
+use Rattle.runs.specs.declared.cases.CasePhase.the-variants.{Down as caseDown, Handed as caseHanded, Back as caseBack, Ended as caseEnded}
+use Rattle.runs.specs.declared.cases.CasePhase.{CasePhase}
+use Rattle.runs.specs.declared.gauges.GaugeRun.{GaugeRun}
+use Rattle.runs.specs.declared.cases.CaseRun.{CaseRun}
+use Rattle.runs.specs.declared.gauges.GaugeStart.{GaugeStart}
+use Rattle.runs.specs.declared.cases.CaseStart.{CaseStart}
+use Rattle.runs.specs.declared.gauges.GaugeStep.{GaugeStep}
+use Rattle.runs.specs.declared.cases.CaseStep.{CaseStep}
 use Rattle.runs.specs.declared.Outcome.{Outcome}
 use Rattle.runs.specs.declared.Outcome.the-variants.{HandedOut, Spent, End, Refused}
 use Rattle.runs.specs.Paused.{Value, gaugePhase, casePhase, gaugeValue, caseValue, gaugeStarted, caseStarted}
@@ -152,7 +152,7 @@ gauge-phase-of (gaugeBack g) = refl
 gauge-phase-of gaugeEnded = refl
 
 abbrev gaugeRunOf : Value → GaugeRun
-gaugeRunOf v = record { table = v .table; picks = v .picks; count = v .count; phase = gaugePhaseOf (v .phase) }
+gaugeRunOf v = record { table = v .table; picks = record { 0 = v .picks }; count = v .count; phase = gaugePhaseOf (v .phase) }
 
 gauge-run-of : (p : GaugeRun) → gaugeRunOf (gaugeValue p) ≡ p
 gauge-run-of p = ap (λ (f : GaugePhase). record { table = p .table; picks = p .picks; count = p .count; phase = f }) (gauge-phase-of (p .phase))
@@ -183,7 +183,7 @@ case-phase-of (caseBack c) = refl
 case-phase-of caseEnded = refl
 
 abbrev caseRunOf : Value → CaseRun
-caseRunOf v = record { table = v .table; picks = v .picks; count = v .count; phase = casePhaseOf (v .phase) }
+caseRunOf v = record { table = v .table; picks = record { 0 = v .picks }; count = v .count; phase = casePhaseOf (v .phase) }
 
 case-run-of : (p : CaseRun) → caseRunOf (caseValue p) ≡ p
 case-run-of p = ap (λ (f : CasePhase). record { table = p .table; picks = p .picks; count = p .count; phase = f }) (case-phase-of (p .phase))

@@ -1,77 +1,126 @@
--- A run call of either side, put together from what the core says: which refusal, or the moves with the chain by gauge rows and the next
--- value. The side's rows are the first n of the array R that the core worked on.
+-- A run call of either side, put together from what the core reports: which refusal, or the moves with the chain by gauge rows and the next
+-- value (`call-answer`), and the three answers of the functions above the core. Each promises demand 3 beside (`promise`).
 use mathlib.Core.Path.{_≡_, refl, sym, ap, _∙_, subst}
-use mathlib.Core.List.{List}
-use Prim.Native.Nat.{ℕ}
+use mathlib.Core.List.{List, [], _∷_}
+use mathlib.Core.Logic.{⊎-elim}
+use Prim.Native.Nat.{ℕ, _≤_}
+use native.Mathlib.Decide.{decLe}
+use native.Mathlib.Omega.{arith}
 use lib.ListN.{length, take}
-use Rattle.table.specs.Tables.{chainRows, blankChain, tableRefusal, padded}
-use Rattle.rules.specs.Calls.{spent, handed, end}
+use denote.Enum.Declared
+use Rattle.refusals.specs.Answers.{number}
+use Rattle.table.specs.Tables.{Legal, chainRows, blankChain, tableRefusal, padded}
 use Rattle.table.specs.declared.Table.{Table}
 use Rattle.table.specs.declared.Chain.{Chain}
+use Rattle.refusals.specs.declared.Refusal.{Refusal}
 use Rattle.rules.specs.Machine.{Phase, State}
+use Rattle.rules.specs.Calls.{handed, mostBudget}
+use Rattle.rules.proofs.Calls.{call-above, call-within}
 use Rattle.lists.specs.Lists.{Side}
-use Rattle.lists.specs.OnTable.{chainOf, handOut}
-use Rattle.runs.specs.Paused.{Value}
-use Rattle.runs.specs.Calling.{Step, outcome, refusal, Called}
-use Rattle.runs.specs.private.Working.{modePhase, doneOutcome, doneChain, CarriedBy, CarriesOn, carriedBy, carriedStep}
+use Rattle.lists.specs.Picks.{candidates}
+use Rattle.lists.specs.OnTable.{chainOf, handOut, callOn}
+use Rattle.lists.proofs.BothSides.{Fair}
+use Rattle.runs.specs.Paused.{Value, paused}
+use Rattle.runs.specs.Calling.{Step, outcome, refusal, byRules, told, PausedAt, Called, CarriesDemand}
+use Rattle.runs.specs.private.Working.{modePhase, StandsFor, Went, CarriesOn, nextOf, stepBy}
 use Rattle.runs.specs.declared.Outcome.{Outcome}
+use Rattle.runs.specs.declared.Outcome.the-variants.{HandedOut, Spent, End, Refused}
 use Rattle.runs.specs.declared.engine.Mode.{Mode}
-use Rattle.runs.specs.declared.engine.Done.{Done}
-use Rattle.runs.specs.declared.engine.Done.the-variants.{HandedOut, Spent, End}
-use Rattle.runs.specs.declared.engine.Fate.{Fate}
-use Rattle.runs.specs.declared.engine.Fate.the-variants.{NotReached, TooLarge, Moves}
-use Rattle.runs.specs.declared.engine.Carried.{Carried}
-use Rattle.runs.proofs.Answered.{called-unreached, called-large, called-moves}
-use Rattle.runs.proofs.Sides.{by-moves, value-stands}
+use Rattle.runs.specs.declared.engine.Report.{Report}
+use Rattle.runs.proofs.Outcome.{the-type}
+use Rattle.runs.proofs.Padding.{take-padded}
+use Rattle.runs.proofs.Answered.{stands-paused, paused-stands}
+use Rattle.runs.proofs.Sides.{Works, Ladder}
+use Rattle.runs.proofs.Demands.{carries-demand}
 
-module _ (side : Table → Side) (v : Value) (b : ℕ) (ok : tableRefusal (v .table) ≡ 0) (n : ℕ) (R : List ℕ) (rows-are : take n R ≡ side (v .table) .rows) (m : Mode) (mode-is : modePhase m ≡ v .phase)
-    (c′ k′ : List ℕ) (o : Carried) (h : CarriesOn (take n R) (v .picks) (v .count) (modePhase m) b c′ k′ o) where
+-- the variant of an outcome, and that it is one of some
+abbrev pub tag : Outcome → ℕ
+tag o = Declared.tagOf the-type o
+
+abbrev pub OneOf : List ℕ → ℕ → Type 0
+OneOf ks k = types.Run.OneOf ks k
+
+-- the report of moves as the public answer
+by-moves : (t : Table) (o : Report) (k rows x : List ℕ) (y : State) (oc : Outcome) → (oc ≡ HandedOut → (rows ≡ padded x) × (length x ≡ t .gauges)) → nextOf t o k ≡ paused t y
+    → stepBy t o k rows oc ≡ byRules t (outcome oc x) (o .moves) y
+by-moves t o k rows x y HandedOut e w = let (a, n) = e refl in rw (a, w, take-padded x (t .gauges) (sym n))
+by-moves t o k rows x y Spent e w = rw w
+by-moves t o k rows x y End e w = rw w
+by-moves t o k rows x y (Refused why) e w = refl
+
+-- a call on the value v of a legal table, where the core worked on the array R, and left the chain c′ and the picks k′
+pub record Worked (side : Table → Side) (v : Value) (b n : ℕ) (R : List ℕ) (m : Mode) (c′ k′ : List ℕ) (o : Report) : Type 0 where
+  pub passed : tableRefusal (v .table) ≡ 0
+  pub works : Works (v .table) (side (v .table)) n R
+  pub mode-is : modePhase m ≡ v .phase
+  pub carried : CarriesOn (take n R) (v .picks) (v .count) (modePhase m) b c′ k′ o
+
+module _ (side : Table → Side) (v : Value) (b n : ℕ) (R : List ℕ) (m : Mode) (c′ k′ : List ℕ) (o : Report) (h : Worked side v b n R m c′ k′ o) where
   abbrev t : Table
   t = v .table
 
-  says : (x : Fate) → o .fate ≡ x → CarriedBy (side t .rows) (v .picks) (v .count) (v .phase) b c′ k′ o x
-  says x e =
-      subst (λ (y : Fate). CarriedBy (side t .rows) (v .picks) (v .count) (v .phase) b c′ k′ o y) e
-      (subst (λ (f : Phase). CarriedBy (side t .rows) (v .picks) (v .count) f b c′ k′ o (o .fate)) mode-is
-      (subst (λ (r : List ℕ). CarriedBy r (v .picks) (v .count) (modePhase m) b c′ k′ o (o .fate)) rows-are (h .says)))
+  carries : CarriesOn (side t .rows) (v .picks) (v .count) (v .phase) b c′ k′ o
+  carries =
+      subst (λ (f : Phase). CarriesOn (side t .rows) (v .picks) (v .count) f b c′ k′ o) (h .mode-is)
+      (subst (λ (r : List ℕ). CarriesOn r (v .picks) (v .count) (modePhase m) b c′ k′ o) (h .works .rows-are) (h .carried))
 
-  -- what the core came to, whichever it was, is the answer of the call
-  pub call-answer : (rows : List ℕ)
-      → ((y : State) → c′ ≡ padded (chainOf (side t .rows) (y .picks)) → (rows ≡ padded (handOut (side t) (y .picks))) × (length (handOut (side t) (y .picks)) ≡ t .gauges))
-      → (r : Step) → r ≡ carriedStep t o k′ rows → Called side v b r
-  call-answer rows chain r e = go (o .fate) refl
+  -- what the core reports, whichever it is, is the answer of the call
+  call-answer : (rows : List ℕ) → (o .outcome ≡ HandedOut → (p : List ℕ) → c′ ≡ padded (chainOf (side t .rows) p) → Ladder t (side t) p rows)
+      → (r : Step) → r ≡ stepBy t o k′ rows (o .outcome) → Called side v b r
+  call-answer rows chain r e = record {
+    table = λ l. absurd (omega (arith, h .passed));
+    value = λ z none. e ∙ ap (stepBy t o k′ rows) (carries .value (λ s l. none s (stands-paused side v s l)));
+    rules = λ z s p. by-rules s (paused-stands side v s p) (decLe b mostBudget);
+  }
     where
-      told-as : (x : Fate) → o .fate ≡ x → r ≡ carriedBy t x o k′ rows
-      told-as x d = e ∙ ap (λ (y : Fate). carriedBy t y o k′ rows) d
+      by-rules : (s : State) → StandsFor (side t .rows) (v .picks) (v .count) (v .phase) s → Dec (b ≤ mostBudget) → r ≡ told t (callOn (side t) b s)
+      by-rules s l (no y) =
+          e ∙ ap (stepBy t o k′ rows) (carries .large s l (omega arith)) ∙ sym (ap (told t) (call-above (candidates (side t .rows)) (handOut (side t)) b s (omega arith)))
+      by-rules s l (yes y) =
+          let w : Went (side t .rows) b s c′ k′ o = carries .moves s l y in
+          e
+          ∙ by-moves t o k′ rows (handOut (side t) (w .to .picks)) (w .to) (o .outcome) (λ d. let a = chain d (w .to .picks) (w .chained) in (a .rows-are, a .size))
+          (value-of (w .to) (w .stands))
+          ∙ sym (ap (told t) (call-within (candidates (side t .rows)) (handOut (side t)) b s y ∙ w .comes (handOut (side t))))
+        where
+          value-of : (y : State) → StandsFor (side t .rows) k′ (o .spot .count) (modePhase (o .spot .mode)) y → nextOf t o k′ ≡ paused t y
+          value-of y g = same (o .spot .count) (modePhase (o .spot .mode)) k′ (g .picked) (g .counted) (g .phased)
+            where
+              same : (c : ℕ) (f : Phase) (k : List ℕ) → k ≡ paused t y .picks → c ≡ paused t y .count → f ≡ paused t y .phase
+                  → record { table = t; picks = k; count = c; phase = f } ≡ paused t y
+              same c f k a d g = rw (a, d, g)
 
-      go : (x : Fate) → o .fate ≡ x → Called side v b r
-      go NotReached d = called-unreached side v b ok (says NotReached d) r (told-as NotReached d)
-      go TooLarge d = let w = says TooLarge d in called-large side v b ok (w .0) (w .1 .0) (w .1 .1) r (told-as TooLarge d)
-      go (Moves done) d =
-          let g = says (Moves done) d in
-          let k = chain (g .to) (g .chained) in
-          called-moves side v b ok (g .from) (g .legal) (g .budget) done (o .moves) (g .to) (g .comes) r
-          (told-as (Moves done) d ∙ by-moves t (side t) done (o .moves) (g .to) rows (record { table = t; picks = k′; count = o .count; phase = modePhase (o .mode) }) (k .0) (k .1)
-          (value-stands t (side t .rows) k′ (o .count) (modePhase (o .mode)) (g .to) (g .stands) (record { table = t; picks = k′; count = o .count; phase = modePhase (o .mode) }) refl))
+  -- ---- the answers
+  pub call-refused : (why : Refusal) → o .outcome ≡ Refused why → (r : Step) → r ≡ refusal (number why) → Called side v b r
+  call-refused why e r d = call-answer [] (λ x. let z : _≡_ {A = ℕ} 0 1 = cc in absurd (omega arith)) r (d ∙ sym (ap (stepBy t o k′ []) e))
 
--- ---- the answers of the thin functions
-module _ (t : Table) (o : Carried) (k rows : List ℕ) where
-  -- a call that the core did not take
-  pub answer-refused : (x : Fate) → o .fate ≡ x → (r : Step) → r ≡ carriedBy t x o k rows → r ≡ carriedStep t o k rows
-  answer-refused x e r d = d ∙ ap (λ (y : Fate). carriedBy t y o k rows) (sym e)
-
-  -- a call that made its moves: one answer for each way they came out
-  module _ (done : Done) (e : o .fate ≡ Moves done) (f : Phase) (ef : f ≡ modePhase (o .mode)) where
+  module _ (f : Phase) (ef : f ≡ modePhase (o .spot .mode)) where
     abbrev next : Value
-    next = record { table = t; picks = k; count = o .count; phase = f }
+    next = record { table = t; picks = k′; count = o .spot .count; phase = f }
 
-    pub answer-handed : done ≡ HandedOut
-        → record { answer = handed (chainRows (record { gauges = t .gauges; rows = rows })); moves = o .moves; chain = record { gauges = t .gauges; rows = rows }; next = next } ≡ carriedStep t o k rows
-    answer-handed d =
-        answer-refused (Moves done) e (record { answer = handed (chainRows (record { gauges = t .gauges; rows = rows })); moves = o .moves; chain = record { gauges = t .gauges; rows = rows }; next = next }) (rw (d, ef))
+    pub call-handed : (rows : List ℕ) → o .outcome ≡ HandedOut → ((p : List ℕ) → c′ ≡ padded (chainOf (side t .rows) p) → Ladder t (side t) p rows)
+        → Called side v b (record { answer = handed (take (t .gauges) rows); moves = o .moves; chain = record { gauges = t .gauges; rows = rows }; next = next })
+    call-handed rows e chain =
+        call-answer rows (λ x. chain) (record { answer = handed (take (t .gauges) rows); moves = o .moves; chain = record { gauges = t .gauges; rows = rows }; next = next })
+        (rw ef (sym (ap (stepBy t o k′ rows) e)))
 
-    pub answer-spent : (c : Chain) → c ≡ blankChain → done ≡ Spent → record { answer = spent; moves = o .moves; chain = c; next = next } ≡ carriedStep t o k rows
-    answer-spent c ec d = answer-refused (Moves done) e (record { answer = spent; moves = o .moves; chain = c; next = next }) (rw (ec, d, ef))
+    pub call-other : (c : Chain) → c ≡ blankChain → OneOf (0 ∷ 1 ∷ 2 ∷ []) (tag (o .outcome)) → OneOf (1 ∷ 2 ∷ 3 ∷ []) (tag (o .outcome))
+        → Called side v b (record { answer = outcome (o .outcome) (chainRows c); moves = o .moves; chain = c; next = next })
+    call-other c ec moved other =
+        call-answer [] (λ e. absurd (not-handed (subst (λ (x : Outcome). OneOf (1 ∷ 2 ∷ 3 ∷ []) (tag x)) e other)))
+        (record { answer = outcome (o .outcome) (chainRows c); moves = o .moves; chain = c; next = next }) (as-step (o .outcome) moved other)
+      where
+        not-handed : OneOf (1 ∷ 2 ∷ 3 ∷ []) (tag HandedOut) → ⊥
+        not-handed k = ⊎-elim (λ i. omega arith) (λ j. ⊎-elim (λ i. omega arith) (λ i. omega arith) j) k
 
-    pub answer-end : (c : Chain) → c ≡ blankChain → done ≡ End → record { answer = end; moves = o .moves; chain = c; next = next } ≡ carriedStep t o k rows
-    answer-end c ec d = answer-refused (Moves done) e (record { answer = end; moves = o .moves; chain = c; next = next }) (rw (ec, d, ef))
+        as-step : (oc : Outcome) → OneOf (0 ∷ 1 ∷ 2 ∷ []) (tag oc) → OneOf (1 ∷ 2 ∷ 3 ∷ []) (tag oc)
+            → _≡_ {A = Step} (record { answer = outcome oc (chainRows c); moves = o .moves; chain = c; next = next }) (stepBy t o k′ [] oc)
+        as-step HandedOut a d = absurd (not-handed d)
+        as-step Spent a d = rw (ec, ef)
+        as-step End a d = rw (ec, ef)
+        as-step (Refused why) a d = ⊎-elim (λ i. absurd (omega arith)) (λ j. ⊎-elim (λ i. absurd (omega arith)) (λ i. absurd (omega arith)) j) a
+
+-- an answer that is what `Called` says carries demand 3 on
+pub promise : (side : Table → Side) (v : Value) (b : ℕ) (r : Step) → (tableRefusal (v .table) ≡ 0 → Legal (v .table) × Fair (v .table) (side (v .table))) → Called side v b r
+    → Called side v b r × CarriesDemand side v b r
+promise side v b r f h = (h, carries-demand side v b r f h)

@@ -1,13 +1,15 @@
--- The two sides of a legal table as the core has them: the gauge side's rows are the table's own, the case side's those of the table
--- with its sides exchanged, whose chains go back to gauge rows; and the answer of the core's moves as the public answer.
-use mathlib.Core.Path.{_≡_, sym, ap, _∙_, subst}
+-- The two sides of a legal table as the core has them (`Works`): the gauge side's rows are the table's own, the case side's those of the
+-- table with its sides exchanged; and the chain of the picks by gauge rows, as each side shows it (`gauge-chain`, `case-chain`).
+use mathlib.Core.Path.{_≡_, refl, sym, ap, ap₂, _∙_}
 use mathlib.Core.List.{List}
-use Prim.Native.Nat.{ℕ, _-_, _^_, _≤_, _<_}
+use Prim.Native.Nat.{ℕ, _-_, _^_, _≤_, _<_, min}
 use native.Mathlib.Decide.{decLt}
 use native.Mathlib.Omega.{arith}
 use lib.Dec.{not-T}
 use lib.ListN.{length, getD, take}
+use lib.Seq.{getD-take}
 use lib.Pow.{pow-mono}
+use native.Mathlib.Nat.{min-eq-left}
 use borrow.Author.Tests.{lt-ltb}
 use Rattle.table.proofs.Padding.{pad-getD, pad-ext}
 use Rattle.sets.specs.Sets.{bit, lowest}
@@ -30,13 +32,13 @@ use Rattle.lists.specs.OnTable.{chainOf, handOut}
 use Rattle.lists.proofs.ChainRows.{length-chainOf, chainOf-within}
 use Rattle.runs.specs.Paused.{Value, paused}
 use Rattle.runs.specs.Calling.{outcome, byRules}
-use Rattle.runs.specs.private.Working.{Sized, doneAnswer, doneOutcome, doneChain, StandsFor}
-use Rattle.runs.specs.declared.engine.Done.{Done}
-use Rattle.runs.specs.declared.engine.Done.the-variants.{HandedOut, Spent, End}
+use Rattle.turn.specs.Places.{places}
+use Rattle.turn.proofs.Columns.{places-padded}
+use Rattle.runs.specs.private.Working.{Sized}
 use Rattle.runs.proofs.Padding.{take-padded}
 
 -- a legal table's rows are sized
-pub legal-sized : (t : Table) → Legal t → Sized (t .gauges) (t .rows)
+legal-sized : (t : Table) → Legal t → Sized (t .gauges) (t .rows)
 legal-sized t l = record {
   few = l .gauges-high;
   size = l .rows-length;
@@ -48,7 +50,7 @@ legal-sized t l = record {
 padded-column : (x : List ℕ) (k : ℕ) → column (padded x) k ≡ column x k
 padded-column x k = eq-of-bits (column (padded x) k) (column x k) (λ i. bit-column (padded x) k i ∙ ap (λ (r : ℕ). bit r k) (pad-getD x i) ∙ sym (bit-column x k i))
 
-pub transpose-padded : (g : ℕ) (x : List ℕ) → g ≤ 64 → Cases g x → transpose 64 (padded x) ≡ padded (transpose g x)
+transpose-padded : (g : ℕ) (x : List ℕ) → g ≤ 64 → Cases g x → transpose 64 (padded x) ≡ padded (transpose g x)
 unfolding transpose
 transpose-padded g x h cs =
     pad-ext (transpose 64 (padded x)) (transpose g x) (length-transpose 64 (padded x)) (omega (arith, length-transpose g x)) (λ k. go k (decLt k 64) (decLt k g))
@@ -62,43 +64,48 @@ transpose-padded g x h cs =
     go k (no a) (yes b) = absurd (omega arith)
     go k (no a) (no b) = row-past (transpose 64 (padded x)) k (omega (arith, length-transpose 64 (padded x))) ∙ sym (row-past (transpose g x) k (omega (arith, length-transpose g x)))
 
--- ---- what the core's moves answer
--- k moves that came out as `done` at the state y, with the chain's rows and a value that stands for y
-pub by-moves : (t : Table) (side : Side) (done : Done) (k : ℕ) (y : State) (rows : List ℕ) (v : Value)
-    → rows ≡ padded (handOut side (y .picks)) → length (handOut side (y .picks)) ≡ t .gauges → v ≡ paused t y
-    → record { answer = outcome (doneOutcome done) (take (doneChain (t .gauges) done rows .gauges) (doneChain (t .gauges) done rows .rows)); moves = k; chain = doneChain (t .gauges) done rows; next = v }
-    ≡ byRules t (doneAnswer (handOut side) done y) k y
-by-moves t side HandedOut k y rows v e n w = rw (e, w, take-padded (handOut side (y .picks)) (t .gauges) (sym n))
-by-moves t side Spent k y rows v e n w = rw w
-by-moves t side End k y rows v e n w = rw w
+-- ---- a side as the core has it: the first n of the rows in the array R
+pub record Works (t : Table) (s : Side) (n : ℕ) (R : List ℕ) : Type 0 where
+  pub sized : Sized n R
+  pub rows-are : take n R ≡ s .rows
 
--- the value that the core leaves
-pub value-stands : (t : Table) (r k : List ℕ) (count : ℕ) (f : Phase) (y : State) → StandsFor r k count f y → (v : Value) → v ≡ record { table = t; picks = k; count = count; phase = f } → v ≡ paused t y
-value-stands t r k count f y h v e = e ∙ rw (h .picked, h .counted, h .phased)
+-- the ladder of the picks p stands in the array `rows` by gauge rows
+pub record Ladder (t : Table) (s : Side) (p rows : List ℕ) : Type 0 where
+  pub rows-are : rows ≡ padded (handOut s p)
+  pub size : length (handOut s p) ≡ t .gauges
 
--- ---- the gauge side
 module _ (t : Table) (l : Legal t) where
-  pub gauge-chain : (y : State) (rows : List ℕ) → rows ≡ padded (chainOf (tableRows t) (y .picks)) → (rows ≡ padded (handOut (gaugeSide t) (y .picks))) × (length (handOut (gaugeSide t) (y .picks)) ≡ t .gauges)
-  gauge-chain y rows e = (e, length-chainOf (tableRows t) (y .picks) ∙ length-rows t l)
+  -- ---- the gauge side
+  pub gauge-works : Works t (gaugeSide t) (t .gauges) (t .rows)
+  gauge-works = record { sized = legal-sized t l; rows-are = refl }
+
+  pub gauge-chain : (p rows : List ℕ) → rows ≡ padded (chainOf (tableRows t) p) → Ladder t (gaugeSide t) p rows
+  gauge-chain p rows e = record { rows-are = e; size = length-chainOf (tableRows t) p ∙ length-rows t l }
 
   -- ---- the case side
-  pub case-sized : Sized (t .cases) (transpose 64 (t .rows))
-  case-sized = legal-sized (transposeTable t) (exchanged-legal t l)
-
-  pub case-rows : take (t .cases) (transpose 64 (t .rows)) ≡ caseSide t .rows
-  case-rows = rows-exchanged t l
-
-  pub case-chain : (y : State) (rows : List ℕ) → rows ≡ padded (chainOf (caseSide t .rows) (y .picks))
-      → (transpose 64 rows ≡ padded (handOut (caseSide t) (y .picks))) × (length (handOut (caseSide t) (y .picks)) ≡ t .gauges)
-  case-chain y rows e = (
-    ap (transpose 64) e ∙ transpose-padded (t .gauges) (chainOf (caseSide t .rows) (y .picks)) (l .gauges-high) inside,
-    length-transpose (t .gauges) (chainOf (caseSide t .rows) (y .picks)),
-  )
+  table-padded : t .rows ≡ padded (tableRows t)
+  table-padded = pad-ext (t .rows) (tableRows t) (l .rows-length) (omega (arith, length-rows t l, l .gauges-high)) (λ i. go i (decLt i (t .gauges)))
     where
-      inside : Cases (t .gauges) (chainOf (caseSide t .rows) (y .picks))
-      inside = cases-within (t .gauges) (caseSide t .rows) (chainOf (caseSide t .rows) (y .picks)) (subst (λ (n : ℕ). Cases n (caseSide t .rows)) (length-rows t l) (cases-transpose (t .cases) (tableRows t) (legal-cases t l))) (chainOf-within (caseSide t .rows) (y .picks))
+      go : (i : ℕ) → Dec (i < t .gauges) → getD (t .rows) i 0 ≡ getD (tableRows t) i 0
+      go i (yes y) = sym (getD-take (t .gauges) (t .rows) i 0 y)
+      go i (no y) = l .rows-rest i (omega arith) ∙ sym (row-past (tableRows t) i (omega (arith, length-rows t l)))
 
--- the case side's rows by gauge, as the code turned them
-pub turned : (t : Table) (y : State) (rows back : List ℕ) → (transpose 64 rows ≡ padded (handOut (caseSide t) (y .picks))) × (length (handOut (caseSide t) (y .picks)) ≡ t .gauges) → back ≡ transpose 64 rows
-    → (back ≡ padded (handOut (caseSide t) (y .picks))) × (length (handOut (caseSide t) (y .picks)) ≡ t .gauges)
-turned t y rows back h e = (e ∙ h .0, h .1)
+  pub case-works : (R : List ℕ) → R ≡ padded (transpose (min (t .cases) 64) (places (t .gauges) (t .rows))) → Works t (caseSide t) (t .cases) R
+  case-works R e = rw exchanged (record { sized = legal-sized (transposeTable t) (exchanged-legal t l); rows-are = rows-exchanged t l })
+    where
+      exchanged : R ≡ transpose 64 (t .rows)
+      exchanged =
+          e
+          ∙ ap₂ (λ (w : ℕ) (x : List ℕ). padded (transpose w x)) (min-eq-left (l .cases-high))
+          (ap (places (t .gauges)) table-padded ∙ places-padded (t .gauges) (tableRows t) (l .gauges-high) (length-rows t l))
+          ∙ sym (ap (transpose 64) table-padded ∙ transpose-padded (t .cases) (tableRows t) (l .cases-high) (legal-cases t l))
+
+  pub case-chain : (p chain rows : List ℕ) → chain ≡ padded (chainOf (caseSide t .rows) p) → rows ≡ padded (transpose (min (t .gauges) 64) (places (t .cases) chain))
+      → Ladder t (caseSide t) p rows
+  case-chain p chain rows e d = record {
+    rows-are =
+        d
+        ∙ ap₂ (λ (w : ℕ) (x : List ℕ). padded (transpose w x)) (min-eq-left (l .gauges-high))
+        (ap (places (t .cases)) e ∙ places-padded (t .cases) (chainOf (caseSide t .rows) p) (l .cases-high) (length-chainOf (caseSide t .rows) p ∙ length-transpose (t .cases) (tableRows t)));
+    size = length-transpose (t .gauges) (chainOf (caseSide t .rows) p);
+  }

@@ -127,7 +127,7 @@ module _ (n : ℕ) (rows c k : List ℕ) (s : Spot) (z : Sized n rows) (h : Hold
               let i : j ≡ length q = omega (arith, last-count r u c k (side-rows n rows z) s x h q g e valid) in
               rw i (number-back r u c k (side-rows n rows z) s x h q g e valid)
 
-      pub back-on : (v′ left : ℕ) → (g′ < 64 → With (s .unpicked) g′ v′) → left ≡ leftAfter (set c g′ 0) (set k j 0) j
+      pub back-on : (v′ left : ℕ) → With (s .unpicked) g′ v′ → left ≡ leftAfter (set c g′ 0) (set k j 0) j
           → Stepped n rows (set c g′ 0) (set k j 0) (takeBack (cutLast (x .picks))) (On (record { count = j; unpicked = v′; left = left; mode = modeBack number }))
       back-on v′ left ev el = go last
         where
@@ -140,7 +140,7 @@ module _ (n : ℕ) (rows c k : List ℕ) (s : Spot) (z : Sized n rows) (h : Hold
               let w : getD rows g′ 0 ≡ row r g = ap (λ (y : ℕ). getD rows y 0) a ∙ sym (getD-take n rows g 0 b) in
               let d : left ≡ common r q full = el ∙ ap₂ (λ (y b : ℕ). leftAfter (set c y 0) (set k b 0) b) a i ∙ left-back r u c k (side-rows n rows z) s x h q g e valid in
               let f : g′ < 64 = omega (arith, z .few) in
-              let eu : within v′ rows ≡ set u g′ (getD rows g′ 0) = within-with (s .unpicked) g′ v′ rows f (ev f) in
+              let eu : within v′ rows ≡ set u g′ (getD rows g′ 0) = within-with (s .unpicked) g′ v′ rows f (ev .inside f) in
               stepped-on n rows (set c g′ 0) (set k j 0) (takeBack (cutLast (x .picks))) (record { count = j; unpicked = v′; left = left; mode = modeBack number }) (at q (Back g))
               (rw (eu, w, a, i, m) (holds-back r u c k (side-rows n rows z) s x h q g e valid v′ left d))
               (ap (λ (p : List ℕ). takeBack (cutLast p)) e ∙ ap takeBack (cut-snoc q g))

@@ -17,8 +17,8 @@ use Rattle.lists.specs.Demand.{Demand, OneSet}
 use Rattle.runs.specs.Paused.{Value, paused, blankValue, gaugeValue, caseValue}
 use Rattle.runs.specs.declared.Outcome.{Outcome}
 use Rattle.runs.specs.declared.Outcome.the-variants.{HandedOut, Spent, End, Refused}
-use Rattle.runs.specs.declared.GaugeStep.{GaugeStep}
-use Rattle.runs.specs.declared.CaseStep.{CaseStep}
+use Rattle.runs.specs.declared.gauges.GaugeStep.{GaugeStep}
+use Rattle.runs.specs.declared.cases.CaseStep.{CaseStep}
 
 -- the answer of a call: 01's answer, the moves, the chain by gauge rows, and the next paused value
 pub record Step : Type 0 where

@@ -8,14 +8,14 @@ use Rattle.table.specs.Tables.{noRows, padded, blankTable}
 use Rattle.refusals.specs.Answers.{Answer, verdict}
 use Rattle.table.specs.declared.Table.{Table}
 use Rattle.rules.specs.Machine.{Phase, Down, Handed, Back, Ended, State}
-use Rattle.runs.specs.declared.Phase.the-variants.{Down as gaugeDown, Handed as gaugeHanded, Back as gaugeBack, Ended as gaugeEnded}
-use Rattle.runs.specs.declared.Phase.{Phase as GaugePhase}
-use Rattle.runs.specs.declared.CasePhase.the-variants.{Down as caseDown, Handed as caseHanded, Back as caseBack, Ended as caseEnded}
-use Rattle.runs.specs.declared.CasePhase.{CasePhase}
-use Rattle.runs.specs.declared.GaugeRun.{GaugeRun}
-use Rattle.runs.specs.declared.CaseRun.{CaseRun}
-use Rattle.runs.specs.declared.GaugeStart.{GaugeStart}
-use Rattle.runs.specs.declared.CaseStart.{CaseStart}
+use Rattle.runs.specs.declared.gauges.Phase.the-variants.{Down as gaugeDown, Handed as gaugeHanded, Back as gaugeBack, Ended as gaugeEnded}
+use Rattle.runs.specs.declared.gauges.Phase.{Phase as GaugePhase}
+use Rattle.runs.specs.declared.cases.CasePhase.the-variants.{Down as caseDown, Handed as caseHanded, Back as caseBack, Ended as caseEnded}
+use Rattle.runs.specs.declared.cases.CasePhase.{CasePhase}
+use Rattle.runs.specs.declared.gauges.GaugeRun.{GaugeRun}
+use Rattle.runs.specs.declared.cases.CaseRun.{CaseRun}
+use Rattle.runs.specs.declared.gauges.GaugeStart.{GaugeStart}
+use Rattle.runs.specs.declared.cases.CaseStart.{CaseStart}
 
 -- a paused value of either side
 pub record Value : Type 0 where
@@ -53,10 +53,10 @@ casePhase (caseBack c) = Back (c .0)
 casePhase caseEnded = Ended
 
 abbrev pub gaugeValue : GaugeRun → Value
-gaugeValue r = record { table = r .table; picks = r .picks; count = r .count; phase = gaugePhase (r .phase) }
+gaugeValue r = record { table = r .table; picks = r .picks .0; count = r .count; phase = gaugePhase (r .phase) }
 
 abbrev pub caseValue : CaseRun → Value
-caseValue r = record { table = r .table; picks = r .picks; count = r .count; phase = casePhase (r .phase) }
+caseValue r = record { table = r .table; picks = r .picks .0; count = r .count; phase = casePhase (r .phase) }
 
 -- how the fresh starts read: 01's number, 0 where nothing is refused, and the value
 abbrev pub gaugeStarted : GaugeStart → Answer Value

@@ -1,25 +1,30 @@
 // The core of both runs, on plain numbers: `rows` are the side's rows, of which the first `n` are the table's. A spot is a state of rules 1
 // to 5 with the set of the unpicked gauges; two arrays go along with it: the chain of the picks, which is also where the left cases are
-// found again when a pick is taken back, and the picks by number.
+// found again when a pick is taken back, and the picks by number. A side's call is `call`.
+use crate::Outcome;
+use refusals::Refusal;
 use replay;
 use search;
 use sets;
+use table::Chain;
+use table::Table;
 ghost use mathlib.Core.Path.{_≡_};
-ghost use Prim.Native.Nat.{_+_, _-_, _≤_, _<_};
+ghost use Prim.Native.Nat.{_+_, _<_};
 ghost use lib.ListN.{length, take, set, getD};
 ghost use lib.Bits.{bitAnd};
-ghost use Rattle.table.specs.Tables.{noRows};
+ghost use Rattle.table.specs.Tables.{noRows, padded, blankTable, blankChain};
 ghost use Rattle.rules.specs.Machine.{move as moved, takeBack, cutLast};
 ghost use Rattle.lists.specs.Picks.{candidates as candidatesOf};
+ghost use Rattle.lists.specs.OnTable.{chainOf};
 ghost use Rattle.search.specs.Finding.{within};
 ghost use Rattle.sets.specs.First.{Without};
-ghost use Rattle.runs.specs.private.Working.{Sized, Holds, stateOf, modePhase, spotDown, Stepped, TakesBack, NumberAt, leftAfter, Advanced, Decides, RestZero, PhaseIn, CarriesOn, reportOf, carriedOf};
+ghost use Rattle.runs.specs.private.Working.{Sized, Holds, Laying, stateOf, placesOf, modePhase, spotDown, Stepped, TakesBack, NumberAt, leftAfter, Advanced, Decides, filled as filledPlaces, PhaseIn, CarriesOn, refusedReport};
 
 // "A run call has a budget from 0 to 1,000,000 moves" (01).
 const MOST_BUDGET: u64 = 1_000_000;
 
 // The places that there can be.
-const PLACES: usize = 64;
+const PLACES: usize = Table::MOST_GAUGES as usize;
 
 // All 64 cases: the left cases before any pick.
 const ALL: u64 = 0xffff_ffff_ffff_ffff;
@@ -47,38 +52,16 @@ pub enum Moved {
     Over(Spot),
 }
 
-// How a call's moves came out.
-pub enum Done {
-    HandedOut,
-    Spent,
-    End,
-}
-
-// The moves of a call: how they came out, how many, and where the run is then.
+// What a call comes to: its outcome, how many moves it made, and where the run is then.
 pub struct Report {
-    pub done: Done,
+    pub outcome: Outcome,
     pub moves: u64,
     pub spot: Spot,
 }
 
-// What a call on a value comes to: 01's 15, 18, or its moves.
-pub enum Fate {
-    NotReached,
-    TooLarge,
-    Moves(Done),
-}
-
-// A call's outcome, with its moves and the numbers of the value it leaves.
-pub struct Carried {
-    pub fate: Fate,
-    pub moves: u64,
-    pub count: u64,
-    pub mode: Mode,
-}
-
 // A call on the value of the first `count` picks and a mode, with a budget: 15 and 18 as 01 has them, else up to `budget` moves. `chain`
-// comes empty; a hand-out leaves its chain there.
-pub fn carry_on(
+// comes empty, and has the chain of the picks after the moves; `picks` are then those of the next value.
+pub fn call(
     rows: &[u64; 64],
     n: usize,
     chain: &mut [u64; 64],
@@ -86,78 +69,87 @@ pub fn carry_on(
     count: u64,
     mode: Mode,
     budget: u64,
-) -> Carried
+) -> Report
     requires { ⌜ (Sized n (now rows)) × (now chain ≡ noRows) × (length (now picks) ≡ 64) ⌝ }
     ensures { λ r. ⌜ CarriesOn (take n (now (rows .entry))) (now (picks .entry)) count (modePhase mode) budget (now (chain .exit)) (now (picks .exit)) r ⌝ }
 {
-    if 64 < count {
-        return failed(Fate::NotReached);
+    if filled(picks) != count {
+        return refused(Refusal::NotReached);
     }
     let many = count as usize;
-    if !rest_zero(picks, many) {
-        return failed(Fate::NotReached);
-    }
-    let seen = replay::replay(rows, n, chain, picks, many);
+    let seen = replay::replay(rows, n, picks, many);
     if !seen.ok {
-        return failed(Fate::NotReached);
+        return refused(Refusal::NotReached);
     }
     let unpicked = seen.unpicked;
     let left = seen.left;
     if !phase_fits(rows, unpicked, left, many, mode) {
-        return failed(Fate::NotReached);
+        return refused(Refusal::NotReached);
     }
     if MOST_BUDGET < budget {
-        return failed(Fate::TooLarge);
+        return refused(Refusal::BudgetTooLarge);
     }
+    lay(rows, n, chain, picks, many);
     let at = Spot {
         count: many,
         unpicked: unpicked,
         left: left,
         mode: mode,
     };
-    let report = advance(rows, n, chain, picks, at, budget);
-    moved_on(report)
+    advance(rows, n, chain, picks, at, budget)
 }
 
-// The outcome of a call that made its moves.
-fn moved_on(report: Report) -> Carried
-    ensures { λ r. ⌜ r ≡ carriedOf report ⌝ }
+// What stands beside a refusal.
+pub fn blank_table() -> Table
+    ensures { λ r. ⌜ r ≡ blankTable ⌝ }
 {
-    let done = report.done;
-    let spot = report.spot;
-    let mode = spot.mode;
-    Carried {
-        fate: Fate::Moves(done),
-        moves: report.moves,
-        count: spot.count as u64,
-        mode: mode,
+    Table {
+        gauges: 0,
+        cases: 0,
+        rows: [0u64; 64],
+    }
+}
+
+pub fn blank_chain() -> Chain
+    ensures { λ r. ⌜ r ≡ blankChain ⌝ }
+{
+    Chain {
+        gauges: 0,
+        rows: [0u64; 64],
     }
 }
 
 // A call that makes no move.
-fn failed(fate: Fate) -> Carried
-    ensures { λ r. ⌜ r .fate ≡ fate ⌝ }
+fn refused(why: Refusal) -> Report
+    ensures { λ r. ⌜ r ≡ refusedReport why ⌝ }
 {
-    Carried {
-        fate: fate,
+    Report {
+        outcome: Outcome::Refused(why),
         moves: 0,
-        count: 0,
-        mode: Mode::Down,
+        spot: Spot {
+            count: 0,
+            unpicked: 0,
+            left: 0,
+            mode: Mode::Down,
+        },
     }
 }
 
-// The picks from `from` on are zeros.
-fn rest_zero(picks: &[u8; 64], from: usize) -> bool
-    ensures { λ r. ⌜ Decides (RestZero (now (picks .entry)) from) r ⌝ }
+// How many of the 64 places are not zero. With as many picks in front, the places behind them are zeros.
+fn filled(picks: &[u8; 64]) -> u64
+    ensures { λ r. ⌜ r ≡ filledPlaces (now (picks .entry)) 64 ⌝ }
 {
-    let mut i = from;
+    let mut seen: u8 = 0;
+    let mut i: usize = 0;
     while i < 64 {
         if picks[i] != 0 {
-            return false;
+            seen += 1;
+            i += 1;
+        } else {
+            i += 1;
         }
-        i += 1;
     }
-    true
+    seen as u64
 }
 
 // The phase goes with the picks: Handed without a candidate, Back from a candidate, Ended without picks.
@@ -175,6 +167,28 @@ fn phase_fits(rows: &[u64; 64], unpicked: u64, left: u64, count: usize, mode: Mo
         }
         Mode::Ended => count == 0,
     }
+}
+
+// Lays the chain of the first `count` picks.
+fn lay(rows: &[u64; 64], n: usize, chain: &mut [u64; 64], picks: &[u8; 64], count: usize)
+    requires { ⌜ (Sized n (now rows)) × (Laying n (now rows) (now chain) (now picks) count) ⌝ }
+    ensures { λ r. ⌜ now (chain .exit) ≡ padded (chainOf (take n (now (rows .entry))) (placesOf (now (picks .entry)) count)) ⌝ }
+{
+    let mut left = ALL;
+    let mut i: usize = 0;
+    while i < count {
+        let g = wide(picks[i]) - 1;
+        left = rows[g] & left;
+        chain[g] = left;
+        i += 1;
+    }
+}
+
+// A pick's number as an index.
+fn wide(number: u8) -> usize
+    ensures { λ r. ⌜ r ≡ number ⌝ }
+{
+    number as usize
 }
 
 // Up to `budget` moves: it stops after the first hand-out or end.
@@ -199,21 +213,23 @@ fn advance(
                 moves += 1;
             }
             Moved::Out(next) => {
-                return reported(Done::HandedOut, moves + 1, next);
+                return Report {
+                    outcome: Outcome::HandedOut,
+                    moves: moves + 1,
+                    spot: next,
+                };
             }
             Moved::Over(next) => {
-                return reported(Done::End, moves + 1, next);
+                return Report {
+                    outcome: Outcome::End,
+                    moves: moves + 1,
+                    spot: next,
+                };
             }
         }
     }
-    reported(Done::Spent, moves, spot)
-}
-
-fn reported(done: Done, moves: u64, spot: Spot) -> Report
-    ensures { λ r. ⌜ r ≡ reportOf done moves spot ⌝ }
-{
     Report {
-        done: done,
+        outcome: Outcome::Spent,
         moves: moves,
         spot: spot,
     }

@@ -14,7 +14,7 @@ use lib.Seq.{ext-getD, getD-set-same, getD-set-other}
 use borrow.Author.Tests.{eq-eqb, ne-eqb, le-leb, lt-leb, leb-true}
 use Rattle.sets.specs.Sets.{bit, meet, isSubset}
 use Rattle.sets.specs.Lists.{tabulate, allBelow}
-use Rattle.sets.specs.First.{Lowest, Rest, Without, With, Upper}
+use Rattle.sets.specs.First.{Lowest, Rest, Without, Added, Upper}
 use Rattle.sets.proofs.Tabulated.{length-tabulate, getD-tabulate, all-of}
 use Rattle.sets.proofs.Tests.{is-true}
 use Rattle.sets.proofs.Masks.{bit-past}
@@ -68,7 +68,7 @@ within-without s g r rows l w =
         row-within r rows i h ∙ ap (λ (b : Bool). cond b (row rows i) 0) (w .bits i ∙ ap (λ (b : Bool). bit s i && not b) (ne-eqb i g e) ∙ and-true (bit s i))
         ∙ sym (row-within s rows i h) ∙ sym (getD-set-other (within s rows) g i 0 0 e)
 
-pub within-with : (s g r : ℕ) (rows : List ℕ) → g < 64 → With s g r → within r rows ≡ set (within s rows) g (row rows g)
+pub within-with : (s g r : ℕ) (rows : List ℕ) → g < 64 → Added s g r → within r rows ≡ set (within s rows) g (row rows g)
 within-with s g r rows l w =
     ext-getD 0 (within r rows) (set (within s rows) g (row rows g)) (length-within r rows ∙ sym (length-set (within s rows) g (row rows g) ∙ length-within s rows)) (λ i h. go i (omega (arith, length-within r rows)) (ℕ-discrete i g))
   where

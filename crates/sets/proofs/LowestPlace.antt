@@ -9,9 +9,9 @@ use native.Mathlib.Omega.{arith}
 use lib.Dec.{eqb}
 use lib.Bits.{and-le-r}
 use borrow.Author.Tests.{eq-eqb, ne-eqb}
-use lib.Count.{trailingZeros, under}
+use lib.Count.{trailingZeros, trailing-of-zero, under}
 use Rattle.sets.specs.Sets.{bit, meet}
-use Rattle.sets.specs.First.{Lowest as LowestIn, Rest}
+use Rattle.sets.specs.First.{Lowest as LowestIn, First, Rest}
 use Rattle.sets.proofs.Digits.{lt2, meet-half, meet-low, bit-zero, bit-suc, digit}
 use Rattle.sets.proofs.Order.{sub-refl}
 
@@ -77,12 +77,16 @@ bit-rest (suc d) a l ne k = go (digit (a % 2) (lt2 a)) (bit-rest d (a / 2) (half
         let h : (a - 1) / 2 ≡ a / 2 = omega arith in
         rw (bit-suc (meet a (a - 1)) k, meet-half a (a - 1), h, bit-suc a k, e) (ap (λ (x : ℕ). bit x k) (sub-refl (a / 2)) ∙ and-true (bit (a / 2) k) ∙ ap (λ (x : Bool). bit (a / 2) k && not x) (sym (ne-eqb (suc k) 0 (λ z. omega arith))))
 
-pub first-lowest : (a : ℕ) → a < 2 ^ 64 → ¬ (a ≡ 0) → LowestIn a (trailingZeros 64 a)
-first-lowest a l ne = let (y, z) = trailing-lowest 64 a l ne in record { below = y; here = z .here; none = z .none }
+pub first-of : (a : ℕ) → a < 2 ^ 64 → First a (trailingZeros 64 a)
+first-of a l = record {
+  counted = refl;
+  some = λ ne. let (y, z) = trailing-lowest 64 a l ne in record { below = y; here = z .here; none = z .none };
+  none = λ e. ap (trailingZeros 64) e ∙ trailing-of-zero 64;
+}
 
 pub rest-of : (a : ℕ) → a < 2 ^ 64 → ¬ (a ≡ 0) → Rest a (meet a (a - 1))
 unfolding meet
-rest-of a l ne = record { fewer = less (decLt 0 a); bits = bit-rest 64 a l ne }
+rest-of a l ne = record { bits = bit-rest 64 a l ne; fewer = λ d. less (decLt 0 a) }
   where
     less : Dec (0 < a) → meet a (a - 1) < a
     less (yes y) = omega (arith, and-le-r a (a - 1))

@@ -7,13 +7,15 @@ use native.Mathlib.Nat.{pow-suc, div-one, mul-one, mul-assoc, mul-comm, div-mul-
 use native.Mathlib.Decide.{ℕ-discrete, decLt}
 use native.Mathlib.Omega.{arith}
 use lib.Dec.{eqb, leb, ltb}
+use lib.Count.{trailingZeros}
 use lib.Pow.{shr-shr, shl-exact, pow-pos}
 use borrow.Author.Tests.{eq-eqb, ne-eqb, eqb-true, le-leb, lt-leb, lt-ltb, le-ltb}
 use Rattle.sets.specs.Sets.{bit, join, lowest}
-use Rattle.sets.specs.First.{Without, With, Upper}
+use Rattle.sets.specs.First.{Lowest, First, Rest, Without, Added, With, Upper}
 use Rattle.sets.proofs.Digits.{bit-zero, bit-suc}
 use Rattle.sets.proofs.Masks.{bit-past}
 use Rattle.sets.proofs.Joins.{bit-join}
+use Rattle.sets.proofs.Order.{eq-of-bits}
 use Rattle.sets.proofs.LowestPlace.{eqb-suc}
 
 pub none-in : (k : ℕ) → bit 0 k ≡ false
@@ -30,8 +32,21 @@ bit-power (suc k) (suc i) =
     let e : 2 ^ suc k / 2 ≡ 2 ^ k = omega (arith, pow-suc 2 k) in
     bit-suc (2 ^ suc k) i ∙ ap (λ (x : ℕ). bit x i) e ∙ bit-power k i ∙ sym (eqb-suc i k)
 
-pub with-of : (a k : ℕ) → With a k (join a (2 ^ k))
-with-of a k = record { bits = λ i. bit-join a (2 ^ k) i ∙ ap (λ (x : Bool). bit a i || x) (bit-power k i) }
+pub with-of : (a k : ℕ) → k < 64 → With a k (join a (2 ^ k))
+with-of a k l = record {
+  inside = λ d. record { bits = λ i. bit-join a (2 ^ k) i ∙ ap (λ (x : Bool). bit a i || x) (bit-power k i) };
+  past = λ h. absurd (omega arith);
+}
+
+pub with-past : (a k : ℕ) → 64 ≤ k → With a k a
+with-past a k l = record { inside = λ h. absurd (omega arith); past = λ h. refl }
+
+-- the empty set has no lowest place to lose
+pub rest-none : (a : ℕ) → a ≡ 0 → Rest a 0
+rest-none a e = record {
+  bits = λ k. none-in k ∙ sym (ap (λ (x : ℕ). bit x k && not (eqb k (trailingZeros 64 a))) e ∙ ap (λ (x : Bool). x && not (eqb k (trailingZeros 64 a))) (none-in k));
+  fewer = λ ne. absurd (ne e);
+}
 
 -- a place that is in the set: the set is that large, and taking it out changes no other digit
 pub large : (a k : ℕ) → bit a k ≡ true → 2 ^ k ≤ a
@@ -160,3 +175,23 @@ bit-ones (suc m) (suc i) =
 pub bit-lowest : (n i : ℕ) → bit (lowest n) i ≡ ltb i (min n 64)
 unfolding lowest
 bit-lowest n i = bit-ones (min n 64) i
+
+-- ---- each leaves one answer
+pub first-unique : (a r q : ℕ) → First a r → First a q → r ≡ q
+first-unique a r q f g = f .counted ∙ sym (g .counted)
+
+pub rest-unique : (a r q : ℕ) → Rest a r → Rest a q → r ≡ q
+rest-unique a r q f g = eq-of-bits r q (λ k. f .bits k ∙ sym (g .bits k))
+
+pub without-unique : (a k r q : ℕ) → Without a k r → Without a k q → r ≡ q
+without-unique a k r q f g = eq-of-bits r q (λ i. f .bits i ∙ sym (g .bits i))
+
+pub with-unique : (a k r q : ℕ) → With a k r → With a k q → r ≡ q
+with-unique a k r q f g = go (decLt k 64)
+  where
+    go : Dec (k < 64) → r ≡ q
+    go (yes l) = eq-of-bits r q (λ i. f .inside l .bits i ∙ sym (g .inside l .bits i))
+    go (no l) = f .past (omega arith) ∙ sym (g .past (omega arith))
+
+pub upper-unique : (a k r q : ℕ) → Upper a k r → Upper a k q → r ≡ q
+upper-unique a k r q f g = eq-of-bits r q (λ i. f .bits i ∙ sym (g .bits i))

@@ -1,9 +1,7 @@
-// Sets of cases as 64-bit numbers: inclusion, membership, the lowest n cases, the number of cases.
+// Sets of cases as 64-bit numbers: inclusion, membership, the lowest n cases, the lowest place, a set changed at one place.
 // Every function takes any numbers and refuses nothing; the laws that the other crates rest on are in proofs/.
 ghost use mathlib.Core.Path.{_≡_};
-ghost use Prim.Native.Nat.{_<_};
-ghost use lib.Count.{ones, trailingZeros};
-ghost use Rattle.sets.specs.First.{Lowest, Rest, Without, With, Upper};
+ghost use Rattle.sets.specs.First.{First, Rest, Without, With, Upper};
 ghost use Rattle.sets.specs.Sets.{bit, isSubset, lowest as lowestCases};
 
 // The cases that a set can hold.
@@ -106,24 +104,16 @@ pub fn lowest(n: u64) -> u64
     MASKS[i]
 }
 
-// How many cases are in `a`.
-pub fn count(a: u64) -> u32
-    ensures { λ r. ⌜ r ≡ ones a ⌝ }
-{
-    u64::count_ones(a)
-}
-
-// The lowest place of a set that is not empty; 64 for the empty one.
+// The lowest place of a set; 64 for the empty one.
 pub fn first(a: u64) -> usize
-    ensures { λ r. ⌜ r ≡ trailingZeros 64 a ⌝ }
-    ensures lowest { λ r. ⌜ ((a ≡ 0 → ⊥) → Lowest a r) ⌝ }
+    ensures { λ r. ⌜ First a r ⌝ }
 {
     u64::trailing_zeros(a) as usize
 }
 
-// A set without its lowest place.
+// A set without its lowest place; the empty set stays empty.
 pub fn rest(a: u64) -> u64
-    ensures { λ r. ⌜ ((a ≡ 0 → ⊥) → Rest a r) ⌝ }
+    ensures { λ r. ⌜ Rest a r ⌝ }
 {
     if a == 0 {
         return 0;
@@ -141,9 +131,9 @@ pub fn without(a: u64, k: u64) -> u64
     a - (1u64 << k)
 }
 
-// `a` with place `k`, one of the 64.
+// `a` with place `k`; `a` itself where `k` is none of the 64 places.
 pub fn with(a: u64, k: u64) -> u64
-    ensures { λ r. ⌜ (k < 64 → With a k r) ⌝ }
+    ensures { λ r. ⌜ With a k r ⌝ }
 {
     if PLACES <= k {
         return a;

@@ -10,7 +10,9 @@ use refusals::Refusal;
 use refusals::Verdict;
 use runs;
 use runs::CasePhase;
+use runs::CasePicks;
 use runs::CaseRun;
+use runs::GaugePicks;
 use runs::GaugeRun;
 use runs::Outcome;
 use runs::Phase;
@@ -97,7 +99,7 @@ fn call_gauges(v: Value, budget: u64) -> Answer {
     let picks = v.picks;
     let run = GaugeRun {
         table: table,
-        picks: picks,
+        picks: GaugePicks(picks),
         count: v.count,
         phase: gauge_phase(v.phase, v.from),
     };
@@ -118,7 +120,7 @@ fn call_cases(v: Value, budget: u64) -> Answer {
     let picks = v.picks;
     let run = CaseRun {
         table: table,
-        picks: picks,
+        picks: CasePicks(picks),
         count: v.count,
         phase: case_phase(v.phase, v.from),
     };
@@ -136,7 +138,8 @@ fn call_cases(v: Value, budget: u64) -> Answer {
 
 fn of_gauges(run: GaugeRun) -> Value {
     let table = run.table;
-    let picks = run.picks;
+    let held = run.picks;
+    let picks = held.0;
     let phase = run.phase;
     Value {
         table: table,
@@ -149,7 +152,8 @@ fn of_gauges(run: GaugeRun) -> Value {
 
 fn of_cases(run: CaseRun) -> Value {
     let table = run.table;
-    let picks = run.picks;
+    let held = run.picks;
+    let picks = held.0;
     let phase = run.phase;
     Value {
         table: table,

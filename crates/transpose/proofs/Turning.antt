@@ -11,7 +11,7 @@ use lib.ListN.{length, getD, set, length-set}
 use lib.Seq.{ext-getD, getD-set-same, getD-set-other}
 use borrow.Author.Tests.{eq-eqb, ne-eqb, lt-ltb, le-ltb}
 use Rattle.sets.specs.Sets.{bit}
-use Rattle.sets.specs.First.{Lowest, Rest, With}
+use Rattle.sets.specs.First.{Lowest, Rest, Added}
 use Rattle.sets.proofs.Order.{eq-of-bits}
 use Rattle.sets.proofs.OnePlace.{none-in}
 use Rattle.sets.proofs.Tabulated.{getD-tabulate}
@@ -51,7 +51,7 @@ putting-none x i t n = record {
 }
 
 pub putting-more : (x i : ℕ) (t₀ t : List ℕ) (rest after h v : ℕ)
-    → Putting x i t₀ t rest → h ≡ trailingZeros 64 rest → Lowest rest h → Rest rest after → With (row t h) i v → Putting x i t₀ (set t h v) after
+    → Putting x i t₀ t rest → h ≡ trailingZeros 64 rest → Lowest rest h → Rest rest after → Added (row t h) i v → Putting x i t₀ (set t h v) after
 putting-more x i t₀ t rest after h v p e l r w = record {
   size = length-set t h v ∙ p .size;
   within = λ k b. p .within k (left-of (bit rest k) (not (eqb k (trailingZeros 64 rest))) (sym (r .bits k) ∙ b));

@@ -3,34 +3,31 @@
 use mathlib.Core.Path.{_≡_}
 use mathlib.Core.List.{List, map}
 use mathlib.Core.Bool.{Bool, true, false, cond}
-use Prim.Native.Nat.{ℕ, suc, _+_, _-_, _^_, _≤_, _<_}
+use Prim.Native.Nat.{ℕ, zero, suc, _+_, _-_, _^_, _≤_, _<_}
 use lib.Dec.{eqb}
 use lib.ListN.{length, take, getD}
-use Rattle.table.specs.Tables.{padded, chainRows, blankChain}
+use Rattle.refusals.specs.Answers.{number}
+use Rattle.table.specs.Tables.{noRows, padded, blankChain}
 use Rattle.sets.specs.Sets.{_⊆_, lowest}
 use Rattle.table.specs.Pairs.{row}
 use Rattle.rules.specs.Machine.{Phase, Down, Handed, Back, Ended, State, Move, gives, nothing, hands, ends}
-use Rattle.rules.specs.Calls.{Reply, spent, handed, end, result, carry, mostBudget}
+use Rattle.rules.specs.Calls.{spent, handed, end, Call, result, carry, mostBudget}
 use Rattle.rules.specs.private.Fitting.{Valid, Fits}
 use Rattle.lists.specs.Picks.{candidates}
 use Rattle.lists.specs.OnTable.{chainOf}
 use Rattle.search.specs.Finding.{candidateIn, within}
 use Rattle.search.proofs.AfterPicks.{After}
-use Rattle.table.specs.declared.Chain.{Chain}
+use Rattle.refusals.specs.declared.Refusal.{Refusal}
+use Rattle.refusals.specs.declared.Refusal.the-variants.{NotReached, BudgetTooLarge}
 use Rattle.table.specs.declared.Table.{Table}
-use Rattle.runs.specs.Paused.{numbered}
+use Rattle.runs.specs.Paused.{Value, numbered}
 use Rattle.runs.specs.Calling.{Step, outcome, refusal}
 use Rattle.runs.specs.declared.Outcome.{Outcome}
-use Rattle.runs.specs.declared.Outcome.the-variants.{HandedOut as outHanded, Spent as outSpent, End as outEnd}
+use Rattle.runs.specs.declared.Outcome.the-variants.{HandedOut, Spent, End, Refused}
 use Rattle.runs.specs.declared.engine.Mode.{Mode}
 use Rattle.runs.specs.declared.engine.Mode.the-variants.{Down as modeDown, Handed as modeHanded, Back as modeBack, Ended as modeEnded}
 use Rattle.runs.specs.declared.engine.Spot.{Spot}
-use Rattle.runs.specs.declared.engine.Done.{Done}
-use Rattle.runs.specs.declared.engine.Done.the-variants.{HandedOut, Spent, End}
-use Rattle.runs.specs.declared.engine.Fate.{Fate}
-use Rattle.runs.specs.declared.engine.Fate.the-variants.{NotReached, TooLarge, Moves}
 use Rattle.runs.specs.declared.engine.Report.{Report}
-use Rattle.runs.specs.declared.engine.Carried.{Carried}
 use Rattle.runs.specs.declared.engine.Moved.{Moved}
 use Rattle.runs.specs.declared.engine.Moved.the-variants.{On, Out, Over}
 
@@ -55,9 +52,13 @@ placed Handed = Handed
 placed (Back k) = Back (k - 1)
 placed Ended = Ended
 
+-- the first `count` numbers in k, by place
+abbrev pub placesOf : List ℕ → ℕ → List ℕ
+placesOf k count = map (λ x. x - 1) (take count k)
+
 -- the state that a spot stands for: its picks by place, of the numbers in k, and its phase
 abbrev pub stateOf : List ℕ → Spot → State
-stateOf k at = record { picks = map (λ x. x - 1) (take (at .count) k); phase = placed (modePhase (at .mode)) }
+stateOf k at = record { picks = placesOf k (at .count); phase = placed (modePhase (at .mode)) }
 
 -- the rows u of the unpicked gauges, the arrays c and k and the spot stand for the state x of the rows r: the chain, and the picks
 pub record HoldsAt (r u c k : List ℕ) (at : Spot) (x : State) : Type 0 where
@@ -100,27 +101,22 @@ unfoldable pub leftAfter : List ℕ → List ℕ → ℕ → ℕ
 leftAfter c k count = cond (eqb count 0) (2 ^ 64 - 1) (getD c (getD k (count - 1) 0 - 1) 0)
 
 -- ---- a call's moves
--- 01's answer for how the moves came out, at the state y that they led to, where `out` says what is handed out
-abbrev pub doneAnswer : (List ℕ → List ℕ) → Done → State → Reply
-doneAnswer out HandedOut y = handed (out (y .picks))
-doneAnswer out Spent y = spent
-doneAnswer out End y = end
-
--- b moves from the state x came out as `done`, in k moves, at the state y
-abbrev pub ComesOut : List ℕ → ℕ → State → Done → ℕ → State → Type 0
-ComesOut r b x done k y = (out : List ℕ → List ℕ) → carry (candidates r) out b x ≡ result (doneAnswer out done y) k y
+-- b moves from the state x come out as o, in k moves, at the state y, whatever is handed out for the picks there
+abbrev pub ComesOut : List ℕ → ℕ → State → Outcome → ℕ → State → Type 0
+ComesOut r b x o k y = (out : List ℕ → List ℕ) → carry (candidates r) out b x ≡ result (outcome o (out (y .picks))) k y
 
 pub record Advanced (n : ℕ) (rows c k : List ℕ) (b : ℕ) (x : State) (r : Report) : Type 0 where
-  pub comes : ComesOut (take n rows) b x (r .done) (r .moves) (stateOf k (r .spot))
+  pub comes : ComesOut (take n rows) b x (r .outcome) (r .moves) (stateOf k (r .spot))
   pub holds : Holds n rows c k (r .spot)
 
-abbrev pub reportOf : Done → ℕ → Spot → Report
-reportOf done moves spot = record { done = done; moves = moves; spot = spot }
+-- a call that made m moves before
+abbrev pub later : ℕ → Call → Call
+later m c = result (c .answer) (m + c .moves) (c .next)
 
 -- the first m of b moves from x led to y, and gave nothing
 pub record Ahead (r : List ℕ) (b m : ℕ) (x y : State) : Type 0 where
   pub most : m ≤ b
-  pub onward : (out : List ℕ → List ℕ) → carry (candidates r) out b x ≡ result (carry (candidates r) out (b - m) y .answer) (m + carry (candidates r) out (b - m) y .moves) (carry (candidates r) out (b - m) y .next)
+  pub onward : (out : List ℕ → List ℕ) → carry (candidates r) out b x ≡ later m (carry (candidates r) out (b - m) y)
 
 -- ---- checking a value handed in
 -- b decides P
@@ -128,9 +124,18 @@ pub record Decides (P : Type 0) (b : Bool) : Type 0 where
   pub yes : b ≡ true → P
   pub no : b ≡ false → ¬ P
 
--- the picks from `from` on are zeros
-abbrev pub RestZero : List ℕ → ℕ → Type 0
-RestZero k from = (i : ℕ) → from ≤ i → i < 64 → getD k i 0 ≡ 0
+-- how many of the first n places of k are not zero
+unfoldable pub filled : List ℕ → ℕ → ℕ
+filled k zero = 0
+filled k (suc n) = filled k n + cond (eqb (getD k n 0) 0) 0 1
+
+-- c is empty, and the first `count` numbers in k are those of picks that can have been made: what is asked where their chain is laid
+pub record Laying (n : ℕ) (rows c k : List ℕ) (count : ℕ) : Type 0 where
+  pub empty : c ≡ noRows
+  pub picks : List ℕ
+  pub numbers : take count k ≡ map suc picks
+  pub counted : count ≡ length picks
+  pub valid : Valid (candidates (take n rows)) picks
 
 -- the phase goes with what the arrays say
 abbrev pub PhaseIn : List ℕ → ℕ → ℕ → Phase → Type 0
@@ -146,49 +151,30 @@ pub record StandsFor (r k : List ℕ) (count : ℕ) (f : Phase) (s : State) : Ty
   pub phased : f ≡ numbered (s .phase)
   pub fits : Fits (candidates r) (s .picks) (s .phase)
 
--- what a call on a value comes to: no state is its state; or it is the value of a state, and the budget is too large, or the moves come
--- out as said and the arrays and numbers are those of the state they lead to
-pub record Went (r k : List ℕ) (count : ℕ) (f : Phase) (b : ℕ) (done : Done) (c′ k′ : List ℕ) (o : Carried) : Type 0 where
-  pub from : State
-  pub legal : StandsFor r k count f from
-  pub budget : b ≤ mostBudget
+-- b moves from the state x: they come out as the report says, and the arrays and numbers are those of the state that they lead to
+pub record Went (r : List ℕ) (b : ℕ) (x : State) (c′ k′ : List ℕ) (o : Report) : Type 0 where
   pub to : State
-  pub comes : ComesOut r b from done (o .moves) to
+  pub comes : ComesOut r b x (o .outcome) (o .moves) to
   pub chained : c′ ≡ padded (chainOf r (to .picks))
-  pub stands : StandsFor r k′ (o .count) (modePhase (o .mode)) to
+  pub stands : StandsFor r k′ (o .spot .count) (modePhase (o .spot .mode)) to
 
-abbrev pub CarriedBy : List ℕ → List ℕ → ℕ → Phase → ℕ → List ℕ → List ℕ → Carried → Fate → Type 0
-CarriedBy r k count f b c′ k′ o NotReached = (s : State) → StandsFor r k count f s → ⊥
-CarriedBy r k count f b c′ k′ o TooLarge = (mostBudget < b) × ((s : State) × StandsFor r k count f s)
-CarriedBy r k count f b c′ k′ o (Moves done) = Went r k count f b done c′ k′ o
+-- what a call on the value of k, `count` and f comes to: no state is its state; or it is the value of a state, and the budget is too large,
+-- or it makes its moves
+pub record CarriesOn (r k : List ℕ) (count : ℕ) (f : Phase) (b : ℕ) (c′ k′ : List ℕ) (o : Report) : Type 0 where
+  pub value : ((s : State) → StandsFor r k count f s → ⊥) → o .outcome ≡ Refused NotReached
+  pub large : (s : State) → StandsFor r k count f s → mostBudget < b → o .outcome ≡ Refused BudgetTooLarge
+  pub moves : (s : State) → StandsFor r k count f s → b ≤ mostBudget → Went r b s c′ k′ o
 
-pub record CarriesOn (r k : List ℕ) (count : ℕ) (f : Phase) (b : ℕ) (c′ k′ : List ℕ) (o : Carried) : Type 0 where
-  pub says : CarriedBy r k count f b c′ k′ o (o .fate)
+abbrev pub refusedReport : Refusal → Report
+refusedReport why = record { outcome = Refused why; moves = 0; spot = spotDown 0 0 0 }
 
-abbrev pub carriedOf : Report → Carried
-carriedOf p = record { fate = Moves (p .done); moves = p .moves; count = p .spot .count; mode = p .spot .mode }
+-- ---- what the functions above the core make of its report, on the table t, with the picks k that it left and the chain by gauge rows
+abbrev pub nextOf : Table → Report → List ℕ → Value
+nextOf t o k = record { table = t; picks = k; count = o .spot .count; phase = modePhase (o .spot .mode) }
 
--- ---- what the thin functions above the core translate
-abbrev pub doneOutcome : Done → Outcome
-doneOutcome HandedOut = outHanded
-doneOutcome Spent = outSpent
-doneOutcome End = outEnd
-
-abbrev pub doneChain : ℕ → Done → List ℕ → Chain
-doneChain gauges HandedOut rows = record { gauges = gauges; rows = rows }
-doneChain gauges Spent rows = blankChain
-doneChain gauges End rows = blankChain
-
--- the answer of what the core came to on the table t, with the picks k and the chain's rows that it left
-abbrev pub carriedBy : Table → Fate → Carried → List ℕ → List ℕ → Step
-carriedBy t NotReached o k rows = refusal 15
-carriedBy t TooLarge o k rows = refusal 18
-carriedBy t (Moves done) o k rows = record {
-  answer = outcome (doneOutcome done) (chainRows (doneChain (t .gauges) done rows));
-  moves = o .moves;
-  chain = doneChain (t .gauges) done rows;
-  next = record { table = t; picks = k; count = o .count; phase = modePhase (o .mode) };
-}
-
-abbrev pub carriedStep : Table → Carried → List ℕ → List ℕ → Step
-carriedStep t o k rows = carriedBy t (o .fate) o k rows
+abbrev pub stepBy : Table → Report → List ℕ → List ℕ → Outcome → Step
+stepBy t o k rows HandedOut =
+    record { answer = handed (take (t .gauges) rows); moves = o .moves; chain = record { gauges = t .gauges; rows = rows }; next = nextOf t o k }
+stepBy t o k rows Spent = record { answer = spent; moves = o .moves; chain = blankChain; next = nextOf t o k }
+stepBy t o k rows End = record { answer = end; moves = o .moves; chain = blankChain; next = nextOf t o k }
+stepBy t o k rows (Refused why) = refusal (number why)

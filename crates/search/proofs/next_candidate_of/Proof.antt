@@ -27,16 +27,16 @@ rest-requires : tie.Need-rest-requires Inv-loop μ-loop
 rest-requires c κs = search needs
 
 stands-requires : tie.Need-stands-requires Inv-loop μ-loop
-stands-requires c κs = place-in _ _ _ _ _ (c .before .before .before .before .upper .ensures) _ _ (c .before .before .before .loop .inv) (c .before .first .ensures .1 (c .before .before .loop-test .taken))
+stands-requires c κs = place-in _ _ _ _ _ (c .before .before .before .before .upper .ensures) _ _ (c .before .before .before .loop .inv) (c .before .first .ensures .some (c .before .before .loop-test .taken))
 
 returns : tie.Need-returns Inv-loop μ-loop
-returns c = search-found _ _ _ _ _ (c .before .before .before .before .before .before .upper .ensures) _ _ _ (c .before .before .before .before .before .loop .inv) (c .before .before .before .first .ensures .1 (c .before .before .before .before .loop-test .taken)) (c .before .stands .ensures) (c .if1 .taken)
+returns c = search-found _ _ _ _ _ (c .before .before .before .before .before .before .upper .ensures) _ _ _ (c .before .before .before .before .before .loop .inv) (c .before .before .before .first .ensures .some (c .before .before .before .before .loop-test .taken)) (c .before .stands .ensures) (c .if1 .taken)
 
 loop-less : tie.Need-loop-less Inv-loop μ-loop
-loop-less c = c .before .before .rest .ensures (c .before .before .before .before .loop-test .taken) .fewer
+loop-less c = c .before .before .rest .ensures .fewer (c .before .before .before .before .loop-test .taken)
 
 loop-again : tie.Need-loop-again Inv-loop μ-loop
-loop-again c = passed-more _ _ _ _ _ (c .before .before .before .before .before .loop .inv) (c .before .before .before .first .ensures .0) (c .before .before .rest .ensures (c .before .before .before .before .loop-test .taken)) (sym (c .before .stands .ensures) ∙ c .if1 .left)
+loop-again c = passed-more _ _ _ _ _ (c .before .before .before .before .before .loop .inv) (c .before .before .before .first .ensures .counted) (c .before .before .rest .ensures) (sym (c .before .stands .ensures) ∙ c .if1 .left)
 
 returns-2 : tie.Need-returns-2 Inv-loop μ-loop
 returns-2 c = search-none _ _ _ _ _ (c .before .before .upper .ensures) _ (c .before .loop .inv) (c .loop-test .left)

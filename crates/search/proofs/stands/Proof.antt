@@ -37,22 +37,22 @@ rest-requires : tie.Need-rest-requires Inv-loop μ-loop
 rest-requires c κs = search needs
 
 mul-blocks : tie.Need-mul-blocks Inv-loop μ-loop
-mul-blocks c = omega (arith, c .before .first .ensures .1 (c .before .before .loop-test .taken) .below)
+mul-blocks c = omega (arith, c .before .first .ensures .some (c .before .before .loop-test .taken) .below)
 
 element-copy-out-blocks : tie.Need-element-copy-out-blocks Inv-loop μ-loop
-element-copy-out-blocks c = c .before .first .ensures .1 (c .before .before .loop-test .taken) .below
+element-copy-out-blocks c = c .before .first .ensures .some (c .before .before .loop-test .taken) .below
 
 blocks-requires : tie.Need-blocks-requires Inv-loop μ-loop
 blocks-requires c κs = search needs
 
 returns-2 : tie.Need-returns-2 Inv-loop μ-loop
-returns-2 c = of-blocked _ _ _ _ (c .before .before .before .before .before .before .before .before .before .pre .0) (c .before .before .before .before .before .before .before .before .before .pre .1) (c .before .before .before .before .before .before .before .if1 .left) _ _ (c .before .before .before .before .first .ensures .1 (c .before .before .before .before .before .loop-test .taken) .below) (c .before .before .before .before .before .before .loop .inv .within _ (c .before .before .before .before .first .ensures .1 (c .before .before .before .before .before .loop-test .taken) .here)) (c .before .blocks2 .ensures) (c .if2 .taken)
+returns-2 c = of-blocked _ _ _ _ (c .before .before .before .before .before .before .before .before .before .pre .0) (c .before .before .before .before .before .before .before .before .before .pre .1) (c .before .before .before .before .before .before .before .if1 .left) _ _ (c .before .before .before .before .first .ensures .some (c .before .before .before .before .before .loop-test .taken) .below) (c .before .before .before .before .before .before .loop .inv .within _ (c .before .before .before .before .first .ensures .some (c .before .before .before .before .before .loop-test .taken) .here)) (c .before .blocks2 .ensures) (c .if2 .taken)
 
 loop-less : tie.Need-loop-less Inv-loop μ-loop
-loop-less c = c .before .before .before .rest .ensures (c .before .before .before .before .before .loop-test .taken) .fewer
+loop-less c = c .before .before .before .rest .ensures .fewer (c .before .before .before .before .before .loop-test .taken)
 
 loop-again : tie.Need-loop-again Inv-loop μ-loop
-loop-again c = passed-more _ _ _ _ _ (c .before .before .before .before .before .before .loop .inv) (c .before .before .before .before .first .ensures .0) (c .before .before .before .rest .ensures (c .before .before .before .before .before .loop-test .taken)) (sym (c .before .blocks2 .ensures) ∙ c .if2 .left)
+loop-again c = passed-more _ _ _ _ _ (c .before .before .before .before .before .before .loop .inv) (c .before .before .before .before .first .ensures .counted) (c .before .before .before .rest .ensures) (sym (c .before .blocks2 .ensures) ∙ c .if2 .left)
 
 returns-3 : tie.Need-returns-3 Inv-loop μ-loop
 returns-3 c = of-clear _ _ _ _ (c .before .before .before .before .pre .0) (c .before .before .before .before .pre .1) (c .before .before .if1 .left) (passed-all _ _ _ (c .before .loop .inv) (c .loop-test .left))

@@ -18,7 +18,7 @@ some : (c : tie.After-rest Inv-loop μ-loop) → c .before .before .before .loop
 some c = c .before .before .loop-test .taken
 
 lowest : (c : tie.After-rest Inv-loop μ-loop) → Lowest (c .before .before .before .loop .rest) (c .before .first .result)
-lowest c = c .before .first .ensures .1 (some c)
+lowest c = c .before .first .ensures .some (some c)
 
 loop-holds : tie.Need-loop-holds Inv-loop μ-loop
 loop-holds c = putting-none _ _ _ (c .pre .1)
@@ -45,13 +45,13 @@ element-write-turned : tie.Need-element-write-turned Inv-loop μ-loop
 element-write-turned c = lowest (c .before .before) .below
 
 loop-less : tie.Need-loop-less Inv-loop μ-loop
-loop-less c = let r = c .before .before in r .rest .ensures (some r) .fewer
+loop-less c = let r = c .before .before in r .rest .ensures .fewer (some r)
 
 loop-again : tie.Need-loop-again Inv-loop μ-loop
 loop-again c =
     let r = c .before .before in
     let l = r .before .before .before in
-    putting-more _ _ _ _ _ _ _ _ (l .loop .inv) (r .before .first .ensures .0) (lowest r) (r .rest .ensures (some r)) (c .with .ensures (l .before .pre .0))
+    putting-more _ _ _ _ _ _ _ _ (l .loop .inv) (r .before .first .ensures .counted) (lowest r) (r .rest .ensures) (c .with .ensures .inside (l .before .pre .0))
 
 returns : tie.Need-returns Inv-loop μ-loop
 returns c = putting-all _ _ _ _ _ (c .before .loop .inv) (c .loop-test .left)

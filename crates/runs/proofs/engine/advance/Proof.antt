@@ -4,7 +4,7 @@ use native.Mathlib.Omega.{arith}
 use borrow.Author.Needs.{needs}
 use lib.ListN.{take}
 use Rattle.runs.specs.private.Working.{Holds, stateOf, Ahead}
-use Rattle.runs.proofs.Advancing.{ahead-none, turn-on, turn-out, turn-over, turn-spent, advanced-as}
+use Rattle.runs.proofs.Advancing.{ahead-none, turn-on, turn-out, turn-over, turn-spent}
 use Rattle.runs.proofs.engine.advance.Statement.{statement}
 use Rattle.runs.proofs.engine.advance.Tie as tie
 
@@ -18,7 +18,7 @@ loop-holds : tie.Need-loop-holds Inv-loop μ-loop
 loop-holds c = (c .pre .1, ahead-none _ _ _)
 
 step-requires : tie.Need-step-requires Inv-loop μ-loop
-step-requires c κs = (c .before .before .before .before .pre .0, c .before .before .before .loop .inv .0)
+step-requires c κs = let l = c .before .before .before in (l .before .pre .0, l .loop .inv .0)
 
 enum-known-made : tie.Need-enum-known-made Inv-loop μ-loop
 enum-known-made c = search needs
@@ -29,38 +29,42 @@ add-moves c = omega arith
 loop-less : tie.Need-loop-less Inv-loop μ-loop
 loop-less c = omega arith
 
+-- from a move back to the test before it
+abbrev tested : tie.After-step Inv-loop μ-loop → tie.In-loop Inv-loop μ-loop
+tested c = c .before .before .before
+
 loop-again : tie.Need-loop-again Inv-loop μ-loop
-loop-again c = turn-on _ _ _ _ _ _ _ _ (c .before .before .before .before .before .before .before .loop .inv .1) (c .before .before .before .before .before .before .loop-test .taken) _ _ (c .before .made .given .1) (c .before .before .before .step .ensures)
+loop-again c =
+    let s = c .before .before .before in
+    let t = tested s in
+    turn-on _ _ _ _ _ _ _ _ (t .before .loop .inv .1) (t .loop-test .taken) _ _ (c .before .made .given .1) (s .step .ensures)
 
 enum-known-made-2 : tie.Need-enum-known-made-2 Inv-loop μ-loop
 enum-known-made-2 c = search needs
 
-add-reported : tie.Need-add-reported Inv-loop μ-loop
-add-reported c = omega arith
-
-reported-requires : tie.Need-reported-requires Inv-loop μ-loop
-reported-requires c κs = search needs
+add-t17 : tie.Need-add-t17 Inv-loop μ-loop
+add-t17 c = omega arith
 
 returns : tie.Need-returns Inv-loop μ-loop
-returns c = advanced-as _ _ _ _ _ _ _ _ (c .reported .ensures) (turn-out _ _ _ _ _ _ _ _ (c .before .before .before .before .before .before .before .before .loop .inv .1) (c .before .before .before .before .before .before .before .loop-test .taken) _ _ (c .before .before .made2 .given .1) (c .before .before .before .before .step .ensures))
+returns c =
+    let s = c .before .before .before in
+    let t = tested s in
+    turn-out _ _ _ _ _ _ _ _ (t .before .loop .inv .1) (t .loop-test .taken) _ _ (c .before .made2 .given .1) (s .step .ensures)
 
 enum-known-made-3 : tie.Need-enum-known-made-3 Inv-loop μ-loop
 enum-known-made-3 c = search needs
 
-add-reported-2 : tie.Need-add-reported-2 Inv-loop μ-loop
-add-reported-2 c = omega arith
-
-reported-requires-2 : tie.Need-reported-requires-2 Inv-loop μ-loop
-reported-requires-2 c κs = search needs
+add-t19 : tie.Need-add-t19 Inv-loop μ-loop
+add-t19 c = omega arith
 
 returns-2 : tie.Need-returns-2 Inv-loop μ-loop
-returns-2 c = advanced-as _ _ _ _ _ _ _ _ (c .reported2 .ensures) (turn-over _ _ _ _ _ _ _ _ (c .before .before .before .before .before .before .before .before .loop .inv .1) (c .before .before .before .before .before .before .before .loop-test .taken) _ _ (c .before .before .made3 .given .1) (c .before .before .before .before .step .ensures))
-
-reported-requires-3 : tie.Need-reported-requires-3 Inv-loop μ-loop
-reported-requires-3 c κs = search needs
+returns-2 c =
+    let s = c .before .before .before in
+    let t = tested s in
+    turn-over _ _ _ _ _ _ _ _ (t .before .loop .inv .1) (t .loop-test .taken) _ _ (c .before .made3 .given .1) (s .step .ensures)
 
 returns-3 : tie.Need-returns-3 Inv-loop μ-loop
-returns-3 c = advanced-as _ _ _ _ _ _ _ _ (c .reported3 .ensures) (turn-spent _ _ _ _ _ _ _ _ (c .before .before .loop .inv .0) (c .before .before .loop .inv .1) (c .before .loop-test .left))
+returns-3 c = turn-spent _ _ _ _ _ _ _ _ (c .before .loop .inv .0) (c .before .loop .inv .1) (c .loop-test .left)
 
 pub advance-spec : {M : Type 1} → statement M
 advance-spec =
@@ -75,12 +79,9 @@ advance-spec =
     loop-less
     loop-again
     enum-known-made-2
-    add-reported
-    reported-requires
+    add-t17
     returns
     enum-known-made-3
-    add-reported-2
-    reported-requires-2
+    add-t19
     returns-2
-    reported-requires-3
     returns-3)

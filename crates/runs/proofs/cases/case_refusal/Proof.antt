@@ -1,0 +1,21 @@
+-- `runs::case_refusal` meets its contract: the chain and the value are blank.
+use borrow.Author.Needs.{needs}
+use Rattle.runs.proofs.Answered.{refusal-step}
+use Rattle.runs.proofs.cases.case_refusal.Statement.{statement}
+use Rattle.runs.proofs.cases.case_refusal.Tie as tie
+
+blank-chain-requires : tie.Need-blank-chain-requires
+blank-chain-requires c κs = search needs
+
+blank-table-requires : tie.Need-blank-table-requires
+blank-table-requires c κs = search needs
+
+case-run-requires : tie.Need-case-run-requires
+case-run-requires c κs = search needs
+
+returns : tie.Need-returns
+returns c = refusal-step _ _ _ _ (c .before .before .blank-chain .ensures) (c .before .blank-table .ensures) (c .case-run .ensures)
+
+pub case-refusal-spec : {M : Type 1} → statement M
+case-refusal-spec =
+    tie.close (tie.spec blank-chain-requires blank-table-requires case-run-requires returns)

@@ -1,0 +1,67 @@
+-- `runs::start_cases` meets its contract: the answer is that of the check, and demand 3 and the shared set are `run-demand` and `shares-set` at the case side.
+use mathlib.Core.Path.{_≡_, refl}
+use native.Mathlib.Omega.{arith}
+use borrow.Author.Needs.{needs}
+use lib.ListN.{length}
+use Rattle.table.specs.Tables.{Legal, tableRefusal}
+use Rattle.refusals.proofs.Answering.{number-pos, verdict-refused, verdict-accepted}
+use Rattle.table.proofs.Legality.{legal-of}
+use Rattle.rules.specs.Machine.{fresh}
+use Rattle.lists.specs.Lists.{caseSide}
+use Rattle.lists.proofs.BothSides.{case-fair}
+use Rattle.runs.specs.Paused.{Value, paused}
+use Rattle.runs.specs.Calling.{KeepsDemand, SharesSet}
+use Rattle.runs.proofs.Answered.{start-refused, start-given}
+use Rattle.runs.proofs.Demands.{run-demand, shares-set}
+use Rattle.runs.proofs.cases.start_cases.Statement.{statement}
+use Rattle.runs.proofs.cases.start_cases.Tie as tie
+
+rows-length : (c : tie.Start) → length (c .args .t .rows) ≡ 64
+rows-length c = search needs
+
+-- demand 3 and the shared set, of the value returned where the table is not refused
+promises : (c : tie.Start) (v : Value) → (tableRefusal (c .args .t) ≡ 0 → v ≡ paused (c .args .t) fresh) → KeepsDemand caseSide (c .args .t) v × SharesSet (c .args .t) (paused (c .args .t) fresh) v
+promises c v h = (
+  λ ok. run-demand caseSide (c .args .t) (legal ok) (case-fair (c .args .t) (legal ok)) v (h ok),
+  λ ok. shares-set (c .args .t) (legal ok) (paused (c .args .t) fresh) v refl (h ok) ok,
+)
+  where
+    legal : tableRefusal (c .args .t) ≡ 0 → Legal (c .args .t)
+    legal ok = legal-of (c .args .t) (rows-length c) ok
+
+check-table-requires : tie.Need-check-table-requires
+check-table-requires c κs = search needs
+
+enum-known-checked : tie.Need-enum-known-checked
+enum-known-checked c = search needs
+
+blank-table-requires : tie.Need-blank-table-requires
+blank-table-requires c κs = search needs
+
+case-run-requires : tie.Need-case-run-requires
+case-run-requires c κs = search needs
+
+returns : tie.Need-returns
+returns c = (start-refused (c .before .before .before .checked .given .0 .0) _ _ _ _ (verdict-refused _ _ _ (c .before .before .before .checked .given .1) (c .before .before .before .before .before .check-table .ensures)) (c .before .blank-table .ensures) (c .case-run .ensures), promises (c .before .before .before .before .before .before) _ (λ ok. absurd (omega (arith, number-pos (c .before .before .before .checked .given .0 .0), verdict-refused _ _ _ (c .before .before .before .checked .given .1) (c .before .before .before .before .before .check-table .ensures)))))
+
+enum-told : tie.Need-enum-told
+enum-told c = search needs
+
+case-run-requires-2 : tie.Need-case-run-requires-2
+case-run-requires-2 c κs = search needs
+
+returns-2 : tie.Need-returns-2
+returns-2 c = (start-given _ _ _ (verdict-accepted _ _ (c .before .enum-told .given .1) (c .before .before .before .check-table .ensures)) (c .case-run2 .ensures), promises (c .before .before .before .before) _ (λ ok. c .case-run2 .ensures))
+
+pub start-cases-spec : {M : Type 1} → statement M
+start-cases-spec =
+    tie.close
+    (tie.spec
+    check-table-requires
+    enum-known-checked
+    blank-table-requires
+    case-run-requires
+    returns
+    enum-told
+    case-run-requires-2
+    returns-2)
