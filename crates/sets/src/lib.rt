@@ -1,6 +1,7 @@
 // Sets of cases as 64-bit numbers: inclusion, membership, the lowest n cases, the lowest place, a set changed at one place.
 // Every function takes any numbers and refuses nothing; the laws that the other crates rest on are in proofs/.
 ghost use mathlib.Core.Path.{_≡_};
+ghost use lib.Count.{ones};
 ghost use Rattle.sets.specs.First.{First, Rest, Without, With, Upper};
 ghost use Rattle.sets.specs.Sets.{bit, isSubset, lowest as lowestCases};
 
@@ -102,6 +103,13 @@ pub fn lowest(n: u64) -> u64
     }
     let i = n as usize;
     MASKS[i]
+}
+
+// How many cases are in `a`.
+pub fn count(a: u64) -> u32
+    ensures { λ r. ⌜ r ≡ ones a ⌝ }
+{
+    u64::count_ones(a)
 }
 
 // The lowest place of a set; 64 for the empty one.

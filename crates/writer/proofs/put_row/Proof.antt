@@ -21,10 +21,10 @@ abbrev round : tie.After-rest Inv-loop μ-loop → tie.At-loop Inv-loop μ-loop
 round c = c .before .before .before
 
 lowest : (c : tie.After-rest Inv-loop μ-loop) → Lowest (round c .loop .left) (c .before .first .result)
-lowest c = c .before .first .ensures .1 (c .before .before .loop-test .taken)
+lowest c = c .before .first .ensures .some (c .before .before .loop-test .taken)
 
 others : (c : tie.After-rest Inv-loop μ-loop) → Rest (round c .loop .left) (c .rest .result)
-others c = c .rest .ensures (c .before .before .loop-test .taken)
+others c = c .rest .ensures
 
 loop-holds : tie.Need-loop-holds Inv-loop μ-loop
 loop-holds c = writing-start
@@ -43,16 +43,16 @@ put-pair-requires c κs =
     let r = c .before in
     let l = round r in
     let s = l .before .before in
-    (s .pre .0, omega (arith, lowest r), row-room _ _ _ _ (r .before .first .ensures .0) (lowest r) (others r) (l .loop .inv) (s .pre .1))
+    (s .pre .0, omega (arith, lowest r), row-room _ _ _ _ (r .before .first .ensures .counted) (lowest r) (others r) (l .loop .inv) (s .pre .1))
 
 loop-less : tie.Need-loop-less Inv-loop μ-loop
-loop-less c = others (c .before .before .before .before) .fewer
+loop-less c = let r = c .before .before .before .before in others r .fewer (r .before .before .loop-test .taken)
 
 loop-again : tie.Need-loop-again Inv-loop μ-loop
 loop-again c =
     let p = c .before .before in
     let r = p .before .before in
-    writing-step (round r .loop .inv) (row-first _ _ _ _ (r .before .first .ensures .0) (lowest r) (others r)) (p .put-pair .ensures)
+    writing-step (round r .loop .inv) (row-first _ _ _ _ (r .before .first .ensures .counted) (lowest r) (others r)) (p .put-pair .ensures)
 
 same-length : tie.Need-same-length Inv-loop μ-loop
 same-length c = c .before .loop .inv .same
