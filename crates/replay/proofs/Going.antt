@@ -62,7 +62,8 @@ same-picks p q i a b f = ext-getD 0 p q (a ∙ sym b) (λ j l. let e = f j (omeg
 within-full : (a x : ℕ) → x ⊆ full → meet (meet a full) x ≡ meet a x
 within-full a x h =
     sub-antisym (meet (meet a full) x) (meet a x)
-    (meet-glb (meet (meet a full) x) a x (sub-trans (meet (meet a full) x) (meet a full) a (meet-left (meet a full) x) (meet-left a full)) (meet-right (meet a full) x))
+    (meet-glb (meet (meet a full) x) a x (sub-trans (meet (meet a full) x) (meet a full) a (meet-left (meet a full) x) (meet-left a full))
+    (meet-right (meet a full) x))
     (meet-glb (meet a x) (meet a full) x (meet-glb (meet a x) a full (meet-left a x) (sub-trans (meet a x) x full (meet-right a x) h)) (meet-right a x))
 
 -- ---- the rows of an array
@@ -183,7 +184,8 @@ module _ (n : ℕ) (rows k : List ℕ) where
           numbered j (no l) y =
               let e : j ≡ length (f .picks) = omega (arith, f .counted) in
               let d : j ≡ i = omega arith in
-              ap (λ (m : ℕ). getD k m 0) d ∙ sym en ∙ number-is ∙ ap suc (sym (ap (λ (m : ℕ). getD (f .picks ++ (g ∷ [])) m 0) e ∙ getD-append-seam (f .picks) g [] 0))
+              ap (λ (m : ℕ). getD k m 0) d ∙ sym en ∙ number-is
+              ∙ ap suc (sym (ap (λ (m : ℕ). getD (f .picks ++ (g ∷ [])) m 0) e ∙ getD-append-seam (f .picks) g [] 0))
 
           low : Dec (own ≡ left) → j .before ⊆ full
           low (yes e) = rw (d .twin ok e .0) (f .before-low)
@@ -232,7 +234,8 @@ module _ (n : ℕ) (rows k : List ℕ) where
             bad (twin-in g (cand .below) ∙ m, y)
 
     -- ---- the end
-    pub going-made : (count : ℕ) (t : Bool) (s : Replayed) → i ≡ count → NoneAgainst rows u left before last t → t ≡ true → s .unpicked ≡ u → s .left ≡ left → Made r k count s
+    pub going-made : (count : ℕ) (t : Bool) (s : Replayed) → i ≡ count → NoneAgainst rows u left before last t → t ≡ true → s .unpicked ≡ u → s .left ≡ left
+        → Made r k count s
     going-made count t s ei d ok eu el = record {
       picks = f .picks;
       given = record {
@@ -273,7 +276,8 @@ pub low-more : (u g u′ : ℕ) → Low u → Without u g u′ → Low u′
 low-more u g u′ f w h b = f h (both (bit u h) (not (eqb h g)) (sym (w .bits h) ∙ b) .0)
 
 -- ---- the answers
-pub replays-no : (n : ℕ) (rows k : List ℕ) (count : ℕ) (s : Replayed) → s ≡ notMade → ((p : List ℕ) → Picked (arrayRows n rows) k count p → ⊥) → Replays n rows k count s
+pub replays-no : (n : ℕ) (rows k : List ℕ) (count : ℕ) (s : Replayed) → s ≡ notMade → ((p : List ℕ) → Picked (arrayRows n rows) k count p → ⊥)
+    → Replays n rows k count s
 replays-no n rows k count s e h = record { yes = λ d. clash (s .ok) d (ap (λ (x : Replayed). x .ok) e); no = λ d. (e, h) }
 
 pub replays-yes : (n : ℕ) (rows k : List ℕ) (count : ℕ) (s : Replayed) → s .ok ≡ true → Made (arrayRows n rows) k count s → Replays n rows k count s
@@ -285,7 +289,8 @@ replays-unique n rows k count s q a b = go (s .ok) refl (q .ok) refl
     record-is : (s q : Replayed) → s .ok ≡ q .ok → s .unpicked ≡ q .unpicked → s .left ≡ q .left → s ≡ q
     record-is s q x y z = made-of (s .ok) (q .ok) (s .unpicked) (q .unpicked) (s .left) (q .left) x y z
       where
-        made-of : (o p : Bool) (u v l m : ℕ) → o ≡ p → u ≡ v → l ≡ m → _≡_ {A = Replayed} (record { ok = o; unpicked = u; left = l }) (record { ok = p; unpicked = v; left = m })
+        made-of : (o p : Bool) (u v l m : ℕ) → o ≡ p → u ≡ v → l ≡ m
+            → _≡_ {A = Replayed} (record { ok = o; unpicked = u; left = l }) (record { ok = p; unpicked = v; left = m })
         made-of o p u v l m x y z = rw (x, y, z)
 
     go : (x : Bool) → s .ok ≡ x → (y : Bool) → q .ok ≡ y → s ≡ q
@@ -295,7 +300,8 @@ replays-unique n rows k count s q a b = go (s .ok) refl (q .ok) refl
         let same : m .picks ≡ w .picks =
         same-picks (m .picks) (w .picks) count (m .given .counted) (w .given .counted) (λ j l. sym (m .given .numbers j l) ∙ w .given .numbers j l) in
         record-is s q (d ∙ sym e)
-        (eq-of-bits (s .unpicked) (q .unpicked) (λ j. m .unpicked j ∙ ap (λ (p : List ℕ). ltb j (length (arrayRows n rows)) && not (isIn j p)) same ∙ sym (w .unpicked j)))
+        (eq-of-bits (s .unpicked) (q .unpicked) (λ j. m .unpicked j ∙ ap (λ (p : List ℕ). ltb j (length (arrayRows n rows)) && not (isIn j p)) same
+        ∙ sym (w .unpicked j)))
         (m .left ∙ ap (λ (p : List ℕ). common (arrayRows n rows) p (lowest 64)) same ∙ sym (w .left))
     go true d false e = absurd (b .no e .1 (a .yes d .picks) (a .yes d .given))
     go false d true e = absurd (a .no d .1 (b .yes e .picks) (b .yes e .given))

@@ -1,5 +1,5 @@
 -- What each answer of the steps says: a pick beside the left cases, and an unpicked gauge against the picks.
-use mathlib.Core.Path.{_≡_, refl, sym, _∙_}
+use mathlib.Core.Path.{_≡_, refl}
 use mathlib.Core.Bool.{Bool, true, false}
 use mathlib.Core.List.{List}
 use Prim.Native.Nat.{ℕ, _≤_, _<_}
@@ -7,12 +7,10 @@ use native.Mathlib.Omega.{arith}
 use lib.Bits.{bitAnd}
 use lib.Dec.{ltb}
 use borrow.Author.Tests.{ltb-true, ltb-false}
-use Rattle.sets.specs.Sets.{bit}
 use Rattle.sets.specs.First.{Lowest}
 use Rattle.table.specs.Pairs.{row}
 use Rattle.search.proofs.Within.{clash, Passed, passed-all}
 use Rattle.replay.specs.private.Steps.{Goes, Judges, Against, NoneAgainst}
-use Rattle.replay.specs.declared.Judged.{Judged}
 
 module _ (t-row own before left last g : ℕ) where
   pub judged-fewer : ¬ (own ≡ left) → Judges t-row own before left last g (record { ok = true; before = left })
@@ -44,7 +42,8 @@ module _ (rows : List ℕ) (u left before last : ℕ) where
   abbrev pub Quiet : ℕ → Type 0
   Quiet h = bitAnd (row rows h) left ≡ left → Goes (row rows h) before left last h
 
-  pub none-found : (rest h : ℕ) (t : Bool) → Passed Quiet u rest → Lowest rest h → Against (row rows h) left before last h t → t ≡ true → NoneAgainst rows u left before last false
+  pub none-found : (rest h : ℕ) (t : Bool) → Passed Quiet u rest → Lowest rest h → Against (row rows h) left before last h t → t ≡ true
+      → NoneAgainst rows u left before last false
   none-found rest h t p l d e = record {
     yes = λ x. clash false x refl;
     no = λ x. (h, p .within h (l .here), d .yes e .0, d .yes e .1);

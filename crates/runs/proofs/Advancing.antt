@@ -1,5 +1,5 @@
 -- The moves of a call, one after the other: the first m of b moves, and what the call comes to after a hand-out, an end, or the budget.
-use mathlib.Core.Path.{sym, _≡_, ap, _∙_, subst}
+use mathlib.Core.Path.{_≡_, ap, _∙_, subst}
 use mathlib.Core.List.{List}
 use Prim.Native.Nat.{ℕ, suc, _+_, _-_, _≤_, _<_}
 use native.Mathlib.Omega.{arith}

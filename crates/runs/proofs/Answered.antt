@@ -2,27 +2,22 @@
 -- of a reached state; refusals and fresh starts. A call that is not refused is in SideCalls.antt.
 use mathlib.Core.Path.{_≡_, refl, sym, ap, _∙_}
 use mathlib.Core.List.{List, map}
-use Prim.Native.Nat.{ℕ, suc, _-_, _≤_, _<_}
+use Prim.Native.Nat.{ℕ, suc, _<_}
 use native.Mathlib.Omega.{arith}
-use lib.ListN.{length, take}
+use lib.ListN.{length}
 use Rattle.table.specs.Tables.{tableRefusal, blankTable, padded, blankChain}
 use Rattle.refusals.specs.Answers.{number, answer}
 use Rattle.refusals.specs.declared.Refusal.{Refusal}
 use Rattle.table.specs.declared.Chain.{Chain}
 use Rattle.refusals.proofs.Answering.{answer-refused, answer-given}
 use Rattle.table.specs.declared.Table.{Table}
-use Rattle.rules.specs.Machine.{Phase, State, at, fresh}
-use Rattle.rules.specs.Calls.{refused, mostBudget}
-use Rattle.rules.proofs.Calls.{call-above, call-within}
+use Rattle.rules.specs.Machine.{Phase, State, fresh}
+use Rattle.rules.specs.Calls.{refused}
 use Rattle.lists.specs.Lists.{Side}
-use Rattle.lists.specs.Picks.{candidates}
-use Rattle.lists.specs.OnTable.{handOut, callOn}
 use Rattle.lists.proofs.CandidateTree.{reached-fits}
 use Rattle.runs.specs.Paused.{Value, numbered, paused, blankValue}
-use Rattle.runs.specs.Calling.{Step, refusal, byRules, told, PausedAt, Called}
-use Rattle.runs.specs.private.Working.{placed, StandsFor}
-use Rattle.replay.proofs.Numbers.{length-numbers, places-numbers}
-use Rattle.runs.proofs.Padding.{take-padded}
+use Rattle.runs.specs.Calling.{Step, refusal, PausedAt, Called}
+use Rattle.runs.specs.private.Working.{StandsFor}
 use Rattle.runs.proofs.Holding.{state-by}
 
 -- ---- a paused value has one state
@@ -70,12 +65,15 @@ called-refused side v b n e l r d = record {
 
 -- ---- refusals and fresh starts, as the thin functions put them together
 -- a refused step of either side: its chain and its value are blank
-pub refusal-step : (n : ℕ) (c : Chain) (v : Value) (t : Table) → c ≡ blankChain → t ≡ blankTable → v ≡ paused t fresh → record { answer = refused n; moves = 0; chain = c; next = v } ≡ refusal n
+pub refusal-step : (n : ℕ) (c : Chain) (v : Value) (t : Table) → c ≡ blankChain → t ≡ blankTable → v ≡ paused t fresh
+    → record { answer = refused n; moves = 0; chain = c; next = v } ≡ refusal n
 refusal-step n c v t e d w = rw (e, w, d)
 
 -- a refused start
-pub start-refused : (x : Refusal) (n : ℕ) (t : Table) (v : Value) (b : Table) → number x ≡ n → b ≡ blankTable → v ≡ paused b fresh → record { refusal = number x; value = v } ≡ answer n (paused t fresh) blankValue
-start-refused x n t v b e d w = ap (λ (y : Value). record { refusal = number x; value = y }) (w ∙ ap (λ (y : Table). paused y fresh) d) ∙ answer-refused x n (paused t fresh) blankValue e
+pub start-refused : (x : Refusal) (n : ℕ) (t : Table) (v : Value) (b : Table) → number x ≡ n → b ≡ blankTable → v ≡ paused b fresh
+    → record { refusal = number x; value = v } ≡ answer n (paused t fresh) blankValue
+start-refused x n t v b e d w =
+    ap (λ (y : Value). record { refusal = number x; value = y }) (w ∙ ap (λ (y : Table). paused y fresh) d) ∙ answer-refused x n (paused t fresh) blankValue e
 
 pub start-given : (n : ℕ) (t : Table) (v : Value) → n ≡ 0 → v ≡ paused t fresh → record { refusal = 0; value = v } ≡ answer n (paused t fresh) blankValue
 start-given n t v e w = ap (λ (y : Value). record { refusal = 0; value = y }) w ∙ answer-given n (paused t fresh) blankValue e

@@ -1,8 +1,8 @@
 -- A call on a value handed in, put together: which test failed, or the moves that were made, as `CarriesOn` says it.
-use mathlib.Core.Path.{_≡_, sym, ap, ap₂, _∙_, subst}
+use mathlib.Core.Path.{_≡_, ap, _∙_, subst}
 use mathlib.Core.Bool.{Bool, true, false}
 use mathlib.Core.List.{List, map}
-use Prim.Native.Nat.{ℕ, suc, _-_, _≤_, _<_}
+use Prim.Native.Nat.{ℕ, _-_, _≤_, _<_}
 use native.Mathlib.Omega.{arith}
 use lib.ListN.{length, take}
 use Rattle.table.specs.Tables.{noRows, padded}
@@ -14,17 +14,17 @@ use Rattle.search.specs.Finding.{within}
 use Rattle.search.proofs.Within.{length-within}
 use Rattle.replay.specs.Picked.{Replays}
 use Rattle.replay.specs.declared.Replayed.{Replayed}
-use Rattle.replay.proofs.Numbers.{length-numbers, places-numbers}
+use Rattle.replay.proofs.Numbers.{places-numbers}
 use Rattle.runs.specs.private.Working.{Sized, modePhase, placed, placesOf, stateOf, HoldsAt, Holds, Laying, ComesOut, Advanced, Decides, filled, PhaseIn, StandsFor, CarriesOn, refusedReport}
 use Rattle.runs.specs.declared.engine.Mode.{Mode}
 use Rattle.runs.specs.declared.engine.Spot.{Spot}
 use Rattle.runs.specs.declared.engine.Report.{Report}
-use Rattle.runs.proofs.Padding.{take-padded}
 use Rattle.runs.proofs.Holding.{stands-unique, state-is, holds-own}
 use Rattle.runs.proofs.Checking.{Front, stands-filled, stands-picked, made-front, no-phase, legal-of}
 
 -- ---- 15
-module _ (n : ℕ) (rows k : List ℕ) (count : ℕ) (f : Phase) (b : ℕ) (z : Sized n rows) (size : length k ≡ 64) (c′ k′ : List ℕ) (o : Report) (e : o ≡ refusedReport NotReached) where
+module _ (n : ℕ) (rows k : List ℕ) (count : ℕ) (f : Phase) (b : ℕ) (z : Sized n rows) (size : length k ≡ 64)
+    (c′ k′ : List ℕ) (o : Report) (e : o ≡ refusedReport NotReached) where
   abbrev Carried : Type 0
   Carried = CarriesOn (take n rows) k count f b c′ k′ o
 
@@ -112,7 +112,9 @@ module _ (n : ℕ) (rows k : List ℕ) (count : ℕ) (m : Mode) (b : ℕ) (s : R
       large = λ x y g. absurd (omega arith);
       moves = λ x y g. record {
         to = stateOf k′ (o .spot);
-        comes = subst (λ (q : State). ComesOut r b q (o .outcome) (o .moves) (stateOf k′ (o .spot))) (state-is standing ∙ stands-unique r k count f from x legal y) (w .comes);
+        comes =
+            subst (λ (q : State). ComesOut r b q (o .outcome) (o .moves) (stateOf k′ (o .spot)))
+            (state-is standing ∙ stands-unique r k count f from x legal y) (w .comes);
         chained = w .holds .chained;
         stands = record { picked = w .holds .picked; counted = w .holds .counted; phased = w .holds .phased; fits = w .holds .fits };
       };

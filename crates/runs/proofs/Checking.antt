@@ -2,13 +2,10 @@
 -- whether it is the value of a state whose picks fit its phase (`StandsFor`).
 use mathlib.Core.Path.{_≡_, refl, sym, ap, ap₂, _∙_, subst}
 use mathlib.Core.Bool.{Bool, true, false, not, _&&_, cond}
-use mathlib.Core.List.{List, [], _∷_, _++_, map, append-nil, List·Memᴰ}
-use Prim.Native.Nat.{ℕ, zero, suc, _+_, _-_, _≤_, _<_, min}
-use native.Mathlib.Nat.{min-eq-left}
+use mathlib.Core.List.{List, [], _∷_, map}
+use Prim.Native.Nat.{ℕ, suc, _-_, _≤_, _<_, min}
 use native.Mathlib.Decide.{ℕ-discrete, decLt}
-use native.Mathlib.Numerals.{add-one}
 use native.Mathlib.Omega.{arith}
-use lib.Bits.{bitAnd}
 use lib.Dec.{not-T, eqb, leb, ltb}
 use lib.ListN.{length, getD, take, length-take, List·getD-eq-default}
 use lib.Seq.{ext-getD, getD-take, length-take-le}
@@ -17,14 +14,13 @@ use Rattle.table.proofs.Padding.{pad-getD, pad-ext}
 use Rattle.sets.specs.Sets.{bit}
 use Rattle.sets.proofs.Tests.{is-true, is-false}
 use Rattle.table.specs.Pairs.{row}
-use Rattle.table.specs.Tables.{noRows}
 use Rattle.table.proofs.Places.{row-past}
 use Rattle.rules.specs.Machine.{Phase, Down, Handed, Back, Ended, State, at}
-use Rattle.rules.specs.private.Fitting.{ValidFrom, Valid, Fits}
+use Rattle.rules.specs.private.Fitting.{Valid, Fits}
 use Rattle.rules.proofs.Reach.{reachable}
 use Rattle.lists.specs.PickSequence.{isIn}
 use Rattle.lists.specs.Picks.{candidate, candidates}
-use Rattle.lists.proofs.Candidates.{Cand, cand-of, of-cand, mem-candidates, no-candidate, none-candidate}
+use Rattle.lists.proofs.Candidates.{cand-of, of-cand, mem-candidates, no-candidate, none-candidate}
 use Rattle.lists.proofs.CandidateTree.{candidate-tree}
 use Rattle.search.specs.Finding.{candidateIn, First, within}
 use Rattle.search.proofs.AfterPicks.{After, candidate-wide}
@@ -52,7 +48,9 @@ pub record Front (r u k : List ℕ) (count left : ℕ) : Type 0 where
 
 -- the rows of a side's array, by place
 arrays-are : (n : ℕ) (rows : List ℕ) → Sized n rows → arrayRows n rows ≡ take n rows
-arrays-are n rows z = ext-getD 0 (arrayRows n rows) (take n rows) (rows-length n rows ∙ sym (length-take n rows ∙ ap (min n) (z .size))) (λ i l. go i (omega (arith, rows-length n rows)))
+arrays-are n rows z =
+    ext-getD 0 (arrayRows n rows) (take n rows) (rows-length n rows ∙ sym (length-take n rows ∙ ap (min n) (z .size)))
+    (λ i l. go i (omega (arith, rows-length n rows)))
   where
     go : (i : ℕ) → i < min n 64 → getD (arrayRows n rows) i 0 ≡ getD (take n rows) i 0
     go i l = row-side n rows i l ∙ z .inside i ∙ sym (getD-take n rows i 0 (omega arith))
@@ -89,7 +87,9 @@ module _ (n : ℕ) (rows k : List ℕ) (count : ℕ) (f : Phase) (z : Sized n ro
   pub made-front : (s : Replayed) → Made (arrayRows n rows) k count s → Front side (within (s .unpicked) rows) k count (s .left)
   made-front s m = record {
     picks = m .picks;
-    numbers = ext-getD 0 (take count k) (map suc (m .picks)) (length-take-le count k (omega (arith, few)) ∙ sym (length-numbers (m .picks) ∙ m .given .counted)) (λ i l.
+    numbers =
+        ext-getD 0 (take count k) (map suc (m .picks)) (length-take-le count k (omega (arith, few)) ∙ sym (length-numbers (m .picks) ∙ m .given .counted))
+        (λ i l.
         getD-take count k i 0 (low i l) ∙ m .given .numbers i (low i l) ∙ sym (getD-numbers (m .picks) i (omega (arith, low i l, m .given .counted))));
     counted = sym (m .given .counted);
     valid = reachable (candidates side) (length side) (candidate-tree side) (at (m .picks) Down) .0 (rw (arrays-are n rows z) at (m .given .reached));
@@ -129,18 +129,31 @@ module _ (n : ℕ) (rows k : List ℕ) (count : ℕ) (f : Phase) (z : Sized n ro
     phase-of Handed e v = rw e (λ i l. in-side i ∙ no-one i)
       where
         no-one : (i : ℕ) → candidate side (m .picks) i ≡ false
-        no-one i = is-false (candidate side (m .picks) i) (not-T (candidate side (m .picks) i) (λ t. no-candidate side (m .picks) i (v .1) (cand-of side (m .picks) i t)))
+        no-one i =
+            is-false (candidate side (m .picks) i) (not-T (candidate side (m .picks) i)
+            (λ t. no-candidate side (m .picks) i (v .1) (cand-of side (m .picks) i t)))
     phase-of (Back j) e v =
         let d : suc j - 1 ≡ j = omega arith in
-        rw e (omega arith, ap (candidateIn u left 64) d ∙ in-side j ∙ is-true (candidate side (m .picks) j) (of-cand side (m .picks) j (mem-candidates side (m .picks) j .0 (v .1))))
+        rw e (
+          omega arith,
+          ap (candidateIn u left 64) d ∙ in-side j
+              ∙ is-true (candidate side (m .picks) j) (of-cand side (m .picks) j (mem-candidates side (m .picks) j .0 (v .1))),
+        )
     phase-of Ended e v = rw e (omega (arith, m .counted, ap length v))
 
     pub no-phase : ¬ PhaseIn u left count f → (s : State) → StandsFor side k count f s → ⊥
-    no-phase h s l = h (phase-of (s .phase) (l .phased) (subst (λ (p : List ℕ). Fits (candidates side) p (s .phase)) (numbers-same (s .picks) (m .picks) (sym (legal-take s l) ∙ m .numbers)) (l .fits)))
+    no-phase h s l =
+        h (phase-of (s .phase) (l .phased) (subst (λ (p : List ℕ). Fits (candidates side) p (s .phase))
+        (numbers-same (s .picks) (m .picks) (sym (legal-take s l) ∙ m .numbers)) (l .fits)))
 
     fits-of : (g : Phase) → PhaseIn u left count g → Fits (candidates side) (m .picks) (placed g)
     fits-of Down v = m .valid
-    fits-of Handed v = (m .valid, none-candidate side (m .picks) (λ i cand. let w : true ≡ false = sym (is-true (candidate side (m .picks) i) (of-cand side (m .picks) i cand)) ∙ sym (in-side i) ∙ v i (omega (arith, cand .below, side-length n rows z, z .few)) in let y : _≡_ {A = ℕ} 0 1 = cc in omega arith))
+    fits-of Handed v = (
+      m .valid,
+      none-candidate side (m .picks) (λ i cand. let w : true ≡ false = sym
+          (is-true (candidate side (m .picks) i) (of-cand side (m .picks) i cand)) ∙ sym (in-side i)
+          ∙ v i (omega (arith, cand .below, side-length n rows z, z .few)) in let y : _≡_ {A = ℕ} 0 1 = cc in omega arith),
+    )
     fits-of (Back j) v = (m .valid, mem-candidates side (m .picks) (j - 1) .1 (cand-of side (m .picks) (j - 1) (rw (← in-side (j - 1), v .1) tt)))
     fits-of Ended v = none (m .picks) (omega (arith, m .counted))
       where
@@ -156,7 +169,9 @@ module _ (n : ℕ) (rows k : List ℕ) (count : ℕ) (f : Phase) (z : Sized n ro
 
     pub legal-of : filled k 64 ≡ count → PhaseIn u left count f → StandsFor side k count f (at (m .picks) (placed f))
     legal-of full v = record {
-      picked = pad-ext k (map suc (m .picks)) size (omega (arith, length-numbers (m .picks), m .counted, full, filled-most k 64)) (λ i. go i (decLt i count) (decLt i 64));
+      picked =
+          pad-ext k (map suc (m .picks)) size (omega (arith, length-numbers (m .picks), m .counted, full, filled-most k 64))
+          (λ i. go i (decLt i count) (decLt i 64));
       counted = m .counted;
       phased = number-of f v;
       fits = fits-of f v;

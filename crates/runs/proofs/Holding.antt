@@ -95,24 +95,30 @@ module _ (r : List ℕ) (ok : Rows r) where
   number-last : (q : List ℕ) (h : ℕ) → getD (padded (map suc (q ++ (h ∷ [])))) (length (q ++ (h ∷ [])) - 1) 0 ≡ suc h
   number-last q h =
       let e : length (q ++ (h ∷ [])) - 1 ≡ length (map suc q) = omega (arith, length-snoc q h, length-numbers q) in
-      ap₂ (λ (l : List ℕ) (i : ℕ). getD l i 0) (ap padded (numbers-snoc q h)) e ∙ pad-getD (map suc q ++ (suc h ∷ [])) (length (map suc q)) ∙ getD-append-seam (map suc q) (suc h) [] 0
+      ap₂ (λ (l : List ℕ) (i : ℕ). getD l i 0) (ap padded (numbers-snoc q h)) e ∙ pad-getD (map suc q ++ (suc h ∷ [])) (length (map suc q))
+      ∙ getD-append-seam (map suc q) (suc h) [] 0
 
   pub left-is : (q : List ℕ) → Valid (candidates r) q → leftAfter (padded (chainOf r q)) (padded (map suc q)) (length q) ≡ common r q full
   unfolding leftAfter
-  left-is = by-last (λ (q : List ℕ). Valid (candidates r) q → leftAfter (padded (chainOf r q)) (padded (map suc q)) (length q) ≡ common r q full) none (λ q h ih v. some q h v)
+  left-is =
+      by-last (λ (q : List ℕ). Valid (candidates r) q → leftAfter (padded (chainOf r q)) (padded (map suc q)) (length q) ≡ common r q full) none
+      (λ q h ih v. some q h v)
     where
       none : Valid (candidates r) [] → 2 ^ 64 - 1 ≡ common r [] full
       none v = sym full-is ∙ sym (common-none r full)
 
-      some : (q : List ℕ) (h : ℕ) → Valid (candidates r) (q ++ (h ∷ [])) → leftAfter (padded (chainOf r (q ++ (h ∷ [])))) (padded (map suc (q ++ (h ∷ [])))) (length (q ++ (h ∷ []))) ≡ common r (q ++ (h ∷ [])) full
+      some : (q : List ℕ) (h : ℕ) → Valid (candidates r) (q ++ (h ∷ []))
+          → leftAfter (padded (chainOf r (q ++ (h ∷ [])))) (padded (map suc (q ++ (h ∷ [])))) (length (q ++ (h ∷ []))) ≡ common r (q ++ (h ∷ [])) full
       some q h v =
           let z : eqb (length (q ++ (h ∷ []))) 0 ≡ false = ne-eqb (length (q ++ (h ∷ []))) 0 (λ d. omega (arith, length-snoc q h)) in
           let e : suc h - 1 ≡ h = omega arith in
-          rw z (ap (λ (i : ℕ). getD (padded (chainOf r (q ++ (h ∷ [])))) (i - 1) 0) (number-last q h) ∙ ap (λ (i : ℕ). getD (padded (chainOf r (q ++ (h ∷ [])))) i 0) e
+          rw z (ap (λ (i : ℕ). getD (padded (chainOf r (q ++ (h ∷ [])))) (i - 1) 0) (number-last q h)
+          ∙ ap (λ (i : ℕ). getD (padded (chainOf r (q ++ (h ∷ [])))) i 0) e
           ∙ left-last q h (mem-candidates r q h .0 (valid-kid (candidates r) q h v)))
 
   pub number-is : (q : List ℕ) → Valid (candidates r) q → NumberAt (padded (map suc q)) (length q)
-  number-is = by-last (λ (q : List ℕ). Valid (candidates r) q → NumberAt (padded (map suc q)) (length q)) (λ v. (omega arith, λ l. absurd (omega arith))) (λ q h ih v.
+  number-is =
+      by-last (λ (q : List ℕ). Valid (candidates r) q → NumberAt (padded (map suc q)) (length q)) (λ v. (omega arith, λ l. absurd (omega arith))) (λ q h ih v.
       let cand : Cand r q h = mem-candidates r q h .0 (valid-kid (candidates r) q h v) in (
         omega (arith, length-snoc q h, few-picks r q h (valid-up (candidates r) q h v) cand, ok .few),
         λ l. (omega (arith, number-last q h), omega (arith, number-last q h, cand .below, ok .few)),
@@ -128,7 +134,9 @@ module _ (r u c k : List ℕ) (ok : Rows r) where
     pub room : length (x .picks) < 64
     room = omega (arith, few-picks r (x .picks) g v cand, ok .few)
 
-    pub holds-pick : (v′ : ℕ) → HoldsAt r (set u g 0) (set c g (bitAnd (row u g) (s .left))) (set k (s .count) (g + 1)) (spotDown (s .count + 1) v′ (bitAnd (row u g) (s .left))) (at (x .picks ++ (g ∷ [])) Down)
+    pub holds-pick : (v′ : ℕ)
+        → HoldsAt r (set u g 0) (set c g (bitAnd (row u g) (s .left))) (set k (s .count) (g + 1)) (spotDown (s .count + 1) v′ (bitAnd (row u g) (s .left)))
+        (at (x .picks ++ (g ∷ [])) Down)
     unfolding meet
     holds-pick v′ = record {
       after = after-pick r (x .picks) u (s .left) g (is-false (isIn g (x .picks)) (cand .fresh)) (omega (arith, h .size, cand .below, ok .few)) (h .after);
@@ -171,7 +179,8 @@ module _ (r u c k : List ℕ) (ok : Rows r) where
 
     chain-after : set c g 0 ≡ padded (chainOf r q)
     chain-after =
-        ap (λ (l : List ℕ). set l g 0) (old .chained ∙ ap padded (chainOf-snoc r q g (cand .fresh) (cand .below)) ∙ sym (pad-set (chainOf r q) g (remainder r q g) (omega (arith, length-chainOf r q, cand .below))))
+        ap (λ (l : List ℕ). set l g 0) (old .chained ∙ ap padded (chainOf-snoc r q g (cand .fresh) (cand .below))
+        ∙ sym (pad-set (chainOf r q) g (remainder r q g) (omega (arith, length-chainOf r q, cand .below))))
         ∙ set-set (padded (chainOf r q)) g (remainder r q g) 0
         ∙ ap (set (padded (chainOf r q)) g) (sym (pad-getD (chainOf r q) g ∙ row-unpicked r q g (cand .fresh)))
         ∙ set-getD (padded (chainOf r q)) g 0
@@ -179,12 +188,16 @@ module _ (r u c k : List ℕ) (ok : Rows r) where
     picks-after : set k (length q) 0 ≡ padded (map suc q)
     picks-after =
         ap (λ (l : List ℕ). set l (length q) 0) (old .picked ∙ ap padded (numbers-snoc q g))
-        ∙ ap (λ (i : ℕ). set (padded (map suc q ++ (suc g ∷ []))) i 0) (sym (length-numbers q)) ∙ pad-unsnoc (map suc q) (suc g) (omega (arith, length-numbers q, few))
+        ∙ ap (λ (i : ℕ). set (padded (map suc q ++ (suc g ∷ []))) i 0) (sym (length-numbers q))
+        ∙ pad-unsnoc (map suc q) (suc g) (omega (arith, length-numbers q, few))
 
     pub holds-back : (v′ left : ℕ) → left ≡ common r q full
-        → HoldsAt r (set u g (row r g)) (set c g 0) (set k (length q) 0) (record { count = length q; unpicked = v′; left = left; mode = modeBack (suc g) }) (at q (Back g))
+        → HoldsAt r (set u g (row r g)) (set c g 0) (set k (length q) 0) (record { count = length q; unpicked = v′; left = left; mode = modeBack (suc g) })
+        (at q (Back g))
     holds-back v′ left l = record {
-      after = subst (After r q (set u g (row r g))) (sym l) (after-unpick r q u (s .left) g (is-false (isIn g q) (cand .fresh)) (omega (arith, h .size, cand .below, ok .few)) (old .after));
+      after =
+          subst (After r q (set u g (row r g))) (sym l) (after-unpick r q u (s .left) g (is-false (isIn g q) (cand .fresh))
+          (omega (arith, h .size, cand .below, ok .few)) (old .after));
       size = length-set u g (row r g) ∙ h .size;
       chained = chain-after;
       picked = picks-after;

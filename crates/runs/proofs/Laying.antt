@@ -1,5 +1,5 @@
 -- The chain of picks that were made again, laid pick by pick: each has what is left of its row, and leaves that.
-use mathlib.Core.Path.{_≡_, refl, sym, ap, ap₂, _∙_}
+use mathlib.Core.Path.{_≡_, sym, ap, ap₂, _∙_}
 use mathlib.Core.List.{List, [], _∷_, _++_, map}
 use Prim.Native.Nat.{ℕ, suc, _+_, _-_, _^_, _≤_, _<_}
 use native.Mathlib.Numerals.{add-one}
@@ -12,12 +12,12 @@ use Rattle.sets.proofs.Order.{meet-comm}
 use Rattle.table.specs.Pairs.{row}
 use Rattle.table.specs.Tables.{padded}
 use Rattle.rules.proofs.Trees.{valid-kid}
-use Rattle.lists.specs.Picks.{common, remainder, candidates}
+use Rattle.lists.specs.Picks.{common, candidates}
 use Rattle.lists.specs.OnTable.{chainOf}
 use Rattle.lists.proofs.Candidates.{Cand, mem-candidates}
 use Rattle.lists.proofs.CandidateTree.{candidate-tree}
 use Rattle.lists.proofs.Remainders.{common-snoc, remainder-left}
-use Rattle.search.proofs.AfterPicks.{full, Rows}
+use Rattle.search.proofs.AfterPicks.{full}
 use Rattle.search.proofs.ChainArrays.{chain-none, chain-pick}
 use Rattle.replay.proofs.Numbers.{getD-numbers, places-numbers, valid-next}
 use Rattle.runs.specs.private.Working.{Sized, placesOf, Laying}
@@ -69,9 +69,13 @@ module _ (n : ℕ) (rows c₀ k : List ℕ) (count : ℕ) (z : Sized n rows) (h 
     unfolding meet
     laid-more number e = rw place (record {
       most = omega arith;
-      chained = chain-pick r (take i (h .picks)) c g (meet (row rows g) left) cand (d .chained) (own-is ∙ sym (remainder-left r full (take i (h .picks)) g (side-rows n rows z .inside g)))
+      chained =
+          chain-pick r (take i (h .picks)) c g (meet (row rows g) left) cand (d .chained)
+          (own-is ∙ sym (remainder-left r full (take i (h .picks)) g (side-rows n rows z .inside g)))
           ∙ ap (λ (p : List ℕ). padded (chainOf r p)) (sym next);
-      remains = own-is ∙ meet-comm (row r g) (common r (take i (h .picks)) full) ∙ sym (common-snoc r (take i (h .picks)) g full) ∙ ap (λ (p : List ℕ). common r p full) (sym next);
+      remains =
+          own-is ∙ meet-comm (row r g) (common r (take i (h .picks)) full) ∙ sym (common-snoc r (take i (h .picks)) g full)
+          ∙ ap (λ (p : List ℕ). common r p full) (sym next);
     })
       where
         place : number - 1 ≡ g

@@ -1,8 +1,8 @@
 -- Picks in an array of 64: one more at the first zero, and the last one cleared. Laws of a list with zeros behind it are in crate `table`,
 -- proofs/Padding.antt; picks by number and by place in crate `replay`, proofs/Numbers.antt.
-use mathlib.Core.Path.{_≡_, refl, sym, ap, ap₂, _∙_}
-use mathlib.Core.List.{List, [], _∷_, _++_, map}
-use Prim.Native.Nat.{ℕ, suc, _+_, _-_, _<_}
+use mathlib.Core.Path.{_≡_, refl, sym, ap, _∙_}
+use mathlib.Core.List.{List, [], _∷_, _++_}
+use Prim.Native.Nat.{ℕ, suc, _-_, _<_}
 use native.Mathlib.Decide.{ℕ-discrete, decLt}
 use native.Mathlib.Omega.{arith}
 use lib.ListN.{length, getD, set, take, replicate, length-append, length-set, List·getD-append, List·getD-eq-default}
@@ -16,7 +16,8 @@ length-one xs a = omega (arith, length-append xs (a ∷ []))
 -- an entry more, at the first zero
 pub pad-snoc : (xs : List ℕ) (a : ℕ) → length xs < 64 → set (padded xs) (length xs) a ≡ padded (xs ++ (a ∷ []))
 pad-snoc xs a h =
-    pad-ext (set (padded xs) (length xs) a) (xs ++ (a ∷ [])) (length-set (padded xs) (length xs) a ∙ pad-length xs (omega arith)) (omega (arith, length-one xs a)) (λ i.
+    pad-ext (set (padded xs) (length xs) a) (xs ++ (a ∷ [])) (length-set (padded xs) (length xs) a ∙ pad-length xs (omega arith))
+    (omega (arith, length-one xs a)) (λ i.
     go i (ℕ-discrete i (length xs)) (decLt i (length xs)))
   where
     go : (i : ℕ) → Dec (i ≡ length xs) → Dec (i < length xs) → getD (set (padded xs) (length xs) a) i 0 ≡ getD (xs ++ (a ∷ [])) i 0
@@ -31,7 +32,8 @@ pad-snoc xs a h =
 -- and the last entry cleared
 pub pad-unsnoc : (xs : List ℕ) (a : ℕ) → length xs < 64 → set (padded (xs ++ (a ∷ []))) (length xs) 0 ≡ padded xs
 pad-unsnoc xs a h =
-    pad-ext (set (padded (xs ++ (a ∷ []))) (length xs) 0) xs (length-set (padded (xs ++ (a ∷ []))) (length xs) 0 ∙ pad-length (xs ++ (a ∷ [])) (omega (arith, length-one xs a))) (omega arith) (λ i.
+    pad-ext (set (padded (xs ++ (a ∷ []))) (length xs) 0) xs
+    (length-set (padded (xs ++ (a ∷ []))) (length xs) 0 ∙ pad-length (xs ++ (a ∷ [])) (omega (arith, length-one xs a))) (omega arith) (λ i.
     go i (ℕ-discrete i (length xs)) (decLt i (length xs)))
   where
     go : (i : ℕ) → Dec (i ≡ length xs) → Dec (i < length xs) → getD (set (padded (xs ++ (a ∷ []))) (length xs) 0) i 0 ≡ getD xs i 0
@@ -41,7 +43,8 @@ pad-unsnoc xs a h =
         ∙ sym (List·getD-eq-default xs 0 (omega arith))
     go i (no e) (yes l) = getD-set-other (padded (xs ++ (a ∷ []))) (length xs) i 0 0 e ∙ pad-getD (xs ++ (a ∷ [])) i ∙ List·getD-append xs (a ∷ []) 0 i l
     go i (no e) (no l) =
-        getD-set-other (padded (xs ++ (a ∷ []))) (length xs) i 0 0 e ∙ pad-getD (xs ++ (a ∷ [])) i ∙ List·getD-eq-default (xs ++ (a ∷ [])) 0 (omega (arith, length-one xs a))
+        getD-set-other (padded (xs ++ (a ∷ []))) (length xs) i 0 0 e ∙ pad-getD (xs ++ (a ∷ [])) i
+        ∙ List·getD-eq-default (xs ++ (a ∷ [])) 0 (omega (arith, length-one xs a))
         ∙ sym (List·getD-eq-default xs 0 (omega arith))
 
 -- ---- the front of the array, and the last entry

@@ -2,7 +2,7 @@
 -- read alike. For `Called` two steps that are not different are equal, since each field of a step is decided.
 use mathlib.Core.Path.{_≡_, refl, sym, ap, ap₂, _∙_}
 use mathlib.Core.List.{List, [], _∷_, List-discrete}
-use Prim.Native.Nat.{ℕ, _<_}
+use Prim.Native.Nat.{ℕ}
 use native.Mathlib.Decide.{ℕ-discrete}
 use native.Mathlib.Omega.{arith}
 use lib.ListN.{getD}
@@ -10,8 +10,6 @@ use Rattle.table.specs.Tables.{chainRows, tableRefusal}
 use Rattle.refusals.specs.Answers.{Answer as Reading}
 use Rattle.table.specs.declared.Table.{Table}
 use Rattle.table.specs.declared.Chain.{Chain}
-use Rattle.table.specs.declared.Gauge.{Gauge}
-use Rattle.table.specs.declared.Case.{Case}
 use Rattle.refusals.specs.declared.Verdict.{Verdict}
 use Rattle.refusals.proofs.Answering.{named, named-number, verdict-injective}
 use Rattle.rules.specs.Machine.{Phase, Down, Handed, Back, Ended, State}
@@ -78,13 +76,16 @@ phase-of (Back g) = refl
 phase-of Ended = refl
 
 -- ---- records, field by field
-table-same : (g h c d : ℕ) (r q : List ℕ) → g ≡ h → c ≡ d → r ≡ q → _≡_ {A = Table} (record { gauges = g; cases = c; rows = r }) (record { gauges = h; cases = d; rows = q })
+table-same : (g h c d : ℕ) (r q : List ℕ) → g ≡ h → c ≡ d → r ≡ q
+    → _≡_ {A = Table} (record { gauges = g; cases = c; rows = r }) (record { gauges = h; cases = d; rows = q })
 table-same g h c d r q a b e = rw (a, b, e)
 
-value-same : (t u : Table) (p q : List ℕ) (n m : ℕ) (f e : Phase) → t ≡ u → p ≡ q → n ≡ m → f ≡ e → _≡_ {A = Value} (record { table = t; picks = p; count = n; phase = f }) (record { table = u; picks = q; count = m; phase = e })
+value-same : (t u : Table) (p q : List ℕ) (n m : ℕ) (f e : Phase) → t ≡ u → p ≡ q → n ≡ m → f ≡ e
+    → _≡_ {A = Value} (record { table = t; picks = p; count = n; phase = f }) (record { table = u; picks = q; count = m; phase = e })
 value-same t u p q n m f e a b c d = rw (a, b, c, d)
 
-step-same : (a b : Reply) (k l : ℕ) (c d : Chain) (v w : Value) → a ≡ b → k ≡ l → c ≡ d → v ≡ w → _≡_ {A = Step} (record { answer = a; moves = k; chain = c; next = v }) (record { answer = b; moves = l; chain = d; next = w })
+step-same : (a b : Reply) (k l : ℕ) (c d : Chain) (v w : Value) → a ≡ b → k ≡ l → c ≡ d → v ≡ w
+    → _≡_ {A = Step} (record { answer = a; moves = k; chain = c; next = v }) (record { answer = b; moves = l; chain = d; next = w })
 step-same a b k l c d v w x y z u = rw (x, y, z, u)
 
 -- two steps that are not different are equal
@@ -162,11 +163,14 @@ gauge-value-injective = injective gaugeValue gaugeRunOf gauge-run-of
 
 pub gauge-started-injective : (s z : GaugeStart) → gaugeStarted s ≡ gaugeStarted z → s ≡ z
 gauge-started-injective s z e =
-    ap₂ (λ (v : Verdict) (p : GaugeRun). record { verdict = v; run = p }) (verdict-injective (s .verdict) (z .verdict) (ap (λ (a : Reading Value). a .refusal) e)) (gauge-value-injective (s .run) (z .run) (ap (λ (a : Reading Value). a .value) e))
+    ap₂ (λ (v : Verdict) (p : GaugeRun). record { verdict = v; run = p })
+    (verdict-injective (s .verdict) (z .verdict) (ap (λ (a : Reading Value). a .refusal) e))
+    (gauge-value-injective (s .run) (z .run) (ap (λ (a : Reading Value). a .value) e))
 
 pub gauge-step-injective : (r q : GaugeStep) → gaugeStep r ≡ gaugeStep q → r ≡ q
 gauge-step-injective = injective gaugeStep (λ s. record { outcome = outcomeOf (s .answer); moves = s .moves; chain = s .chain; next = gaugeRunOf (s .next) })
-    (λ r. ap₂ (λ (o : Outcome) (p : GaugeRun). record { outcome = o; moves = r .moves; chain = r .chain; next = p }) (outcome-of (r .outcome) (chainRows (r .chain))) (gauge-run-of (r .next)))
+    (λ r. ap₂ (λ (o : Outcome) (p : GaugeRun). record { outcome = o; moves = r .moves; chain = r .chain; next = p })
+    (outcome-of (r .outcome) (chainRows (r .chain))) (gauge-run-of (r .next)))
 
 -- ---- the case run
 casePhaseOf : Phase → CasePhase
@@ -193,11 +197,14 @@ case-value-injective = injective caseValue caseRunOf case-run-of
 
 pub case-started-injective : (s z : CaseStart) → caseStarted s ≡ caseStarted z → s ≡ z
 case-started-injective s z e =
-    ap₂ (λ (v : Verdict) (p : CaseRun). record { verdict = v; run = p }) (verdict-injective (s .verdict) (z .verdict) (ap (λ (a : Reading Value). a .refusal) e)) (case-value-injective (s .run) (z .run) (ap (λ (a : Reading Value). a .value) e))
+    ap₂ (λ (v : Verdict) (p : CaseRun). record { verdict = v; run = p })
+    (verdict-injective (s .verdict) (z .verdict) (ap (λ (a : Reading Value). a .refusal) e))
+    (case-value-injective (s .run) (z .run) (ap (λ (a : Reading Value). a .value) e))
 
 pub case-step-injective : (r q : CaseStep) → caseStep r ≡ caseStep q → r ≡ q
 case-step-injective = injective caseStep (λ s. record { outcome = outcomeOf (s .answer); moves = s .moves; chain = s .chain; next = caseRunOf (s .next) })
-    (λ r. ap₂ (λ (o : Outcome) (p : CaseRun). record { outcome = o; moves = r .moves; chain = r .chain; next = p }) (outcome-of (r .outcome) (chainRows (r .chain))) (case-run-of (r .next)))
+    (λ r. ap₂ (λ (o : Outcome) (p : CaseRun). record { outcome = o; moves = r .moves; chain = r .chain; next = p })
+    (outcome-of (r .outcome) (chainRows (r .chain))) (case-run-of (r .next)))
 
 -- ---- so a run call has one answer
 pub gauge-call-unique : (v : Value) (b : ℕ) (r q : GaugeStep) → Called gaugeSide v b (gaugeStep r) → Called gaugeSide v b (gaugeStep q) → r ≡ q

@@ -21,7 +21,7 @@ use Rattle.lists.specs.Picks.{candidates}
 use Rattle.lists.specs.OnTable.{chainOf, handOut, callOn}
 use Rattle.lists.proofs.BothSides.{Fair}
 use Rattle.runs.specs.Paused.{Value, paused}
-use Rattle.runs.specs.Calling.{Step, outcome, refusal, byRules, told, PausedAt, Called, CarriesDemand}
+use Rattle.runs.specs.Calling.{Step, outcome, refusal, byRules, told, Called, CarriesDemand}
 use Rattle.runs.specs.private.Working.{modePhase, StandsFor, Went, CarriesOn, nextOf, stepBy}
 use Rattle.runs.specs.declared.Outcome.{Outcome}
 use Rattle.runs.specs.declared.Outcome.the-variants.{HandedOut, Spent, End, Refused}
@@ -41,7 +41,8 @@ abbrev pub OneOf : List ℕ → ℕ → Type 0
 OneOf ks k = types.Run.OneOf ks k
 
 -- the report of moves as the public answer
-by-moves : (t : Table) (o : Report) (k rows x : List ℕ) (y : State) (oc : Outcome) → (oc ≡ HandedOut → (rows ≡ padded x) × (length x ≡ t .gauges)) → nextOf t o k ≡ paused t y
+by-moves : (t : Table) (o : Report) (k rows x : List ℕ) (y : State) (oc : Outcome) → (oc ≡ HandedOut → (rows ≡ padded x) × (length x ≡ t .gauges))
+    → nextOf t o k ≡ paused t y
     → stepBy t o k rows oc ≡ byRules t (outcome oc x) (o .moves) y
 by-moves t o k rows x y HandedOut e w = let (a, n) = e refl in rw (a, w, take-padded x (t .gauges) (sym n))
 by-moves t o k rows x y Spent e w = rw w
@@ -75,11 +76,13 @@ module _ (side : Table → Side) (v : Value) (b n : ℕ) (R : List ℕ) (m : Mod
     where
       by-rules : (s : State) → StandsFor (side t .rows) (v .picks) (v .count) (v .phase) s → Dec (b ≤ mostBudget) → r ≡ told t (callOn (side t) b s)
       by-rules s l (no y) =
-          e ∙ ap (stepBy t o k′ rows) (carries .large s l (omega arith)) ∙ sym (ap (told t) (call-above (candidates (side t .rows)) (handOut (side t)) b s (omega arith)))
+          e ∙ ap (stepBy t o k′ rows) (carries .large s l (omega arith))
+          ∙ sym (ap (told t) (call-above (candidates (side t .rows)) (handOut (side t)) b s (omega arith)))
       by-rules s l (yes y) =
           let w : Went (side t .rows) b s c′ k′ o = carries .moves s l y in
           e
-          ∙ by-moves t o k′ rows (handOut (side t) (w .to .picks)) (w .to) (o .outcome) (λ d. let a = chain d (w .to .picks) (w .chained) in (a .rows-are, a .size))
+          ∙ by-moves t o k′ rows (handOut (side t) (w .to .picks)) (w .to) (o .outcome)
+          (λ d. let a = chain d (w .to .picks) (w .chained) in (a .rows-are, a .size))
           (value-of (w .to) (w .stands))
           ∙ sym (ap (told t) (call-within (candidates (side t .rows)) (handOut (side t)) b s y ∙ w .comes (handOut (side t))))
         where
@@ -99,9 +102,20 @@ module _ (side : Table → Side) (v : Value) (b n : ℕ) (R : List ℕ) (m : Mod
     next = record { table = t; picks = k′; count = o .spot .count; phase = f }
 
     pub call-handed : (rows : List ℕ) → o .outcome ≡ HandedOut → ((p : List ℕ) → c′ ≡ padded (chainOf (side t .rows) p) → Ladder t (side t) p rows)
-        → Called side v b (record { answer = handed (take (t .gauges) rows); moves = o .moves; chain = record { gauges = t .gauges; rows = rows }; next = next })
+        → Called side v b (record {
+          answer = handed (take (t .gauges) rows);
+          moves = o .moves;
+          chain = record { gauges = t .gauges; rows = rows };
+          next = next;
+        })
     call-handed rows e chain =
-        call-answer rows (λ x. chain) (record { answer = handed (take (t .gauges) rows); moves = o .moves; chain = record { gauges = t .gauges; rows = rows }; next = next })
+        call-answer rows (λ x. chain) (record {
+          answer = handed
+              (take (t .gauges) rows);
+          moves = o .moves;
+          chain = record { gauges = t .gauges; rows = rows };
+          next = next;
+        })
         (rw ef (sym (ap (stepBy t o k′ rows) e)))
 
     pub call-other : (c : Chain) → c ≡ blankChain → OneOf (0 ∷ 1 ∷ 2 ∷ []) (tag (o .outcome)) → OneOf (1 ∷ 2 ∷ 3 ∷ []) (tag (o .outcome))
@@ -121,6 +135,7 @@ module _ (side : Table → Side) (v : Value) (b n : ℕ) (R : List ℕ) (m : Mod
         as-step (Refused why) a d = ⊎-elim (λ i. absurd (omega arith)) (λ j. ⊎-elim (λ i. absurd (omega arith)) (λ i. absurd (omega arith)) j) a
 
 -- an answer that is what `Called` says carries demand 3 on
-pub promise : (side : Table → Side) (v : Value) (b : ℕ) (r : Step) → (tableRefusal (v .table) ≡ 0 → Legal (v .table) × Fair (v .table) (side (v .table))) → Called side v b r
+pub promise : (side : Table → Side) (v : Value) (b : ℕ) (r : Step) → (tableRefusal (v .table) ≡ 0 → Legal (v .table) × Fair (v .table) (side (v .table)))
+    → Called side v b r
     → Called side v b r × CarriesDemand side v b r
 promise side v b r f h = (h, carries-demand side v b r f h)

@@ -2,7 +2,7 @@
 -- table with its sides exchanged; and the chain of the picks by gauge rows, as each side shows it (`gauge-chain`, `case-chain`).
 use mathlib.Core.Path.{_≡_, refl, sym, ap, ap₂, _∙_}
 use mathlib.Core.List.{List}
-use Prim.Native.Nat.{ℕ, _-_, _^_, _≤_, _<_, min}
+use Prim.Native.Nat.{ℕ, _^_, _≤_, _<_, min}
 use native.Mathlib.Decide.{decLt}
 use native.Mathlib.Omega.{arith}
 use lib.Dec.{not-T}
@@ -23,46 +23,49 @@ use Rattle.transpose.specs.Transposing.{column, transpose, transposeTable}
 use Rattle.table.specs.Tables.{Legal, tableRows, padded}
 use Rattle.table.specs.declared.Table.{Table}
 use Rattle.table.proofs.Places.{row-past}
-use Rattle.transpose.proofs.Transposition.{bit-column, length-transpose, cases-transpose, cases-within}
+use Rattle.transpose.proofs.Transposition.{bit-column, length-transpose}
 use Rattle.table.proofs.Legality.{length-rows, legal-cases}
 use Rattle.transpose.proofs.Sides.{rows-exchanged, exchanged-legal}
-use Rattle.rules.specs.Machine.{Phase, State}
 use Rattle.lists.specs.Lists.{Side, gaugeSide, caseSide}
 use Rattle.lists.specs.OnTable.{chainOf, handOut}
-use Rattle.lists.proofs.ChainRows.{length-chainOf, chainOf-within}
-use Rattle.runs.specs.Paused.{Value, paused}
-use Rattle.runs.specs.Calling.{outcome, byRules}
+use Rattle.lists.proofs.ChainRows.{length-chainOf}
 use Rattle.turn.specs.Places.{places}
 use Rattle.turn.proofs.Columns.{places-padded}
 use Rattle.runs.specs.private.Working.{Sized}
-use Rattle.runs.proofs.Padding.{take-padded}
 
 -- a legal table's rows are sized
 legal-sized : (t : Table) → Legal t → Sized (t .gauges) (t .rows)
 legal-sized t l = record {
   few = l .gauges-high;
   size = l .rows-length;
-  inside = λ i. subset-is (row (t .rows) i) (lowest 64) (below-lowest (row (t .rows) i) 64 (omega arith) ∙ lt-ltb (row (t .rows) i) (2 ^ 64) (omega (arith, l .rows-bits i, pow-mono (l .cases-high))));
+  inside =
+      λ i. subset-is (row (t .rows) i) (lowest 64) (below-lowest (row (t .rows) i) 64 (omega arith)
+      ∙ lt-ltb (row (t .rows) i) (2 ^ 64) (omega (arith, l .rows-bits i, pow-mono (l .cases-high))));
   rest = l .rows-rest;
 }
 
 -- ---- the square of 64 by 64, and a set's own shape
 padded-column : (x : List ℕ) (k : ℕ) → column (padded x) k ≡ column x k
-padded-column x k = eq-of-bits (column (padded x) k) (column x k) (λ i. bit-column (padded x) k i ∙ ap (λ (r : ℕ). bit r k) (pad-getD x i) ∙ sym (bit-column x k i))
+padded-column x k =
+    eq-of-bits (column (padded x) k) (column x k) (λ i. bit-column (padded x) k i ∙ ap (λ (r : ℕ). bit r k) (pad-getD x i) ∙ sym (bit-column x k i))
 
 transpose-padded : (g : ℕ) (x : List ℕ) → g ≤ 64 → Cases g x → transpose 64 (padded x) ≡ padded (transpose g x)
 unfolding transpose
 transpose-padded g x h cs =
-    pad-ext (transpose 64 (padded x)) (transpose g x) (length-transpose 64 (padded x)) (omega (arith, length-transpose g x)) (λ k. go k (decLt k 64) (decLt k g))
+    pad-ext (transpose 64 (padded x)) (transpose g x) (length-transpose 64 (padded x)) (omega (arith, length-transpose g x))
+    (λ k. go k (decLt k 64) (decLt k g))
   where
     empty : (k : ℕ) → ¬ (k < g) → column x k ≡ 0
     empty k n = eq-of-bits (column x k) 0 (λ i. bit-column x k i ∙ is-false (bit (row x i) k) (not-T (bit (row x i) k) (λ b. n (cs i k b))) ∙ sym (none-in i))
 
     go : (k : ℕ) → Dec (k < 64) → Dec (k < g) → getD (transpose 64 (padded x)) k 0 ≡ getD (transpose g x) k 0
     go k (yes a) (yes b) = getD-tabulate (column (padded x)) 64 k a ∙ padded-column x k ∙ sym (getD-tabulate (column x) g k b)
-    go k (yes a) (no b) = getD-tabulate (column (padded x)) 64 k a ∙ padded-column x k ∙ empty k b ∙ sym (row-past (transpose g x) k (omega (arith, length-transpose g x)))
+    go k (yes a) (no b) =
+        getD-tabulate (column (padded x)) 64 k a ∙ padded-column x k ∙ empty k b ∙ sym (row-past (transpose g x) k (omega (arith, length-transpose g x)))
     go k (no a) (yes b) = absurd (omega arith)
-    go k (no a) (no b) = row-past (transpose 64 (padded x)) k (omega (arith, length-transpose 64 (padded x))) ∙ sym (row-past (transpose g x) k (omega (arith, length-transpose g x)))
+    go k (no a) (no b) =
+        row-past (transpose 64 (padded x)) k (omega (arith, length-transpose 64 (padded x)))
+        ∙ sym (row-past (transpose g x) k (omega (arith, length-transpose g x)))
 
 -- ---- a side as the core has it: the first n of the rows in the array R
 pub record Works (t : Table) (s : Side) (n : ℕ) (R : List ℕ) : Type 0 where
@@ -100,12 +103,14 @@ module _ (t : Table) (l : Legal t) where
           (ap (places (t .gauges)) table-padded ∙ places-padded (t .gauges) (tableRows t) (l .gauges-high) (length-rows t l))
           ∙ sym (ap (transpose 64) table-padded ∙ transpose-padded (t .cases) (tableRows t) (l .cases-high) (legal-cases t l))
 
-  pub case-chain : (p chain rows : List ℕ) → chain ≡ padded (chainOf (caseSide t .rows) p) → rows ≡ padded (transpose (min (t .gauges) 64) (places (t .cases) chain))
+  pub case-chain : (p chain rows : List ℕ) → chain ≡ padded (chainOf (caseSide t .rows) p)
+      → rows ≡ padded (transpose (min (t .gauges) 64) (places (t .cases) chain))
       → Ladder t (caseSide t) p rows
   case-chain p chain rows e d = record {
     rows-are =
         d
         ∙ ap₂ (λ (w : ℕ) (x : List ℕ). padded (transpose w x)) (min-eq-left (l .gauges-high))
-        (ap (places (t .cases)) e ∙ places-padded (t .cases) (chainOf (caseSide t .rows) p) (l .cases-high) (length-chainOf (caseSide t .rows) p ∙ length-transpose (t .cases) (tableRows t)));
+        (ap (places (t .cases)) e ∙ places-padded (t .cases) (chainOf (caseSide t .rows) p) (l .cases-high)
+        (length-chainOf (caseSide t .rows) p ∙ length-transpose (t .cases) (tableRows t)));
     size = length-transpose (t .gauges) (chainOf (caseSide t .rows) p);
   }

@@ -3,7 +3,7 @@
 use mathlib.Core.Path.{_≡_, refl, sym, ap, ap₂, _∙_, subst}
 use mathlib.Core.Bool.{Bool, cond}
 use mathlib.Core.List.{List, [], _∷_, _++_, head?, map}
-use Prim.Native.Nat.{ℕ, suc, _+_, _-_, _^_, _≤_, _<_, min}
+use Prim.Native.Nat.{ℕ, suc, _+_, _-_, _^_, _≤_, _<_}
 use native.Mathlib.Decide.{decLt}
 use native.Mathlib.Omega.{arith}
 use lib.Bits.{bitAnd}
@@ -69,7 +69,8 @@ module _ (n : ℕ) (rows c k : List ℕ) (s : Spot) (z : Sized n rows) (h : Hold
   valid = valid-back (candidates r) (x .picks) (modePhase (s .mode)) t (h .fits)
 
   -- no pick: the end
-  pub back-end : s .count ≡ 0 → Stepped n rows c k (takeBack (cutLast (x .picks))) (Over (record { count = 0; unpicked = s .unpicked; left = 2 ^ 64 - 1; mode = modeEnded }))
+  pub back-end : s .count ≡ 0
+      → Stepped n rows c k (takeBack (cutLast (x .picks))) (Over (record { count = 0; unpicked = s .unpicked; left = 2 ^ 64 - 1; mode = modeEnded }))
   back-end e =
       stepped-over n rows c k (takeBack (cutLast (x .picks))) (record { count = 0; unpicked = s .unpicked; left = 2 ^ 64 - 1; mode = modeEnded }) (at [] Ended)
       (record {
@@ -128,20 +129,25 @@ module _ (n : ℕ) (rows c k : List ℕ) (s : Spot) (z : Sized n rows) (h : Hold
               rw i (number-back r u c k (side-rows n rows z) s x h q g e valid)
 
       pub back-on : (v′ left : ℕ) → With (s .unpicked) g′ v′ → left ≡ leftAfter (set c g′ 0) (set k j 0) j
-          → Stepped n rows (set c g′ 0) (set k j 0) (takeBack (cutLast (x .picks))) (On (record { count = j; unpicked = v′; left = left; mode = modeBack number }))
+          → Stepped n rows (set c g′ 0) (set k j 0) (takeBack (cutLast (x .picks)))
+          (On (record { count = j; unpicked = v′; left = left; mode = modeBack number }))
       back-on v′ left ev el = go last
         where
-          go : Last → Stepped n rows (set c g′ 0) (set k j 0) (takeBack (cutLast (x .picks))) (On (record { count = j; unpicked = v′; left = left; mode = modeBack number }))
+          go : Last
+              → Stepped n rows (set c g′ 0) (set k j 0) (takeBack (cutLast (x .picks)))
+              (On (record { count = j; unpicked = v′; left = left; mode = modeBack number }))
           go (q, g, e) =
               let i : j ≡ length q = omega (arith, last-count r u c k (side-rows n rows z) s x h q g e valid) in
               let m : number ≡ suc g = en ∙ ap (λ (j : ℕ). getD k j 0) i ∙ last-number r u c k (side-rows n rows z) s x h q g e valid in
               let a : g′ ≡ g = omega arith in
               let b : g < n = omega (arith, last-below r u c k (side-rows n rows z) s x h q g e valid, side-length n rows z) in
               let w : getD rows g′ 0 ≡ row r g = ap (λ (y : ℕ). getD rows y 0) a ∙ sym (getD-take n rows g 0 b) in
-              let d : left ≡ common r q full = el ∙ ap₂ (λ (y b : ℕ). leftAfter (set c y 0) (set k b 0) b) a i ∙ left-back r u c k (side-rows n rows z) s x h q g e valid in
+              let d : left ≡ common r q full = el ∙ ap₂ (λ (y b : ℕ). leftAfter (set c y 0) (set k b 0) b) a i
+              ∙ left-back r u c k (side-rows n rows z) s x h q g e valid in
               let f : g′ < 64 = omega (arith, z .few) in
               let eu : within v′ rows ≡ set u g′ (getD rows g′ 0) = within-with (s .unpicked) g′ v′ rows f (ev .inside f) in
-              stepped-on n rows (set c g′ 0) (set k j 0) (takeBack (cutLast (x .picks))) (record { count = j; unpicked = v′; left = left; mode = modeBack number }) (at q (Back g))
+              stepped-on n rows (set c g′ 0) (set k j 0) (takeBack (cutLast (x .picks)))
+              (record { count = j; unpicked = v′; left = left; mode = modeBack number }) (at q (Back g))
               (rw (eu, w, a, i, m) (holds-back r u c k (side-rows n rows z) s x h q g e valid v′ left d))
               (ap (λ (p : List ℕ). takeBack (cutLast p)) e ∙ ap takeBack (cut-snoc q g))
 
@@ -165,17 +171,20 @@ module _ (n : ℕ) (rows c k : List ℕ) (s : Spot) (z : Sized n rows) (h : Hold
       sym (h .after .entry g ∙ ap (λ (y : Bool). cond y 0 (row side g)) (is-false (isIn g (now .picks)) (cand .fresh)) ∙ getD-take n rows g 0 b) in
       let eu : within (s′ .unpicked) rows ≡ set u′ g 0 = within-without (s .unpicked) g (s′ .unpicked) rows (omega (arith, z .few)) w in
       let ec′ : c′ ≡ set c g (bitAnd (row u′ g) (s .left)) = ec ∙ ap (λ (y : ℕ). set c g (bitAnd y (s .left))) er in
-      let es′ : s′ ≡ spotDown (s .count + 1) (s′ .unpicked) (bitAnd (row u′ g) (s .left)) = es ∙ ap (λ (y : ℕ). spotDown (s .count + 1) (s′ .unpicked) (bitAnd y (s .left))) er in
+      let es′ : s′ ≡ spotDown (s .count + 1) (s′ .unpicked) (bitAnd (row u′ g) (s .left)) = es
+      ∙ ap (λ (y : ℕ). spotDown (s .count + 1) (s′ .unpicked) (bitAnd y (s .left))) er in
       stepped-on n rows c′ k′ (move (candidates side) now) s′ (at (now .picks ++ (g ∷ [])) Down)
       (held s′ c′ k′ (within (s′ .unpicked) rows) eu ec′ ek es′ (holds-pick side u′ c k (side-rows n rows z) s now h v g cand (s′ .unpicked))) e
     where
       held : (s′ : Spot) (c′ k′ w : List ℕ) → w ≡ set u′ g 0 → c′ ≡ set c g (bitAnd (row u′ g) (s .left)) → k′ ≡ set k (s .count) (g + 1)
           → s′ ≡ spotDown (s .count + 1) (s′ .unpicked) (bitAnd (row u′ g) (s .left))
-          → HoldsAt side (set u′ g 0) (set c g (bitAnd (row u′ g) (s .left))) (set k (s .count) (g + 1)) (spotDown (s .count + 1) (s′ .unpicked) (bitAnd (row u′ g) (s .left))) (at (now .picks ++ (g ∷ [])) Down)
+          → HoldsAt side (set u′ g 0) (set c g (bitAnd (row u′ g) (s .left))) (set k (s .count) (g + 1))
+          (spotDown (s .count + 1) (s′ .unpicked) (bitAnd (row u′ g) (s .left))) (at (now .picks ++ (g ∷ [])) Down)
           → HoldsAt side w c′ k′ s′ (at (now .picks ++ (g ∷ [])) Down)
       held s′ c′ k′ w ew ec ek es o =
           subst (λ (y : Spot). HoldsAt side w c′ k′ y (at (now .picks ++ (g ∷ [])) Down)) (sym es)
-          (subst (λ (y : List ℕ). HoldsAt side y c′ k′ (spotDown (s .count + 1) (s′ .unpicked) (bitAnd (row u′ g) (s .left))) (at (now .picks ++ (g ∷ [])) Down)) (sym ew) (rw (ec, ek) o))
+          (subst (λ (y : List ℕ). HoldsAt side y c′ k′ (spotDown (s .count + 1) (s′ .unpicked) (bitAnd (row u′ g) (s .left)))
+          (at (now .picks ++ (g ∷ [])) Down)) (sym ew) (rw (ec, ek) o))
 
   module _ (from g : ℕ) (f : First (candidateIn u′ (s .left) 64) from 64 g) where
     found : g < 64 → Cand side (now .picks) g
@@ -192,16 +201,28 @@ module _ (n : ℕ) (rows c k : List ℕ) (s : Spot) (z : Sized n rows) (h : Hold
       pub down-room : g < 64 → (s .count < 64) × (g < 64)
       down-room l = (omega (arith, h .counted, room side u′ c k (side-rows n rows z) s now h down-valid g (found l)), l)
 
-      pub down-on : from ≡ 0 → g < 64 → (c′ k′ : List ℕ) (s′ : Spot) → Without (s .unpicked) g (s′ .unpicked) → c′ ≡ set c g (bitAnd (getD rows g 0) (s .left)) → k′ ≡ set k (s .count) (g + 1)
+      pub down-on : from ≡ 0 → g < 64 → (c′ k′ : List ℕ) (s′ : Spot) → Without (s .unpicked) g (s′ .unpicked)
+          → c′ ≡ set c g (bitAnd (getD rows g 0) (s .left)) → k′ ≡ set k (s .count) (g + 1)
           → s′ ≡ spotDown (s .count + 1) (s′ .unpicked) (bitAnd (getD rows g 0) (s .left)) → Stepped n rows c′ k′ (move (candidates side) now) (On s′)
       down-on z0 l =
           picked-on g down-valid (found l)
           (down-is ∙ ap (down (now .picks)) (lowest-found side (now .picks) u′ (s .left) (side-rows n rows z) (h .after) from g f z0 l))
 
-      pub down-out : from ≡ 0 → (g < 64 → ⊥) → Stepped n rows c k (move (candidates side) now) (Out (record { count = s .count; unpicked = s .unpicked; left = s .left; mode = modeHanded }))
+      pub down-out : from ≡ 0 → (g < 64 → ⊥)
+          → Stepped n rows c k (move (candidates side) now) (Out (record { count = s .count; unpicked = s .unpicked; left = s .left; mode = modeHanded }))
       down-out z0 l =
-          stepped-out n rows c k (move (candidates side) now) (record { count = s .count; unpicked = s .unpicked; left = s .left; mode = modeHanded }) (at (now .picks) Handed)
-          (record { after = h .after; size = h .size; chained = h .chained; picked = h .picked; counted = h .counted; phased = refl; fits = (down-valid, none) })
+          stepped-out n rows c k (move (candidates side) now) (record { count = s .count; unpicked = s .unpicked; left = s .left; mode = modeHanded })
+          (at (now .picks) Handed)
+          (record {
+            after = h .after;
+            size = h .size;
+            chained = h .chained;
+            picked = h .picked;
+            counted = h .counted;
+            phased = refl;
+            fits =
+                (down-valid, none);
+          })
           (down-is ∙ ap (λ (q : List ℕ). down (now .picks) (head? q)) none)
         where
           none : candidates side (now .picks) ≡ []
@@ -227,7 +248,8 @@ module _ (n : ℕ) (rows c k : List ℕ) (s : Spot) (z : Sized n rows) (h : Hold
       pub back-room : g < 64 → (s .count < 64) × (g < 64)
       back-room l = (omega (arith, h .counted, room side u′ c k (side-rows n rows z) s now h (back-fits .0) g (found l)), l)
 
-      pub back-pick : g < 64 → (c′ k′ : List ℕ) (s′ : Spot) → Without (s .unpicked) g (s′ .unpicked) → c′ ≡ set c g (bitAnd (getD rows g 0) (s .left)) → k′ ≡ set k (s .count) (g + 1)
+      pub back-pick : g < 64 → (c′ k′ : List ℕ) (s′ : Spot) → Without (s .unpicked) g (s′ .unpicked) → c′ ≡ set c g (bitAnd (getD rows g 0) (s .left))
+          → k′ ≡ set k (s .count) (g + 1)
           → s′ ≡ spotDown (s .count + 1) (s′ .unpicked) (bitAnd (getD rows g 0) (s .left)) → Stepped n rows c′ k′ (move (candidates side) now) (On s′)
       back-pick l =
           picked-on g (back-fits .0) (found l)
@@ -237,7 +259,8 @@ module _ (n : ℕ) (rows c k : List ℕ) (s : Spot) (z : Sized n rows) (h : Hold
       pub back-none : (g < 64 → ⊥) → move (candidates side) now ≡ takeBack (cutLast (now .picks))
       back-none l =
           back-is
-          ∙ ap (λ (q : List ℕ). back (now .picks) (head? q)) (above-none side (now .picks) u′ (s .left) (side-rows n rows z) (h .after) from g f (from - 1) number-low l)
+          ∙ ap (λ (q : List ℕ). back (now .picks) (head? q))
+          (above-none side (now .picks) u′ (s .left) (side-rows n rows z) (h .after) from g f (from - 1) number-low l)
 
   -- Handed: the last pick is taken back
   pub handed-is : s .mode ≡ modeHanded → move (candidates side) now ≡ takeBack (cutLast (now .picks))

@@ -118,4 +118,5 @@ Ends rs = (r : Step) × List·Memᴰ r rs × (r .answer ≡ end)
 -- the gauge run from v and the case run from w, each called on to its end, share one set
 abbrev pub SharesSet : Table → Value → Value → Type 0
 SharesSet t v w =
-    tableRefusal t ≡ 0 → (bs cs : List ℕ) (rs qs : List Step) → Calls gaugeSide v bs rs → Calls caseSide w cs qs → Ends rs → Ends qs → OneSet t (sets rs) (sets qs)
+    tableRefusal t ≡ 0 → (bs cs : List ℕ) (rs qs : List Step) → Calls gaugeSide v bs rs → Calls caseSide w cs qs → Ends rs → Ends qs
+    → OneSet t (sets rs) (sets qs)

@@ -13,12 +13,11 @@ ghost use Prim.Native.Nat.{_+_, _<_};
 ghost use lib.ListN.{length, take, set, getD};
 ghost use lib.Bits.{bitAnd};
 ghost use Rattle.table.specs.Tables.{noRows, padded, blankTable, blankChain};
-ghost use Rattle.rules.specs.Machine.{move as moved, takeBack, cutLast};
-ghost use Rattle.lists.specs.Picks.{candidates as candidatesOf};
+ghost use Rattle.rules.specs.Machine.{takeBack, cutLast};
 ghost use Rattle.lists.specs.OnTable.{chainOf};
 ghost use Rattle.search.specs.Finding.{within};
 ghost use Rattle.sets.specs.First.{Without};
-ghost use Rattle.runs.specs.private.Working.{Sized, Holds, Laying, stateOf, placesOf, modePhase, spotDown, Stepped, TakesBack, NumberAt, leftAfter, Advanced, Decides, filled as filledPlaces, PhaseIn, CarriesOn, refusedReport};
+ghost use Rattle.runs.specs.private.Working.{Sized, Holds, Laying, stateOf, placesOf, modePhase, spotDown, movedFrom, Stepped, TakesBack, NumberAt, leftAfter, Advanced, Decides, filled as filledPlaces, PhaseIn, CarriesOn, refusedReport};
 
 // "A run call has a budget from 0 to 1,000,000 moves" (01).
 const MOST_BUDGET: u64 = 1_000_000;
@@ -238,7 +237,7 @@ fn advance(
 // One move by rules 1 to 5.
 fn step(rows: &[u64; 64], n: usize, chain: &mut [u64; 64], picks: &mut [u8; 64], at: Spot) -> Moved
     requires { ⌜ (Sized n (now rows)) × (Holds n (now rows) (now chain) (now picks) at) ⌝ }
-    ensures { λ r. ⌜ Stepped n (now (rows .entry)) (now (chain .exit)) (now (picks .exit)) (moved (candidatesOf (take n (now (rows .entry)))) (stateOf (now (picks .entry)) at)) r ⌝ }
+    ensures { λ r. ⌜ Stepped n (now (rows .entry)) (now (chain .exit)) (now (picks .exit)) (movedFrom n (now (rows .entry)) (now (picks .entry)) at) r ⌝ }
 {
     let mode = at.mode;
     let count = at.count;

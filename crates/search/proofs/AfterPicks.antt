@@ -4,7 +4,7 @@ use mathlib.Core.Path.{_≡_, refl, sym, ap, ap₂, _∙_, subst, fun-ext}
 use mathlib.Core.Bool.{Bool, true, false, not, _&&_, _||_, cond}
 use mathlib.Core.Option.{some}
 use mathlib.Core.List.{List, [], _∷_, _++_, head?}
-use Prim.Native.Nat.{ℕ, suc, _+_, _≤_, _<_, min}
+use Prim.Native.Nat.{ℕ, suc, _≤_, _<_, min}
 use native.Mathlib.Nat.{min-eq-left}
 use native.Mathlib.Decide.{ℕ-discrete, decLt}
 use native.Mathlib.Omega.{arith}
@@ -79,7 +79,8 @@ module _ (r p unpicked : List ℕ) (left : ℕ) (ok : Rows r) (o : After r p unp
   -- the two tests of a place below agree
   agree : (g h : ℕ) → ¬ (remainder r p g ≡ 0) → not (blocks (remainder r p g) (remainderIn unpicked left h) (ltb h g)) ≡ not (rulesOut r p g h)
   unfolding blocks rulesOut isProperSubset
-  agree g h f = ap not (ap (λ (y : ℕ). isSubset x y && (not (eqb x y) || ltb h g)) (remains-in h) ∙ go (isIn h p) (isSubset x y) refl (eqb x y) refl (eqb y x) refl)
+  agree g h f =
+      ap not (ap (λ (y : ℕ). isSubset x y && (not (eqb x y) || ltb h g)) (remains-in h) ∙ go (isIn h p) (isSubset x y) refl (eqb x y) refl (eqb y x) refl)
     where
       x : ℕ
       x = remainder r p g
@@ -115,7 +116,8 @@ module _ (r p unpicked : List ℕ) (left : ℕ) (ok : Rows r) (o : After r p unp
       go : (c s : Bool) → isSubset x y ≡ s → (a : Bool) → eqb x y ≡ a → (b : Bool) → eqb y x ≡ b
           → (isSubset x (cond c 0 y) && (not (eqb x (cond c 0 y)) || ltb h g)) ≡ (not c && ((isSubset x y && not (eqb x y)) || (ltb h g && eqb y x)))
       go true s es a ea b eb = ap (λ (t : Bool). t && (not (eqb x 0) || ltb h g)) none
-      go false s es a ea b eb = bools (isSubset x y) (eqb x y) (eqb y x) (ltb h g) (ea ∙ flip a b ea eb ∙ sym eb) (λ e. is-subset x y (subst (λ (z : ℕ). x ⊆ z) (eqb-eq e) (self x)))
+      go false s es a ea b eb =
+          bools (isSubset x y) (eqb x y) (eqb y x) (ltb h g) (ea ∙ flip a b ea eb ∙ sym eb) (λ e. is-subset x y (subst (λ (z : ℕ). x ⊆ z) (eqb-eq e) (self x)))
         where
           eqb-eq : eqb y x ≡ true → x ≡ y
           eqb-eq e = sym (eqb-true y x e)
@@ -136,12 +138,16 @@ module _ (r p unpicked : List ℕ) (left : ℕ) (ok : Rows r) (o : After r p unp
       and-false false = refl
 
       empty : remainderIn unpicked left g ≡ 0
-          → (ltb g (min n 64) && (not (eqb (remainderIn unpicked left g) 0) && allBelow (λ h. not (blocks (remainderIn unpicked left g) (remainderIn unpicked left h) (ltb h g))) (min n 64))) ≡ false
-      empty e = ap (λ (b : Bool). ltb g (min n 64) && (not b && allBelow (λ h. not (blocks (remainderIn unpicked left g) (remainderIn unpicked left h) (ltb h g))) (min n 64))) (eq-eqb (remainderIn unpicked left g) 0 e) ∙ and-false (ltb g (min n 64))
+          → (ltb g (min n 64) && (not (eqb (remainderIn unpicked left g) 0) && allBelow
+          (λ h. not (blocks (remainderIn unpicked left g) (remainderIn unpicked left h) (ltb h g))) (min n 64))) ≡ false
+      empty e =
+          ap (λ (b : Bool). ltb g (min n 64) && (not b && allBelow (λ h. not (blocks (remainderIn unpicked left g) (remainderIn unpicked left h) (ltb h g)))
+          (min n 64))) (eq-eqb (remainderIn unpicked left g) 0 e) ∙ and-false (ltb g (min n 64))
 
       Goal : Type 0
       Goal =
-          (ltb g (min n 64) && (not (eqb (remainderIn unpicked left g) 0) && allBelow (λ h. not (blocks (remainderIn unpicked left g) (remainderIn unpicked left h) (ltb h g))) (min n 64)))
+          (ltb g (min n 64) && (not (eqb (remainderIn unpicked left g) 0) && allBelow
+          (λ h. not (blocks (remainderIn unpicked left g) (remainderIn unpicked left h) (ltb h g))) (min n 64)))
           ≡ (ltb g n && (not (isIn g p) && (not (eqb (remainder r p g) 0) && allBelow (λ h. not (rulesOut r p g h)) n)))
 
       inside : isIn g p ≡ false → g < n → Dec (remainder r p g ≡ 0) → Goal
@@ -160,7 +166,8 @@ module _ (r p unpicked : List ℕ) (left : ℕ) (ok : Rows r) (o : After r p unp
       go false e (yes l) = inside e l (ℕ-discrete (remainder r p g) 0)
       go false e (no l) =
           empty (remains-unpicked g e ∙ remainder-past r p g (omega arith))
-          ∙ sym (ap (λ (b : Bool). b && (not (isIn g p) && (not (eqb (remainder r p g) 0) && allBelow (λ h. not (rulesOut r p g h)) n))) (le-ltb g n (omega arith)))
+          ∙ sym (ap (λ (b : Bool). b && (not (isIn g p) && (not (eqb (remainder r p g) 0) && allBelow (λ h. not (rulesOut r p g h)) n)))
+          (le-ltb g n (omega arith)))
 
   -- the same where all 64 places are looked at: nothing stands past the table's
   pub candidate-wide : (g : ℕ) → candidateIn unpicked left 64 g ≡ candidate r p g
@@ -212,7 +219,8 @@ module _ (r p unpicked : List ℕ) (left : ℕ) (ok : Rows r) (o : After r p unp
     unfolding candidates
     above-found b z h =
         ap head? (above-select b (candidate r p) (length r))
-        ∙ head-select (λ i. ltb b i && candidate r p i) (length r) g (found-below h) (and-i (ltb b g) (candidate r p g) (lt→ltb b g (omega (arith, from-low h))) (found-candidate h)) (λ i l. above-low b z i l)
+        ∙ head-select (λ i. ltb b i && candidate r p i) (length r) g (found-below h)
+        (and-i (ltb b g) (candidate r p g) (lt→ltb b g (omega (arith, from-low h))) (found-candidate h)) (λ i l. above-low b z i l)
 
     pub above-none : (b : ℕ) → from ≡ suc b → (g < 64 → ⊥) → above b (candidates r p) ≡ []
     unfolding candidates
@@ -225,11 +233,13 @@ module _ (r p unpicked : List ℕ) (left g : ℕ) (new : isIn g p ≡ false) (l 
   pub after-pick : After r p unpicked left → After r (p ++ (g ∷ [])) (set unpicked g 0) (meet (row unpicked g) left)
   after-pick o = record {
     entry = λ i. go i (ℕ-discrete i g);
-    remains = ap₂ meet (o .entry g ∙ ap (λ (b : Bool). cond b 0 (row r g)) new) (o .remains) ∙ meet-comm (row r g) (common r p full) ∙ sym (common-snoc r p g full);
+    remains =
+        ap₂ meet (o .entry g ∙ ap (λ (b : Bool). cond b 0 (row r g)) new) (o .remains) ∙ meet-comm (row r g) (common r p full) ∙ sym (common-snoc r p g full);
   }
     where
       go : (i : ℕ) → Dec (i ≡ g) → row (set unpicked g 0) i ≡ cond (isIn i (p ++ (g ∷ []))) 0 (row r i)
-      go i (yes e) = ap (λ (j : ℕ). row (set unpicked g 0) j) e ∙ getD-set-same unpicked g 0 0 l ∙ sym (ap (λ (b : Bool). cond b 0 (row r i)) (snoc-hit p g i e))
+      go i (yes e) =
+          ap (λ (j : ℕ). row (set unpicked g 0) j) e ∙ getD-set-same unpicked g 0 0 l ∙ sym (ap (λ (b : Bool). cond b 0 (row r i)) (snoc-hit p g i e))
       go i (no e) = getD-set-other unpicked g i 0 0 e ∙ o .entry i ∙ sym (ap (λ (b : Bool). cond b 0 (row r i)) (snoc-miss p g i e))
 
   pub after-unpick : After r (p ++ (g ∷ [])) unpicked left → After r p (set unpicked g (row r g)) (common r p full)

@@ -46,7 +46,8 @@ past-places unpicked left n g most e h = rw (le-ltb g (min n 64) (omega arith))
 abbrev pub passes : List ℕ → ℕ → ℕ → ℕ → Bool
 passes unpicked left g i = not (blocks (remainderIn unpicked left g) (remainderIn unpicked left i) (ltb i g))
 
-pub turn-passes : (unpicked : List ℕ) (left g i : ℕ) (t : Bool) → t ≡ blocks (bitAnd (row unpicked g) left) (bitAnd (row unpicked i) left) (ltb i g) → t ≡ false → true ≡ passes unpicked left g i
+pub turn-passes : (unpicked : List ℕ) (left g i : ℕ) (t : Bool) → t ≡ blocks (bitAnd (row unpicked g) left) (bitAnd (row unpicked i) left) (ltb i g)
+    → t ≡ false → true ≡ passes unpicked left g i
 unfolding meet
 turn-passes unpicked left g i t e d = ap not (sym d ∙ e)
 
@@ -62,7 +63,8 @@ module _ (unpicked : List ℕ) (left n g most : ℕ) (m : most ≡ min n 64) (h 
   unfolding candidateIn meet
   candidate-by e = rw (lt-ltb g (min n 64) (omega arith), ne-eqb own 0 e)
 
-  pub blocked : (own ≡ 0 → ⊥) → (i : ℕ) (t : Bool) → i < most → t ≡ blocks own (bitAnd (row unpicked i) left) (ltb i g) → t ≡ true → false ≡ candidateIn unpicked left n g
+  pub blocked : (own ≡ 0 → ⊥) → (i : ℕ) (t : Bool) → i < most → t ≡ blocks own (bitAnd (row unpicked i) left) (ltb i g) → t ≡ true
+      → false ≡ candidateIn unpicked left n g
   unfolding meet
   blocked e i t l d s = all-fails (passes unpicked left g) (min n 64) i false (omega arith) (ap not (sym s ∙ d)) refl ∙ sym (candidate-by e)
 
@@ -70,13 +72,15 @@ module _ (unpicked : List ℕ) (left n g most : ℕ) (m : most ≡ min n 64) (h 
   unblocked e i a d = all-done (passes unpicked left g) i (min n 64) a (d ∙ m) ∙ sym (candidate-by e)
 
 -- ---- the lowest
-pub first-found : (f : ℕ → Bool) (from n g : ℕ) (t : Bool) → from ≤ g → g < n → ((i : ℕ) → from ≤ i → i < g → f i ≡ false) → t ≡ f g → t ≡ true → First f from n g
+pub first-found : (f : ℕ → Bool) (from n g : ℕ) (t : Bool) → from ≤ g → g < n → ((i : ℕ) → from ≤ i → i < g → f i ≡ false) → t ≡ f g → t ≡ true
+    → First f from n g
 first-found f from n g t l h below e d = record { least = below; found = λ k. (l, sym e ∙ d); none = λ k. absurd (omega arith) }
 
 pub first-none : (f : ℕ → Bool) (from n g r : ℕ) → n ≤ g → ((i : ℕ) → from ≤ i → i < g → f i ≡ false) → r ≡ n → First f from n r
 first-none f from n g r h below e = record { least = λ i a b. below i a (omega arith); found = λ k. absurd (omega arith); none = λ k. e }
 
-pub below-next : (f : ℕ → Bool) (from g : ℕ) (t : Bool) → ((i : ℕ) → from ≤ i → i < g → f i ≡ false) → t ≡ f g → t ≡ false → (i : ℕ) → from ≤ i → i < g + 1 → f i ≡ false
+pub below-next : (f : ℕ → Bool) (from g : ℕ) (t : Bool) → ((i : ℕ) → from ≤ i → i < g → f i ≡ false) → t ≡ f g → t ≡ false → (i : ℕ) → from ≤ i → i < g + 1
+    → f i ≡ false
 below-next f from g t below e d i a b = go (ℕ-discrete i g)
   where
     go : Dec (i ≡ g) → f i ≡ false
@@ -108,7 +112,8 @@ candidate-low unpicked left n g e = go (decLt g (min n 64))
     go (no l) = let d : false ≡ true = past-places unpicked left n g (min n 64) refl (omega arith) ∙ e in let z : _≡_ {A = ℕ} 0 1 = cc in absurd (omega arith)
 
 -- places past the first n at which nothing stands change nothing
-pub candidate-more : (unpicked : List ℕ) (left n g : ℕ) → n ≤ 64 → ((i : ℕ) → n ≤ i → row unpicked i ≡ 0) → candidateIn unpicked left 64 g ≡ candidateIn unpicked left n g
+pub candidate-more : (unpicked : List ℕ) (left n g : ℕ) → n ≤ 64 → ((i : ℕ) → n ≤ i → row unpicked i ≡ 0)
+    → candidateIn unpicked left 64 g ≡ candidateIn unpicked left n g
 unfolding meet
 candidate-more u left n g few past = go (decLt g n) (ℕ-discrete (bitAnd (row u g) left) 0)
   where
@@ -143,4 +148,6 @@ candidate-more u left n g few past = go (decLt g n) (ℕ-discrete (bitAnd (row u
         pass i t (no h) = rw (passes-zero) tt
           where
             passes-zero : passes u left g i ≡ true
-            passes-zero = ap not (ap (λ (x : ℕ). blocks (bitAnd (row u g) left) x (ltb i g)) (ap (λ (x : ℕ). meet x left) (past i (omega arith)) ∙ zero-sub left) ∙ zero-blocks (bitAnd (row u g) left) (ltb i g) z)
+            passes-zero =
+                ap not (ap (λ (x : ℕ). blocks (bitAnd (row u g) left) x (ltb i g)) (ap (λ (x : ℕ). meet x left) (past i (omega arith)) ∙ zero-sub left)
+                ∙ zero-blocks (bitAnd (row u g) left) (ltb i g) z)

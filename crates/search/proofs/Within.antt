@@ -3,7 +3,7 @@
 use mathlib.Core.Path.{_≡_, refl, sym, ap, ap₂, _∙_, subst}
 use mathlib.Core.Bool.{Bool, true, false, not, _&&_, _||_, cond}
 use mathlib.Core.List.{List}
-use Prim.Native.Nat.{ℕ, _≤_, _<_, _^_, min}
+use Prim.Native.Nat.{ℕ, _≤_, _<_}
 use native.Mathlib.Decide.{ℕ-discrete, decLt}
 use native.Mathlib.Omega.{arith}
 use lib.Bits.{bitAnd}
@@ -11,18 +11,17 @@ use lib.Dec.{T, eqb, leb, ltb}
 use lib.Count.{trailingZeros}
 use lib.ListN.{length, getD, set, length-set}
 use lib.Seq.{ext-getD, getD-set-same, getD-set-other}
-use borrow.Author.Tests.{eq-eqb, ne-eqb, le-leb, lt-leb, leb-true}
-use Rattle.sets.specs.Sets.{bit, meet, isSubset}
-use Rattle.sets.specs.Lists.{tabulate, allBelow}
+use borrow.Author.Tests.{eq-eqb, ne-eqb, le-leb, leb-true}
+use Rattle.sets.specs.Sets.{bit, meet}
+use Rattle.sets.specs.Lists.{allBelow}
 use Rattle.sets.specs.First.{Lowest, Rest, Without, Added, Upper}
 use Rattle.sets.proofs.Tabulated.{length-tabulate, getD-tabulate, all-of}
 use Rattle.sets.proofs.Tests.{is-true}
-use Rattle.sets.proofs.Masks.{bit-past}
 use Rattle.sets.proofs.OnePlace.{none-in}
-use Rattle.sets.proofs.Order.{sub-zero, subset-is, zero-sub}
+use Rattle.sets.proofs.Order.{zero-sub}
 use Rattle.table.specs.Pairs.{row}
 use Rattle.table.proofs.Places.{row-past}
-use Rattle.search.specs.Finding.{remainderIn, blocks, candidateIn, First, within}
+use Rattle.search.specs.Finding.{blocks, candidateIn, First, within}
 use Rattle.search.proofs.SearchLoops.{passes, blocked, unblocked, empty-remainder, past-places, zero-blocks}
 
 -- true is not false
@@ -50,7 +49,8 @@ row-out s rows i e = go (decLt i 64)
 -- a place fewer, and a place more
 pub within-without : (s g r : ℕ) (rows : List ℕ) → g < 64 → Without s g r → within r rows ≡ set (within s rows) g 0
 within-without s g r rows l w =
-    ext-getD 0 (within r rows) (set (within s rows) g 0) (length-within r rows ∙ sym (length-set (within s rows) g 0 ∙ length-within s rows)) (λ i h. go i (omega (arith, length-within r rows)) (ℕ-discrete i g))
+    ext-getD 0 (within r rows) (set (within s rows) g 0) (length-within r rows ∙ sym (length-set (within s rows) g 0 ∙ length-within s rows))
+    (λ i h. go i (omega (arith, length-within r rows)) (ℕ-discrete i g))
   where
     and-true : (x : Bool) → (x && true) ≡ x
     and-true true = refl
@@ -70,7 +70,9 @@ within-without s g r rows l w =
 
 pub within-with : (s g r : ℕ) (rows : List ℕ) → g < 64 → Added s g r → within r rows ≡ set (within s rows) g (row rows g)
 within-with s g r rows l w =
-    ext-getD 0 (within r rows) (set (within s rows) g (row rows g)) (length-within r rows ∙ sym (length-set (within s rows) g (row rows g) ∙ length-within s rows)) (λ i h. go i (omega (arith, length-within r rows)) (ℕ-discrete i g))
+    ext-getD 0 (within r rows) (set (within s rows) g (row rows g))
+    (length-within r rows ∙ sym (length-set (within s rows) g (row rows g) ∙ length-within s rows))
+    (λ i h. go i (omega (arith, length-within r rows)) (ℕ-discrete i g))
   where
     or-true : (x : Bool) → (x || true) ≡ true
     or-true true = refl
@@ -83,7 +85,8 @@ within-with s g r rows l w =
     go : (i : ℕ) → i < 64 → Dec (i ≡ g) → getD (within r rows) i 0 ≡ getD (set (within s rows) g (row rows g)) i 0
     go i h (yes e) =
         row-in r rows i h (w .bits i ∙ ap (λ (b : Bool). bit s i || b) (eq-eqb i g e) ∙ or-true (bit s i)) ∙ ap (row rows) e
-        ∙ sym (ap (λ (j : ℕ). getD (set (within s rows) g (row rows g)) j 0) e ∙ getD-set-same (within s rows) g (row rows g) 0 (omega (arith, length-within s rows)))
+        ∙ sym (ap (λ (j : ℕ). getD (set (within s rows) g (row rows g)) j 0) e
+        ∙ getD-set-same (within s rows) g (row rows g) 0 (omega (arith, length-within s rows)))
     go i h (no e) =
         row-within r rows i h ∙ ap (λ (b : Bool). cond b (row rows i) 0) (w .bits i ∙ ap (λ (b : Bool). bit s i || b) (ne-eqb i g e) ∙ or-false (bit s i))
         ∙ sym (row-within s rows i h) ∙ sym (getD-set-other (within s rows) g i (row rows g) 0 e)
@@ -113,7 +116,8 @@ module _ (P : ℕ → Type 0) (s : ℕ) where
 
       by : (k : ℕ) → bit s k ≡ true → bit after k ≡ false → Dec (k ≡ trailingZeros 64 rest) → P k
       by k a b (yes d) = subst P (e ∙ sym d) t
-      by k a b (no d) = p .passed k a (sym (r .bits k ∙ ap (λ (x : Bool). bit rest k && not x) (ne-eqb k (trailingZeros 64 rest) d) ∙ and-true (bit rest k)) ∙ b)
+      by k a b (no d) =
+          p .passed k a (sym (r .bits k ∙ ap (λ (x : Bool). bit rest k && not x) (ne-eqb k (trailingZeros 64 rest) d) ∙ and-true (bit rest k)) ∙ b)
 
   pub passed-all : (rest : ℕ) → Passed P s rest → rest ≡ 0 → (h : ℕ) → bit s h ≡ true → P h
   passed-all rest p e h b = p .passed h b (rw e (none-in h))
@@ -132,7 +136,8 @@ module _ (rows : List ℕ) (s left g : ℕ) (low : g < 64) (here : bit s g ≡ t
   pub of-empty : bitAnd (row rows g) left ≡ 0 → false ≡ candidateIn (within s rows) left 64 g
   of-empty e = empty-remainder (within s rows) left 64 g 64 refl low (own-is ∙ e)
 
-  pub of-blocked : ¬ (bitAnd (row rows g) left ≡ 0) → (h : ℕ) (t : Bool) → h < 64 → bit s h ≡ true → t ≡ Out h → t ≡ true → false ≡ candidateIn (within s rows) left 64 g
+  pub of-blocked : ¬ (bitAnd (row rows g) left ≡ 0) → (h : ℕ) (t : Bool) → h < 64 → bit s h ≡ true → t ≡ Out h → t ≡ true
+      → false ≡ candidateIn (within s rows) left 64 g
   of-blocked ne h t l b e d =
       blocked (within s rows) left 64 g 64 refl low (λ z. ne (sym own-is ∙ z)) h t l
       (e ∙ sym (ap₂ (λ (x y : ℕ). blocks x y (ltb h g)) own-is (ap (λ (x : ℕ). bitAnd x left) (row-in s rows h l b)))) d
@@ -151,7 +156,9 @@ module _ (rows : List ℕ) (s left g : ℕ) (low : g < 64) (here : bit s g ≡ t
       pass h l false b = rw (passes-out) tt
         where
           passes-out : passes (within s rows) left g h ≡ true
-          passes-out = ap not (ap₂ (λ (x y : ℕ). blocks x y (ltb h g)) own-is (ap (λ (x : ℕ). meet x left) (row-out s rows h b) ∙ zero-sub left) ∙ zero-blocks (bitAnd (row rows g) left) (ltb h g) ne)
+          passes-out =
+              ap not (ap₂ (λ (x y : ℕ). blocks x y (ltb h g)) own-is (ap (λ (x : ℕ). meet x left) (row-out s rows h b) ∙ zero-sub left)
+              ∙ zero-blocks (bitAnd (row rows g) left) (ltb h g) ne)
 
 -- a place that is not in the set is no candidate
 pub of-absent : (rows : List ℕ) (s left g : ℕ) → bit s g ≡ false → false ≡ candidateIn (within s rows) left 64 g

@@ -1,7 +1,9 @@
 // Finding candidates (01, "Moves of a run"), once for both runs and for growing: whether a place is one, and the lowest from a place on.
-// `unpicked` holds the row of each unpicked gauge and nothing for a picked one, so that no step asks which gauges are picked, and `left` is
-// the set of left cases; proofs/AfterPicks.antt says that these are then 01's candidates. Any numbers are taken, and nothing is refused.
+// The unpicked gauges are an array that has the row of each and nothing for a picked one, or a set of places beside the rows; `left` is the
+// set of left cases. proofs/AfterPicks.antt says that these are then 01's candidates. Any numbers are taken, nothing is refused, and no
+// memory that is lent changes.
 use sets;
+use table::Table;
 ghost use mathlib.Core.Path.{_≡_};
 ghost use Prim.Native.Nat.{_<_, min};
 ghost use mathlib.Core.Bool.{true};
@@ -9,7 +11,7 @@ ghost use Rattle.sets.specs.Sets.{bit};
 ghost use Rattle.search.specs.Finding.{blocks as blocksIn, candidateIn, First, within};
 
 // The places that there can be.
-const PLACES: usize = 64;
+const PLACES: usize = Table::MOST_GAUGES as usize;
 
 // Whether place `g` is one of the first `n`, and its gauge a candidate among them.
 pub fn is_candidate(unpicked: &[u64; 64], left: u64, n: usize, g: usize) -> bool
@@ -31,21 +33,6 @@ pub fn is_candidate(unpicked: &[u64; 64], left: u64, n: usize, g: usize) -> bool
         h += 1;
     }
     true
-}
-
-// The lowest candidate from place `from` on, of the first `n` places; the number of these places where there is none.
-pub fn next_candidate(unpicked: &[u64; 64], left: u64, n: usize, from: usize) -> usize
-    ensures { λ r. ⌜ First (candidateIn (now (unpicked .entry)) left n) from (min n 64) r ⌝ }
-{
-    let most = at_most_places(n);
-    let mut g = from;
-    while g < most {
-        if is_candidate(unpicked, left, n, g) {
-            return g;
-        }
-        g += 1;
-    }
-    most
 }
 
 // `n`, or 64 where it is larger.

@@ -1,8 +1,8 @@
 -- The lowest place of a set, as `trailing_zeros` finds it, and the set without it, as `a & (a - 1)` gives it.
-use mathlib.Core.Path.{_≡_, refl, sym, ap, ap₂, _∙_, subst}
+use mathlib.Core.Path.{_≡_, refl, sym, ap, _∙_, subst}
 use mathlib.Core.Logic.{_⊎_, inl, inr}
 use mathlib.Core.Bool.{Bool, true, false, not, _&&_}
-use Prim.Native.Nat.{ℕ, zero, suc, _-_, _/_, _%_, _^_, _≤_, _<_, min}
+use Prim.Native.Nat.{ℕ, zero, suc, _-_, _/_, _%_, _^_, _<_}
 use native.Mathlib.Nat.{pow-suc}
 use native.Mathlib.Decide.{ℕ-discrete, decLt}
 use native.Mathlib.Omega.{arith}
@@ -11,7 +11,7 @@ use lib.Bits.{and-le-r}
 use borrow.Author.Tests.{eq-eqb, ne-eqb}
 use lib.Count.{trailingZeros, trailing-of-zero, under}
 use Rattle.sets.specs.Sets.{bit, meet}
-use Rattle.sets.specs.First.{Lowest as LowestIn, First, Rest}
+use Rattle.sets.specs.First.{First, Rest}
 use Rattle.sets.proofs.Digits.{lt2, meet-half, meet-low, bit-zero, bit-suc, digit}
 use Rattle.sets.proofs.Order.{sub-refl}
 
@@ -35,7 +35,8 @@ unfolding trailingZeros
 trailing-lowest zero a l ne = absurd (ne (omega arith))
 trailing-lowest (suc d) a l ne = go (digit (a % 2) (lt2 a)) (trailing-lowest d (a / 2) (half-below d a l))
   where
-    go : (a % 2 ≡ 0) ⊎ (a % 2 ≡ 1) → (¬ (a / 2 ≡ 0) → (trailingZeros d (a / 2) < d) × Lowest (a / 2) (trailingZeros d (a / 2))) → (under (a % 2) (trailingZeros d (a / 2)) < suc d) × Lowest a (under (a % 2) (trailingZeros d (a / 2)))
+    go : (a % 2 ≡ 0) ⊎ (a % 2 ≡ 1) → (¬ (a / 2 ≡ 0) → (trailingZeros d (a / 2) < d) × Lowest (a / 2) (trailingZeros d (a / 2)))
+        → (under (a % 2) (trailingZeros d (a / 2)) < suc d) × Lowest a (under (a % 2) (trailingZeros d (a / 2)))
     go (inl e) f = let (y, z) = f (λ h. ne (omega arith)) in rw e (omega (arith, y), above a (trailingZeros d (a / 2)) e z)
     go (inr e) f = rw e (omega arith, record { here = rw (bit-zero a, e) refl; none = λ k h. absurd (omega arith) })
 
@@ -56,7 +57,8 @@ bit-rest (suc d) a l ne k = go (digit (a % 2) (lt2 a)) (bit-rest d (a / 2) (half
     and-true true = refl
     and-true false = refl
 
-    go : (a % 2 ≡ 0) ⊎ (a % 2 ≡ 1) → (¬ (a / 2 ≡ 0) → (k : ℕ) → bit (meet (a / 2) (a / 2 - 1)) k ≡ (bit (a / 2) k && not (eqb k (trailingZeros d (a / 2))))) → (k : ℕ) → bit (meet a (a - 1)) k ≡ (bit a k && not (eqb k (under (a % 2) (trailingZeros d (a / 2)))))
+    go : (a % 2 ≡ 0) ⊎ (a % 2 ≡ 1) → (¬ (a / 2 ≡ 0) → (k : ℕ) → bit (meet (a / 2) (a / 2 - 1)) k ≡ (bit (a / 2) k && not (eqb k (trailingZeros d (a / 2)))))
+        → (k : ℕ) → bit (meet a (a - 1)) k ≡ (bit a k && not (eqb k (under (a % 2) (trailingZeros d (a / 2)))))
     go (inl e) f zero =
         let h : (a - 1) % 2 ≡ 1 = odd (λ z. ne z) in
         rw (bit-zero (meet a (a - 1)), bit-zero a, meet-low a (a - 1), e, h) refl
@@ -69,13 +71,16 @@ bit-rest (suc d) a l ne k = go (digit (a % 2) (lt2 a)) (bit-rest d (a / 2) (half
             by (no y) = absurd (n (omega arith))
     go (inl e) f (suc k) =
         let h : (a - 1) / 2 ≡ a / 2 - 1 = omega arith in
-        rw (bit-suc (meet a (a - 1)) k, meet-half a (a - 1), h, bit-suc a k, e) (f (λ z. ne (omega arith)) k ∙ ap (λ (x : Bool). bit (a / 2) k && not x) (sym (eqb-suc k (trailingZeros d (a / 2)))))
+        rw (bit-suc (meet a (a - 1)) k, meet-half a (a - 1), h, bit-suc a k, e)
+        (f (λ z. ne (omega arith)) k ∙ ap (λ (x : Bool). bit (a / 2) k && not x) (sym (eqb-suc k (trailingZeros d (a / 2)))))
     go (inr e) f zero =
         let h : (a - 1) % 2 ≡ 0 = omega arith in
         rw (bit-zero (meet a (a - 1)), bit-zero a, meet-low a (a - 1), e, h) refl
     go (inr e) f (suc k) =
         let h : (a - 1) / 2 ≡ a / 2 = omega arith in
-        rw (bit-suc (meet a (a - 1)) k, meet-half a (a - 1), h, bit-suc a k, e) (ap (λ (x : ℕ). bit x k) (sub-refl (a / 2)) ∙ and-true (bit (a / 2) k) ∙ ap (λ (x : Bool). bit (a / 2) k && not x) (sym (ne-eqb (suc k) 0 (λ z. omega arith))))
+        rw (bit-suc (meet a (a - 1)) k, meet-half a (a - 1), h, bit-suc a k, e)
+        (ap (λ (x : ℕ). bit x k) (sub-refl (a / 2)) ∙ and-true (bit (a / 2) k)
+        ∙ ap (λ (x : Bool). bit (a / 2) k && not x) (sym (ne-eqb (suc k) 0 (λ z. omega arith))))
 
 pub first-of : (a : ℕ) → a < 2 ^ 64 → First a (trailingZeros 64 a)
 first-of a l = record {

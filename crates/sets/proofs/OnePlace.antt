@@ -1,6 +1,5 @@
 -- A set changed at one place: without it, with it, and the places from one on, as the code computes them.
-use mathlib.Core.Path.{_≡_, refl, sym, ap, ap₂, _∙_, subst}
-use mathlib.Core.Logic.{_⊎_, inl, inr}
+use mathlib.Core.Path.{_≡_, refl, sym, ap, ap₂, _∙_}
 use mathlib.Core.Bool.{Bool, true, false, not, _&&_, _||_}
 use Prim.Native.Nat.{ℕ, zero, suc, _+_, _*_, _-_, _/_, _%_, _^_, _≤_, _<_, min}
 use native.Mathlib.Nat.{pow-suc, div-one, mul-one, mul-assoc, mul-comm, div-mul-le-self, mod-eq-of-lt, one-mul}
@@ -11,7 +10,7 @@ use lib.Count.{trailingZeros}
 use lib.Pow.{shr-shr, shl-exact, pow-pos}
 use borrow.Author.Tests.{eq-eqb, ne-eqb, eqb-true, le-leb, lt-leb, lt-ltb, le-ltb}
 use Rattle.sets.specs.Sets.{bit, join, lowest}
-use Rattle.sets.specs.First.{Lowest, First, Rest, Without, Added, With, Upper}
+use Rattle.sets.specs.First.{First, Rest, Without, With, Upper}
 use Rattle.sets.proofs.Digits.{bit-zero, bit-suc}
 use Rattle.sets.proofs.Masks.{bit-past}
 use Rattle.sets.proofs.Joins.{bit-join}
@@ -44,7 +43,9 @@ with-past a k l = record { inside = λ h. absurd (omega arith); past = λ h. ref
 -- the empty set has no lowest place to lose
 pub rest-none : (a : ℕ) → a ≡ 0 → Rest a 0
 rest-none a e = record {
-  bits = λ k. none-in k ∙ sym (ap (λ (x : ℕ). bit x k && not (eqb k (trailingZeros 64 a))) e ∙ ap (λ (x : Bool). x && not (eqb k (trailingZeros 64 a))) (none-in k));
+  bits =
+      λ k. none-in k ∙ sym (ap (λ (x : ℕ). bit x k && not (eqb k (trailingZeros 64 a))) e
+      ∙ ap (λ (x : Bool). x && not (eqb k (trailingZeros 64 a))) (none-in k));
   fewer = λ ne. absurd (ne e);
 }
 
@@ -65,7 +66,8 @@ bit-minus a zero zero h =
 bit-minus a zero (suc i) h =
     let e : a % 2 ≡ 1 = eqb-true (a % 2) 1 (sym (bit-zero a) ∙ h) in
     let d : (a - 1) / 2 ≡ a / 2 = omega arith in
-    bit-suc (a - 1) i ∙ ap (λ (x : ℕ). bit x i) d ∙ sym (bit-suc a i) ∙ sym (ap (λ (x : Bool). bit a (suc i) && not x) (ne-eqb (suc i) 0 (λ z. omega arith)) ∙ and-true (bit a (suc i)))
+    bit-suc (a - 1) i ∙ ap (λ (x : ℕ). bit x i) d ∙ sym (bit-suc a i)
+    ∙ sym (ap (λ (x : Bool). bit a (suc i) && not x) (ne-eqb (suc i) 0 (λ z. omega arith)) ∙ and-true (bit a (suc i)))
   where
     and-true : (x : Bool) → (x && true) ≡ x
     and-true true = refl
@@ -73,7 +75,8 @@ bit-minus a zero (suc i) h =
 bit-minus a (suc k) zero h =
     let l : 2 ^ suc k ≤ a = large a (suc k) h in
     let d : (a - 2 ^ suc k) % 2 ≡ a % 2 = omega (arith, pow-suc 2 k) in
-    bit-zero (a - 2 ^ suc k) ∙ ap (λ (x : ℕ). eqb x 1) d ∙ sym (bit-zero a) ∙ sym (ap (λ (x : Bool). bit a 0 && not x) (ne-eqb 0 (suc k) (λ z. omega arith)) ∙ and-true (bit a 0))
+    bit-zero (a - 2 ^ suc k) ∙ ap (λ (x : ℕ). eqb x 1) d ∙ sym (bit-zero a)
+    ∙ sym (ap (λ (x : Bool). bit a 0 && not x) (ne-eqb 0 (suc k) (λ z. omega arith)) ∙ and-true (bit a 0))
   where
     and-true : (x : Bool) → (x && true) ≡ x
     and-true true = refl
@@ -117,7 +120,8 @@ bit-upper a (suc k) zero =
     let q : ℕ = a / 2 ^ suc k in
     let e : q * 2 ^ suc k ≡ 2 * (q * 2 ^ k) = twice q k in
     let d : (2 * (q * 2 ^ k)) % 2 ≡ 0 = omega arith in
-    bit-zero (q * 2 ^ suc k) ∙ ap (λ (x : ℕ). eqb (x % 2) 1) e ∙ ap (λ (x : ℕ). eqb x 1) d ∙ sym (ap (λ (x : Bool). x && bit a 0) (lt-leb (suc k) 0 (omega arith)))
+    bit-zero (q * 2 ^ suc k) ∙ ap (λ (x : ℕ). eqb (x % 2) 1) e ∙ ap (λ (x : ℕ). eqb x 1) d
+    ∙ sym (ap (λ (x : Bool). x && bit a 0) (lt-leb (suc k) 0 (omega arith)))
 bit-upper a (suc k) (suc i) =
     let q : ℕ = a / 2 ^ suc k in
     let e : q * 2 ^ suc k ≡ 2 * (q * 2 ^ k) = twice q k in

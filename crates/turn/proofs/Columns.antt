@@ -1,5 +1,5 @@
 -- A column gathered from the last row to the first, and the columns put in their places: what each turn and each answer says.
-use mathlib.Core.Path.{_≡_, refl, sym, ap, _∙_}
+use mathlib.Core.Path.{_≡_, sym, ap, _∙_}
 use mathlib.Core.List.{List}
 use Prim.Native.Nat.{ℕ, suc, _+_, _*_, _-_, _/_, _%_, _^_, _≤_, _<_, min}
 use native.Mathlib.Decide.{ℕ-discrete, decLt}
@@ -64,7 +64,12 @@ module _ (n k : ℕ) (rows : List ℕ) (few : n ≤ 64) where
     pub gathered-room : set * 2 + row rows (i - 1) / 2 ^ k % 2 < 2 ^ 64
     gathered-room =
         rw gathered-more
-        (omega (arith, column-lt (drop (i - 1) (places n rows)) k, pow-mono {i = length (drop (i - 1) (places n rows))} {j = 64} (omega (arith, length-drop (i - 1) (places n rows), length-places n rows))))
+        (omega (
+          arith,
+          column-lt (drop (i - 1) (places n rows)) k,
+          pow-mono {i = length (drop (i - 1) (places n rows))} {j = 64}
+              (omega (arith, length-drop (i - 1) (places n rows), length-places n rows)),
+        ))
 
   pub gathered-all : (i set : ℕ) → i ≤ 0 → Gathered n k rows i set → set ≡ column (places n rows) k
   gathered-all i set h g = let e : i ≡ 0 = omega arith in g ∙ ap (λ (m : ℕ). column (drop m (places n rows)) k) e

@@ -1,5 +1,4 @@
 -- `replay::judge` meets its contract: each answer says what its tests say.
-use native.Mathlib.Omega.{arith}
 use Rattle.replay.proofs.Judging.{judged-fewer, judged-other, judged-low, judged-twin}
 use Rattle.replay.proofs.judge.Statement.{statement}
 use Rattle.replay.proofs.judge.Tie as tie

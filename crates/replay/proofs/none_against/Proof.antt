@@ -1,5 +1,5 @@
 -- `replay::none_against` meets its contract: no place passed is against the picks.
-use mathlib.Core.Path.{_≡_, refl}
+use mathlib.Core.Path.{refl}
 use native.Mathlib.Omega.{arith}
 use borrow.Author.Needs.{needs}
 use Rattle.sets.specs.First.{Lowest}

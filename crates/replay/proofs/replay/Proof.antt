@@ -2,11 +2,9 @@
 -- no unpicked gauge is against them.
 use Prim.Native.Nat.{_≤_, _<_, _-_}
 use mathlib.Core.Path.{_≡_, refl, sym, _∙_}
-use mathlib.Core.Bool.{true}
 use native.Mathlib.Omega.{arith}
 use borrow.Author.Tests.{not-true, not-false}
 use borrow.Author.Needs.{needs}
-use Rattle.sets.specs.Sets.{bit}
 use Rattle.replay.proofs.Going.{full-is, Low, low-none, low-more, Going, going-none, going-more, picked-few, bad-zero, bad-place, bad-empty, bad-judge, going-made, going-against, replays-no, replays-yes}
 use Rattle.replay.proofs.replay.Statement.{statement}
 use Rattle.replay.proofs.replay.Tie as tie
@@ -63,7 +61,8 @@ returns-2 : tie.Need-returns-2 Inv-loop μ-loop
 returns-2 c =
     let w = c .before .before in
     let l = turn w .loop in
-    replays-no _ _ _ _ _ (c .not-replayed2 .ensures) (λ p h. bad-zero _ _ _ _ _ _ _ (l .i) (l .inv .2) _ _ (tested w .loop-test .taken) (w .wide .ensures) p h (c .before .if2 .taken))
+    replays-no _ _ _ _ _ (c .not-replayed2 .ensures) (λ p h. bad-zero _ _ _ _ _ _ _ (l .i) (l .inv .2) _ _ (tested w .loop-test .taken) (w .wide .ensures) p h
+    (c .before .if2 .taken))
 
 sub-g : tie.Need-sub-g Inv-loop μ-loop
 sub-g c = omega arith
@@ -80,7 +79,8 @@ returns-3 c =
     let w = number b in
     let l = turn w .loop in
     replays-no _ _ _ _ _ (c .not-replayed3 .ensures) (λ p h.
-    bad-place _ _ _ _ _ _ _ (l .i) (l .inv .2) _ _ (tested w .loop-test .taken) (w .wide .ensures) p h _ refl _ (b .has .ensures) (not-true _ (c .before .if3 .taken)))
+    bad-place _ _ _ _ _ _ _ (l .i) (l .inv .2) _ _ (tested w .loop-test .taken) (w .wide .ensures) p h _ refl _ (b .has .ensures)
+    (not-true _ (c .before .if3 .taken)))
 
 mul-row : tie.Need-mul-row Inv-loop μ-loop
 mul-row c = omega (arith, place-low c)
@@ -110,7 +110,8 @@ returns-5 c =
     let w = number (unpicked-of (row-of j)) in
     let l = turn w .loop in
     replays-no _ _ _ _ _ (c .not-replayed5 .ensures) (λ p h.
-    bad-judge _ _ _ _ _ _ _ (l .i) (l .inv .2) _ _ (tested w .loop-test .taken) (w .wide .ensures) p h _ refl _ refl _ (j .judge .ensures) (not-true _ (c .before .if5 .taken)))
+    bad-judge _ _ _ _ _ _ _ (l .i) (l .inv .2) _ _ (tested w .loop-test .taken) (w .wide .ensures) p h _ refl _ refl _ (j .judge .ensures)
+    (not-true _ (c .before .if5 .taken)))
 
 without-requires : tie.Need-without-requires Inv-loop μ-loop
 without-requires c κs = search needs
@@ -129,7 +130,8 @@ loop-again c =
     let l = turn w .loop in (
       omega arith,
       low-more _ _ _ (l .inv .1) (c .without .ensures),
-      going-more _ _ _ _ _ _ _ (l .i) (l .inv .2) _ _ _ (w .wide .ensures) (b .before .if2 .left) refl _ (b .has .ensures) (not-false _ (row-of j .before .if3 .left)) refl
+      going-more _ _ _ _ _ _ _ (l .i) (l .inv .2) _ _ _ (w .wide .ensures) (b .before .if2 .left) refl _ (b .has .ensures)
+          (not-false _ (row-of j .before .if3 .left)) refl
           (j .before .if4 .left) _ (j .judge .ensures) (not-false _ (c .before .if5 .left)) _ (c .without .ensures),
     )
 
@@ -150,13 +152,15 @@ returns-6 : tie.Need-returns-6 Inv-loop μ-loop
 returns-6 c =
     let e = c .before .before in
     let l = last-turn e .loop in
-    replays-no _ _ _ _ _ (c .not-replayed6 .ensures) (λ p h. going-against _ _ _ _ _ _ _ (l .i) (l .inv .2) _ _ (all-passed e) (e .none-against .ensures) (not-true _ (c .before .if6 .taken)) p h)
+    replays-no _ _ _ _ _ (c .not-replayed6 .ensures) (λ p h. going-against _ _ _ _ _ _ _ (l .i) (l .inv .2) _ _ (all-passed e) (e .none-against .ensures)
+    (not-true _ (c .before .if6 .taken)) p h)
 
 returns-7 : tie.Need-returns-7 Inv-loop μ-loop
 returns-7 c =
     let e = c .before in
     let l = last-turn e .loop in
-    replays-yes _ _ _ _ _ refl (going-made _ _ _ _ _ _ _ (l .i) (l .inv .2) _ _ _ (all-passed e) (e .none-against .ensures) (not-false _ (c .if6 .left)) refl refl)
+    replays-yes _ _ _ _ _ refl (going-made _ _ _ _ _ _ _ (l .i) (l .inv .2) _ _ _ (all-passed e) (e .none-against .ensures)
+    (not-false _ (c .if6 .left)) refl refl)
 
 pub replay-spec : {M : Type 1} → statement M
 replay-spec =

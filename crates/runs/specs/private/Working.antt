@@ -10,7 +10,7 @@ use Rattle.refusals.specs.Answers.{number}
 use Rattle.table.specs.Tables.{noRows, padded, blankChain}
 use Rattle.sets.specs.Sets.{_⊆_, lowest}
 use Rattle.table.specs.Pairs.{row}
-use Rattle.rules.specs.Machine.{Phase, Down, Handed, Back, Ended, State, Move, gives, nothing, hands, ends}
+use Rattle.rules.specs.Machine.{Phase, Down, Handed, Back, Ended, State, Move, gives, nothing, hands, ends, move}
 use Rattle.rules.specs.Calls.{spent, handed, end, Call, result, carry, mostBudget}
 use Rattle.rules.specs.private.Fitting.{Valid, Fits}
 use Rattle.lists.specs.Picks.{candidates}
@@ -76,6 +76,10 @@ Holds n rows c k at = HoldsAt (take n rows) (within (at .unpicked) rows) c k at 
 -- a spot that stands for the state after the move m
 abbrev pub spotDown : ℕ → ℕ → ℕ → Spot
 spotDown count unpicked left = record { count = count; unpicked = unpicked; left = left; mode = modeDown }
+
+-- the move by rules 1 to 5 from the state that a spot stands for
+abbrev pub movedFrom : ℕ → List ℕ → List ℕ → Spot → Move
+movedFrom n rows k at = move (candidates (take n rows)) (stateOf k at)
 
 abbrev pub SteppedBy : ℕ → List ℕ → List ℕ → List ℕ → Move → Moved → Type 0
 SteppedBy n rows c k m (On s) = (m ≡ gives nothing (stateOf k s)) × Holds n rows c k s

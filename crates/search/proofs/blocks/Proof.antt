@@ -1,4 +1,4 @@
--- `candidates::blocks` meets its contract: each answer computes from the tests that led to it.
+-- `search::blocks` meets its contract: each answer computes from the tests that led to it.
 use borrow.Author.Tests.{not-true, not-false}
 use borrow.Author.Needs.{needs}
 use Rattle.search.proofs.SearchLoops.{blocks-out, blocks-more, blocks-same}

@@ -1,4 +1,4 @@
--- `candidates::is_candidate` meets its contract: no place passed blocks it.
+-- `search::is_candidate` meets its contract: no place passed blocks it.
 use Prim.Native.Nat.{_≤_, _-_}
 use mathlib.Core.Path.{_≡_, refl}
 use mathlib.Core.Bool.{true}
@@ -43,8 +43,20 @@ element-copy-out-blocks c = omega arith
 blocks-requires : tie.Need-blocks-requires Inv-loop μ-loop
 blocks-requires c κs = search needs
 
+-- from a turn's answer back to its start, and to the gauge
+abbrev turn : tie.After-blocks2 Inv-loop μ-loop → tie.At-loop Inv-loop μ-loop
+turn c = c .before .before .before
+
+abbrev gauge : tie.At-loop Inv-loop μ-loop → tie.Else1 Inv-loop μ-loop
+gauge c = c .before .before .before
+
 returns-3 : tie.Need-returns-3 Inv-loop μ-loop
-returns-3 c = blocked _ _ _ _ _ (c .before .before .before .before .before .before .before .before .at-most-places .ensures) (c .before .before .before .before .before .before .before .if1 .left) (c .before .before .before .before .before .if2 .left) (c .before .before .before .before .loop .h) _ (c .before .before .before .loop-test .taken) (c .before .blocks2 .ensures) (c .if3 .taken)
+returns-3 c =
+    let b = c .before in
+    let l = turn b in
+    let g = gauge l in
+    blocked _ _ _ _ _ (g .before .at-most-places .ensures) (g .if1 .left) (l .before .if2 .left) (l .loop .h) _ (b .before .before .loop-test .taken)
+    (b .blocks2 .ensures) (c .if3 .taken)
 
 add-h : tie.Need-add-h Inv-loop μ-loop
 add-h c = omega arith
@@ -53,10 +65,20 @@ loop-less : tie.Need-loop-less Inv-loop μ-loop
 loop-less c = omega arith
 
 loop-again : tie.Need-loop-again Inv-loop μ-loop
-loop-again c = (omega arith, all-more _ _ true (c .before .before .before .before .loop .inv .1) (turn-passes (c .before .before .before .before .before .before .before .before .before .args .unpicked .now) (c .before .before .before .before .before .before .before .before .before .args .left) (c .before .before .before .before .before .before .before .before .before .args .g) (c .before .before .before .before .loop .h) _ (c .before .blocks2 .ensures) (c .if3 .left)) refl)
+loop-again c =
+    let b = c .before in
+    let l = turn b in
+    let s = gauge l .before .before in (
+      omega arith,
+      all-more _ _ true (l .loop .inv .1) (turn-passes (s .args .unpicked .now) (s .args .left) (s .args .g) (l .loop .h) _ (b .blocks2 .ensures)
+          (c .if3 .left)) refl,
+    )
 
 returns-4 : tie.Need-returns-4 Inv-loop μ-loop
-returns-4 c = unblocked _ _ _ _ _ (c .before .before .before .before .before .at-most-places .ensures) (c .before .before .before .before .if1 .left) (c .before .before .if2 .left) (c .before .loop .h) (c .before .loop .inv .1) (omega arith)
+returns-4 c =
+    let l = c .before in
+    let g = gauge l in
+    unblocked _ _ _ _ _ (g .before .at-most-places .ensures) (g .if1 .left) (l .before .if2 .left) (l .loop .h) (l .loop .inv .1) (omega arith)
 
 pub is-candidate-spec : {M : Type 1} → statement M
 is-candidate-spec =

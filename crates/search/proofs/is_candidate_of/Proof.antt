@@ -1,5 +1,5 @@
--- `candidates::is_candidate_of` meets its contract: a place outside the set is no candidate, and one in it is asked.
-use mathlib.Core.Path.{_≡_, sym, _∙_}
+-- `search::is_candidate_of` meets its contract: a place outside the set is no candidate, and one in it is asked.
+use mathlib.Core.Path.{sym, _∙_}
 use borrow.Author.Tests.{not-true, not-false}
 use borrow.Author.Needs.{needs}
 use Rattle.sets.proofs.OnePlace.{in-places}
@@ -14,7 +14,9 @@ returns : tie.Need-returns
 returns c = of-absent _ _ _ _ (sym (c .before .has .ensures) ∙ not-true _ (c .if1 .taken))
 
 stands-requires : tie.Need-stands-requires
-stands-requires c κs = (in-places _ _ (c .before .before .fits .set .fits) (sym (c .before .has .ensures) ∙ not-false _ (c .if1 .left)), sym (c .before .has .ensures) ∙ not-false _ (c .if1 .left))
+stands-requires c κs =
+    let e = sym (c .before .has .ensures) ∙ not-false _ (c .if1 .left) in
+    (in-places _ _ (c .before .before .fits .set .fits) e, e)
 
 returns-2 : tie.Need-returns-2
 returns-2 c = c .stands .ensures

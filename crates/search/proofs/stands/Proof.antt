@@ -1,4 +1,4 @@
--- `candidates::stands` meets its contract: no place of the set that was passed rules the gauge out.
+-- `search::stands` meets its contract: no place of the set that was passed rules the gauge out.
 use mathlib.Core.Path.{_≡_, refl, sym, _∙_}
 use mathlib.Core.Bool.{false}
 use Prim.Native.Nat.{ℕ}
@@ -6,6 +6,7 @@ use native.Mathlib.Omega.{arith}
 use borrow.Author.Needs.{needs}
 use lib.Bits.{bitAnd}
 use lib.Dec.{ltb}
+use Rattle.sets.specs.First.{Lowest}
 use Rattle.table.specs.Pairs.{row}
 use Rattle.search.specs.Finding.{blocks}
 use Rattle.search.proofs.Within.{Passed, passed-none, passed-more, passed-all, of-empty, of-blocked, of-clear}
@@ -36,26 +37,48 @@ first-requires c κs = search needs
 rest-requires : tie.Need-rest-requires Inv-loop μ-loop
 rest-requires c κs = search needs
 
+-- the place that a turn looks at, and from a turn's answer back to it, to its start and to the gauge
+lowest : (c : tie.After-first Inv-loop μ-loop) → Lowest (c .before .before .loop .rest) (c .first .result)
+lowest c = c .first .ensures .some (c .before .loop-test .taken)
+
+abbrev place : tie.After-blocks2 Inv-loop μ-loop → tie.After-first Inv-loop μ-loop
+place c = c .before .before .before
+
+abbrev turn : tie.After-blocks2 Inv-loop μ-loop → tie.At-loop Inv-loop μ-loop
+turn c = place c .before .before
+
+abbrev start : tie.Else1 Inv-loop μ-loop → tie.Start Inv-loop μ-loop
+start c = c .before .before
+
 mul-blocks : tie.Need-mul-blocks Inv-loop μ-loop
-mul-blocks c = omega (arith, c .before .first .ensures .some (c .before .before .loop-test .taken) .below)
+mul-blocks c = omega (arith, lowest (c .before))
 
 element-copy-out-blocks : tie.Need-element-copy-out-blocks Inv-loop μ-loop
-element-copy-out-blocks c = c .before .first .ensures .some (c .before .before .loop-test .taken) .below
+element-copy-out-blocks c = lowest (c .before) .below
 
 blocks-requires : tie.Need-blocks-requires Inv-loop μ-loop
 blocks-requires c κs = search needs
 
 returns-2 : tie.Need-returns-2 Inv-loop μ-loop
-returns-2 c = of-blocked _ _ _ _ (c .before .before .before .before .before .before .before .before .before .pre .0) (c .before .before .before .before .before .before .before .before .before .pre .1) (c .before .before .before .before .before .before .before .if1 .left) _ _ (c .before .before .before .before .first .ensures .some (c .before .before .before .before .before .loop-test .taken) .below) (c .before .before .before .before .before .before .loop .inv .within _ (c .before .before .before .before .first .ensures .some (c .before .before .before .before .before .loop-test .taken) .here)) (c .before .blocks2 .ensures) (c .if2 .taken)
+returns-2 c =
+    let b = c .before in
+    let e = turn b .before in
+    let l = lowest (place b) in
+    of-blocked _ _ _ _ (start e .pre .0) (start e .pre .1) (e .if1 .left) _ _ (l .below) (turn b .loop .inv .within _ (l .here)) (b .blocks2 .ensures)
+    (c .if2 .taken)
 
 loop-less : tie.Need-loop-less Inv-loop μ-loop
-loop-less c = c .before .before .before .rest .ensures .fewer (c .before .before .before .before .before .loop-test .taken)
+loop-less c = let b = c .before in b .before .before .rest .ensures .fewer (place b .before .loop-test .taken)
 
 loop-again : tie.Need-loop-again Inv-loop μ-loop
-loop-again c = passed-more _ _ _ _ _ (c .before .before .before .before .before .before .loop .inv) (c .before .before .before .before .first .ensures .counted) (c .before .before .before .rest .ensures) (sym (c .before .blocks2 .ensures) ∙ c .if2 .left)
+loop-again c =
+    let b = c .before in
+    passed-more _ _ _ _ _ (turn b .loop .inv) (place b .first .ensures .counted) (b .before .before .rest .ensures) (sym (b .blocks2 .ensures) ∙ c .if2 .left)
 
 returns-3 : tie.Need-returns-3 Inv-loop μ-loop
-returns-3 c = of-clear _ _ _ _ (c .before .before .before .before .pre .0) (c .before .before .before .before .pre .1) (c .before .before .if1 .left) (passed-all _ _ _ (c .before .loop .inv) (c .loop-test .left))
+returns-3 c =
+    let e = c .before .before in
+    of-clear _ _ _ _ (start e .pre .0) (start e .pre .1) (e .if1 .left) (passed-all _ _ _ (c .before .loop .inv) (c .loop-test .left))
 
 pub stands-spec : {M : Type 1} → statement M
 stands-spec =

@@ -1,5 +1,4 @@
 -- `sets::upper` meets its contract: shifted out and in again, no place from k on changes.
-use native.Mathlib.Omega.{arith}
 use borrow.Author.Needs.{needs}
 use Rattle.sets.proofs.OnePlace.{shifted, upper-of, upper-past}
 use Rattle.sets.proofs.upper.Statement.{statement}

@@ -1,6 +1,4 @@
 -- `sets::with` meets its contract: below the 64th place the code's number is the union with that place, past it the set itself.
-use mathlib.Core.Path.{_≡_}
-use native.Mathlib.Omega.{arith}
 use borrow.Author.Needs.{needs}
 use Rattle.sets.specs.Sets.{join}
 use Rattle.sets.proofs.OnePlace.{power, with-of, with-past}

@@ -1,6 +1,6 @@
 -- `turn::turned` meets its contract: the columns below `k` are in their places.
-use Prim.Native.Nat.{ℕ, _≤_, _<_, _-_, min}
-use mathlib.Core.Path.{_≡_, ap, _∙_}
+use Prim.Native.Nat.{ℕ, _≤_, _<_, _-_}
+use mathlib.Core.Path.{ap, _∙_}
 use mathlib.Core.List.{List}
 use native.Mathlib.Omega.{arith}
 use borrow.Author.Needs.{needs}
@@ -48,7 +48,8 @@ loop-again : tie.Need-loop-again Inv-loop μ-loop
 loop-again c =
     let l = c .before .before in (
       omega arith,
-      turning-more _ _ _ _ (low (c .before)) (l .loop .inv .1) (c .column .ensures ∙ ap (λ (x : List ℕ). column x (l .loop .k)) (places-most _ _ _ (l .before .at-most-places2 .ensures))),
+      turning-more _ _ _ _ (low (c .before)) (l .loop .inv .1)
+          (c .column .ensures ∙ ap (λ (x : List ℕ). column x (l .loop .k)) (places-most _ _ _ (l .before .at-most-places2 .ensures))),
     )
 
 returns : tie.Need-returns Inv-loop μ-loop

@@ -63,7 +63,8 @@ works : (c : tie.After-case-mode) → (let t = start (checked (told c)) .args .p
 works c = case-works _ (legal (told c)) _ (rows c .turned .ensures)
 
 -- what the core worked on, and reported
-worked : (c : tie.After-call) {chain picks : List ℕ} → (let m = moded c in let p = start (checked (told m)) .args .p in let b = start (checked (told m)) .args .budget in
+worked : (c : tie.After-call) {chain picks : List ℕ}
+    → (let m = moded c in let p = start (checked (told m)) .args .p in let b = start (checked (told m)) .args .budget in
     CarriesOn (take (p .table .cases) (rows m .turned .result)) (p .picks .0) (p .count) (modePhase (m .case-mode .result)) b chain picks (c .call .result)
     → Worked caseSide (caseValue p) b (p .table .cases) (rows m .turned .result) (m .case-mode .result) chain picks (c .call .result))
 worked c h = let m = moded c in record { passed = passed (told m); works = works m; mode-is = m .case-mode .ensures; carried = h }
@@ -81,7 +82,8 @@ returns : tie.Need-returns
 returns c =
     let k = c .before .before in
     let t = k .before .before in
-    answered (start t) _ (called-refused caseSide _ _ _ (verdict-refused _ _ _ (k .checked .given .1) (t .check-table .ensures)) (number-pos (k .checked .given .0 .0)) _ (c .case-refusal .ensures))
+    answered (start t) _ (called-refused caseSide _ _ _ (verdict-refused _ _ _ (k .checked .given .1) (t .check-table .ensures))
+    (number-pos (k .checked .given .0 .0)) _ (c .case-refusal .ensures))
 
 enum-told : tie.Need-enum-told
 enum-told c = search needs
@@ -105,7 +107,8 @@ returns-2 : tie.Need-returns-2
 returns-2 c =
     let o = c .before .before in
     let k = o .before .before in
-    answered (start (checked (told (moded k)))) _ (call-refused _ _ _ _ _ _ _ _ _ (worked k (k .call .ensures)) _ (o .outcome .given .1) _ (c .case-refusal2 .ensures))
+    answered (start (checked (told (moded k)))) _ (call-refused _ _ _ _ _ _ _ _ _ (worked k (k .call .ensures)) _ (o .outcome .given .1) _
+    (c .case-refusal2 .ensures))
 
 case-phase-requires : tie.Need-case-phase-requires
 case-phase-requires c κs = search needs
@@ -122,7 +125,8 @@ returns-3 c =
     let f = e .before .before in
     let k = begun f in
     answered (start (checked (told (moded k)))) _
-    (call-handed _ _ _ _ _ _ _ _ _ (worked k (k .call .ensures)) _ (f .case-phase .ensures) _ (e .enum-told2 .given .1) (λ p d. case-chain _ (legal (told (moded k))) p _ _ d (c .turned2 .ensures)))
+    (call-handed _ _ _ _ _ _ _ _ _ (worked k (k .call .ensures)) _ (f .case-phase .ensures) _ (e .enum-told2 .given .1)
+    (λ p d. case-chain _ (legal (told (moded k))) p _ _ d (c .turned2 .ensures)))
 
 blank-chain-requires : tie.Need-blank-chain-requires
 blank-chain-requires c κs = search needs
@@ -132,7 +136,8 @@ returns-4 c =
     let f = c .before .before in
     let k = begun f in
     answered (start (checked (told (moded k)))) _
-    (call-other _ _ _ _ _ _ _ _ _ (worked k (k .call .ensures)) _ (f .case-phase .ensures) _ (c .blank-chain .ensures) (f .before .before .match2 .keys2) (c .before .match3 .keys2))
+    (call-other _ _ _ _ _ _ _ _ _ (worked k (k .call .ensures)) _ (f .case-phase .ensures) _ (c .blank-chain .ensures) (f .before .before .match2 .keys2)
+    (c .before .match3 .keys2))
 
 pub run-cases-spec : {M : Type 1} → statement M
 run-cases-spec =

@@ -1,4 +1,4 @@
--- `runs::start_cases` meets its contract: the answer is that of the check, and demand 3 and the shared set are `run-demand` and `shares-set` at the case side.
+-- `runs::start_cases` meets its contract: the answer is that of the check; demand 3 and the shared set are `run-demand` and `shares-set`.
 use mathlib.Core.Path.{_≡_, refl}
 use native.Mathlib.Omega.{arith}
 use borrow.Author.Needs.{needs}
@@ -20,7 +20,8 @@ rows-length : (c : tie.Start) → length (c .args .t .rows) ≡ 64
 rows-length c = search needs
 
 -- demand 3 and the shared set, of the value returned where the table is not refused
-promises : (c : tie.Start) (v : Value) → (tableRefusal (c .args .t) ≡ 0 → v ≡ paused (c .args .t) fresh) → KeepsDemand caseSide (c .args .t) v × SharesSet (c .args .t) (paused (c .args .t) fresh) v
+promises : (c : tie.Start) (v : Value) → (tableRefusal (c .args .t) ≡ 0 → v ≡ paused (c .args .t) fresh)
+    → KeepsDemand caseSide (c .args .t) v × SharesSet (c .args .t) (paused (c .args .t) fresh) v
 promises c v h = (
   λ ok. run-demand caseSide (c .args .t) (legal ok) (case-fair (c .args .t) (legal ok)) v (h ok),
   λ ok. shares-set (c .args .t) (legal ok) (paused (c .args .t) fresh) v refl (h ok) ok,
@@ -42,7 +43,15 @@ case-run-requires : tie.Need-case-run-requires
 case-run-requires c κs = search needs
 
 returns : tie.Need-returns
-returns c = (start-refused (c .before .before .before .checked .given .0 .0) _ _ _ _ (verdict-refused _ _ _ (c .before .before .before .checked .given .1) (c .before .before .before .before .before .check-table .ensures)) (c .before .blank-table .ensures) (c .case-run .ensures), promises (c .before .before .before .before .before .before) _ (λ ok. absurd (omega (arith, number-pos (c .before .before .before .checked .given .0 .0), verdict-refused _ _ _ (c .before .before .before .checked .given .1) (c .before .before .before .before .before .check-table .ensures)))))
+returns c =
+    let k = c .before .before .before in
+    let t = k .before .before in
+    let e = verdict-refused _ _ _ (k .checked .given .1) (t .check-table .ensures) in
+    let n = number-pos (k .checked .given .0 .0) in (
+      start-refused (k .checked .given .0 .0) _ _ _ _ e (c .before .blank-table .ensures) (c .case-run .ensures),
+      promises (t .before) _
+          (λ ok. absurd (omega (arith, n, e))),
+    )
 
 enum-told : tie.Need-enum-told
 enum-told c = search needs
@@ -51,7 +60,13 @@ case-run-requires-2 : tie.Need-case-run-requires-2
 case-run-requires-2 c κs = search needs
 
 returns-2 : tie.Need-returns-2
-returns-2 c = (start-given _ _ _ (verdict-accepted _ _ (c .before .enum-told .given .1) (c .before .before .before .check-table .ensures)) (c .case-run2 .ensures), promises (c .before .before .before .before) _ (λ ok. c .case-run2 .ensures))
+returns-2 c =
+    let e = c .before in
+    let t = e .before .before in (
+      start-given _ _ _ (verdict-accepted _ _ (e .enum-told .given .1) (t .check-table .ensures)) (c .case-run2 .ensures),
+      promises (t .before) _
+          (λ ok. c .case-run2 .ensures),
+    )
 
 pub start-cases-spec : {M : Type 1} → statement M
 start-cases-spec =

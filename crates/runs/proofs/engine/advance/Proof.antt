@@ -9,7 +9,8 @@ use Rattle.runs.proofs.engine.advance.Statement.{statement}
 use Rattle.runs.proofs.engine.advance.Tie as tie
 
 abbrev Inv-loop : tie.InvT-loop
-Inv-loop rows n chain₀ picks₀ budget spot₀ moves₀ chain picks spot moves = Holds n rows chain picks spot × Ahead (take n rows) budget moves (stateOf picks₀ spot₀) (stateOf picks spot)
+Inv-loop rows n chain₀ picks₀ budget spot₀ moves₀ chain picks spot moves =
+    Holds n rows chain picks spot × Ahead (take n rows) budget moves (stateOf picks₀ spot₀) (stateOf picks spot)
 
 abbrev μ-loop : tie.MeasureT-loop
 μ-loop rows n chain₀ picks₀ budget spot₀ moves₀ chain picks spot moves = budget - moves

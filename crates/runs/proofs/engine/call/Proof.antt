@@ -1,5 +1,5 @@
 -- `runs::engine::call` meets its contract: each test that fails is 15 or 18, and else the moves are those of `advance`.
-use mathlib.Core.Path.{_≡_, sym, _∙_}
+use mathlib.Core.Path.{sym, _∙_}
 use native.Mathlib.Omega.{arith}
 use borrow.Author.Tests.{not-true, not-false}
 use borrow.Author.Needs.{needs}
@@ -54,12 +54,14 @@ returns-3 : tie.Need-returns-3
 returns-3 c =
     let h = c .before .before in
     let s = call (counted (replayed h)) in
-    phase-fails _ _ _ _ _ (s .args .budget) (s .pre .0) (s .pre .2) _ _ _ (c .refused3 .ensures) _ (replayed h .replay .ensures) (not-false _ (h .before .if2 .left)) _
+    phase-fails _ _ _ _ _ (s .args .budget) (s .pre .0) (s .pre .2) _ _ _ (c .refused3 .ensures) _ (replayed h .replay .ensures)
+    (not-false _ (h .before .if2 .left)) _
     (h .phase-fits .ensures) (not-true _ (c .before .if3 .taken))
 
 -- every test passed
 passed : (c : tie.Else3)
-    → (let p = replayed (c .before) in let s = call (counted p) in Passed (s .args .n) (s .args .rows .now) (s .args .picks .now) (s .args .count) (s .args .mode) (p .replay .result))
+    → (let p = replayed (c .before) in let s = call (counted p) in Passed (s .args .n) (s .args .rows .now) (s .args .picks .now) (s .args .count)
+    (s .args .mode) (p .replay .result))
 passed c =
     let h = c .before in
     let p = replayed h in

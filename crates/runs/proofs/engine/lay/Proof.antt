@@ -1,6 +1,5 @@
 -- `runs::engine::lay` meets its contract: the chain of the picks passed is laid (`Laid`).
 use Prim.Native.Nat.{_≤_, _<_, _-_}
-use mathlib.Core.Path.{_≡_}
 use native.Mathlib.Omega.{arith}
 use borrow.Author.Needs.{needs}
 use Rattle.runs.specs.private.Working.{Sized, Laying}
@@ -9,14 +8,16 @@ use Rattle.runs.proofs.engine.lay.Statement.{statement}
 use Rattle.runs.proofs.engine.lay.Tie as tie
 
 abbrev Inv-loop : tie.InvT-loop
-Inv-loop rows n chain₀ picks count left₀ i₀ chain left i = (z : Sized n rows) (h : Laying n rows chain₀ picks count) → Laid n rows chain₀ picks count z h chain left i
+Inv-loop rows n chain₀ picks count left₀ i₀ chain left i =
+    (z : Sized n rows) (h : Laying n rows chain₀ picks count) → Laid n rows chain₀ picks count z h chain left i
 
 abbrev μ-loop : tie.MeasureT-loop
 μ-loop rows n chain₀ picks count left₀ i₀ chain left i = count - i
 
 -- what stands at the start of a turn
 laid : (c : tie.At-loop Inv-loop μ-loop)
-    → Laid (c .before .args .n) (c .before .args .rows .now) (c .before .args .chain .now) (c .before .args .picks .now) (c .before .args .count) (c .before .pre .0) (c .before .pre .1)
+    → Laid (c .before .args .n) (c .before .args .rows .now) (c .before .args .chain .now) (c .before .args .picks .now) (c .before .args .count)
+    (c .before .pre .0) (c .before .pre .1)
     (c .loop .chain) (c .loop .left) (c .loop .i)
 laid c = c .loop .inv (c .before .pre .0) (c .before .pre .1)
 

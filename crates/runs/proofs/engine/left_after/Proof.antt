@@ -7,7 +7,8 @@ use Rattle.runs.specs.private.Working.{leftAfter}
 use Rattle.runs.proofs.engine.left_after.Statement.{statement}
 use Rattle.runs.proofs.engine.left_after.Tie as tie
 
-range : (c : tie.Else1) → (1 ≤ getD (c .before .args .picks .now) (c .before .args .count - 1) 0) × (getD (c .before .args .picks .now) (c .before .args .count - 1) 0 ≤ 64)
+range : (c : tie.Else1)
+    → (let k = getD (c .before .args .picks .now) (c .before .args .count - 1) 0 in (1 ≤ k) × (k ≤ 64))
 range c = c .before .pre .1 (omega arith)
 
 returns : tie.Need-returns

@@ -6,8 +6,9 @@ use Rattle.runs.proofs.Stepping.{back-end, LastFacts, last-facts, back-
 use Rattle.runs.proofs.engine.take_back.Statement.{statement}
 use Rattle.runs.proofs.engine.take_back.Tie as tie
 
-facts : (c : tie.Else1) → LastFacts (c .before .args .n) (c .before .args .rows .now) (c .before .args .chain .now) (c .before .args .picks .now) (c .before .args .at) (c .before .pre .0) (c .before .pre .1) (c .before .pre .2) (omega arith)
-facts c = last-facts _ _ _ _ _ (c .before .pre .0) (c .before .pre .1) (c .before .pre .2) (omega arith)
+facts : (c : tie.Else1) → (let s = c .before in
+    LastFacts (s .args .n) (s .args .rows .now) (s .args .chain .now) (s .args .picks .now) (s .args .at) (s .pre .0) (s .pre .1) (s .pre .2) (omega arith))
+facts c = let s = c .before in last-facts _ _ _ _ _ (s .pre .0) (s .pre .1) (s .pre .2) (omega arith)
 
 returns : tie.Need-returns
 returns c = back-end _ _ _ _ _ (c .before .pre .0) (c .before .pre .1) (c .before .pre .2) (c .if1 .taken)
@@ -34,13 +35,22 @@ element-write-chain : tie.Need-element-write-chain
 element-write-chain c = omega (arith, facts (c .before), c .before .before .pre .0 .few)
 
 left-after-requires : tie.Need-left-after-requires
-left-after-requires c κs = back-number _ _ _ _ _ (c .before .before .before .before .pre .0) (c .before .before .before .before .pre .1) (c .before .before .before .before .pre .2) (omega arith) _ _ _ refl refl refl
+left-after-requires c κs =
+    let s = c .before .before .before .before in
+    back-number _ _ _ _ _ (s .pre .0) (s .pre .1) (s .pre .2) (omega arith) _ _ _ refl refl refl
 
 with-requires : tie.Need-with-requires
 with-requires c κs = search needs
 
+-- from the left cases back to the start
+abbrev start : tie.After-left-after → tie.Start
+start c = let n = c .before .before .before in n .before .before
+
 returns-2 : tie.Need-returns-2
-returns-2 c = back-on _ _ _ _ _ (c .before .before .before .before .before .before .pre .0) (c .before .before .before .before .before .before .pre .1) (c .before .before .before .before .before .before .pre .2) (omega arith) _ _ _ refl refl refl _ _ (c .with .ensures) (c .before .left-after .ensures)
+returns-2 c =
+    let l = c .before in
+    let s = start l in
+    back-on _ _ _ _ _ (s .pre .0) (s .pre .1) (s .pre .2) (omega arith) _ _ _ refl refl refl _ _ (c .with .ensures) (l .left-after .ensures)
 
 pub take-back-spec : {M : Type 1} → statement M
 take-back-spec =

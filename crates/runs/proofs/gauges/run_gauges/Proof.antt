@@ -60,7 +60,8 @@ works : (c : tie.After-gauge-mode) → (let t = start (checked (told c)) .args .
 works c = gauge-works _ (legal (told c))
 
 -- what the core worked on, and reported
-worked : (c : tie.After-call) {chain picks : List ℕ} → (let m = moded c in let p = start (checked (told m)) .args .p in let b = start (checked (told m)) .args .budget in
+worked : (c : tie.After-call) {chain picks : List ℕ}
+    → (let m = moded c in let p = start (checked (told m)) .args .p in let b = start (checked (told m)) .args .budget in
     CarriesOn (take (p .table .gauges) (p .table .rows)) (p .picks .0) (p .count) (modePhase (m .gauge-mode .result)) b chain picks (c .call .result)
     → Worked gaugeSide (gaugeValue p) b (p .table .gauges) (p .table .rows) (m .gauge-mode .result) chain picks (c .call .result))
 worked c h = let m = moded c in record { passed = passed (told m); works = works m; mode-is = m .gauge-mode .ensures; carried = h }
@@ -78,7 +79,8 @@ returns : tie.Need-returns
 returns c =
     let k = c .before .before in
     let t = k .before .before in
-    answered (start t) _ (called-refused gaugeSide _ _ _ (verdict-refused _ _ _ (k .checked .given .1) (t .check-table .ensures)) (number-pos (k .checked .given .0 .0)) _ (c .gauge-refusal .ensures))
+    answered (start t) _ (called-refused gaugeSide _ _ _ (verdict-refused _ _ _ (k .checked .given .1) (t .check-table .ensures))
+    (number-pos (k .checked .given .0 .0)) _ (c .gauge-refusal .ensures))
 
 enum-told : tie.Need-enum-told
 enum-told c = search needs
@@ -99,7 +101,8 @@ returns-2 : tie.Need-returns-2
 returns-2 c =
     let o = c .before .before in
     let k = o .before .before in
-    answered (start (checked (told (moded k)))) _ (call-refused _ _ _ _ _ _ _ _ _ (worked k (k .call .ensures)) _ (o .outcome .given .1) _ (c .gauge-refusal2 .ensures))
+    answered (start (checked (told (moded k)))) _ (call-refused _ _ _ _ _ _ _ _ _ (worked k (k .call .ensures)) _ (o .outcome .given .1) _
+    (c .gauge-refusal2 .ensures))
 
 gauge-phase-requires : tie.Need-gauge-phase-requires
 gauge-phase-requires c κs = search needs
@@ -113,7 +116,8 @@ returns-3 c =
     let f = e .before .before in
     let k = begun f in
     answered (start (checked (told (moded k)))) _
-    (call-handed _ _ _ _ _ _ _ _ _ (worked k (k .call .ensures)) _ (f .gauge-phase .ensures) _ (e .enum-told2 .given .1) (λ p d. gauge-chain _ (legal (told (moded k))) p _ d))
+    (call-handed _ _ _ _ _ _ _ _ _ (worked k (k .call .ensures)) _ (f .gauge-phase .ensures) _ (e .enum-told2 .given .1)
+    (λ p d. gauge-chain _ (legal (told (moded k))) p _ d))
 
 blank-chain-requires : tie.Need-blank-chain-requires
 blank-chain-requires c κs = search needs
@@ -123,7 +127,8 @@ returns-4 c =
     let f = c .before .before in
     let k = begun f in
     answered (start (checked (told (moded k)))) _
-    (call-other _ _ _ _ _ _ _ _ _ (worked k (k .call .ensures)) _ (f .gauge-phase .ensures) _ (c .blank-chain .ensures) (f .before .before .match2 .keys2) (c .before .match3 .keys2))
+    (call-other _ _ _ _ _ _ _ _ _ (worked k (k .call .ensures)) _ (f .gauge-phase .ensures) _ (c .blank-chain .ensures) (f .before .before .match2 .keys2)
+    (c .before .match3 .keys2))
 
 pub run-gauges-spec : {M : Type 1} → statement M
 run-gauges-spec =
