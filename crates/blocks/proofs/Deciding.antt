@@ -211,7 +211,7 @@ module _ (t : Table) (s : State) (before : List ℕ) where
       let f : Filling = record { refusal = 0; value = paused t (after t n s); used = length (text t n s); over = hasEnd (calls t n s) } in (
         f,
         text t n s ++ drop (f .used) before,
-        record { accepted = refl; count = n; stops = z; sooner = low; used = refl; bytes = refl; value = refl; over = refl },
+        record { accepted = refl; count = n; stops = z; sooner = λ j l. low j (omega arith); used = refl; bytes = refl; value = refl; over = refl },
       )
 
 -- ---- one answer, for every value and every buffer

@@ -65,7 +65,7 @@ module _ (t : Table) (ok : tableRefusal t ≡ 0) (s : State) (reached : ReachedO
     accepted = e;
     count = n;
     stops = z;
-    sooner = h .sooner;
+    sooner = λ k l. h .sooner k (omega arith);
     used = h .used;
     bytes = h .bytes;
     value = h .value;
