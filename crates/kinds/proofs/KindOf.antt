@@ -169,6 +169,7 @@ size-range l g c n e = long (ltb 1024 (length l)) e
     comment true z = let w : _≡_ {A = ℕ} 0 1 = cc in absurd (omega arith)
     comment false z = kinds (fields l) z
 
-    long : (t : Bool) → Size g c n ≡ cond t (badHead LineTooLong) (cond (isComment l) skipHead (sizeOf (fields l))) → Bounded (record { 0 = 64 }) (record { 0 = 64 }) g c
+    long : (t : Bool) → Size g c n ≡ cond t (badHead LineTooLong) (cond (isComment l) skipHead (sizeOf (fields l)))
+        → Bounded (record { 0 = 64 }) (record { 0 = 64 }) g c
     long true z = let w : _≡_ {A = ℕ} 0 1 = cc in absurd (omega arith)
     long false z = comment (isComment l) z

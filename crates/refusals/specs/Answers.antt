@@ -1,5 +1,5 @@
 -- What an entry answers, in 01's words: the number of the refusal, 0 where nothing is refused, and the values beside it, which are
--- blank on a refusal. Each answer of the code is read through a definition here, and no two answers read alike.
+-- blank on a refusal. Each crate reads its own answers through a definition made of these, and no two answers read alike.
 use mathlib.Core.Bool.{cond}
 use Prim.Native.Nat.{ℕ}
 use lib.Dec.{eqb}

@@ -1,9 +1,10 @@
-// The conditions that 01 refuses, and the number that 01 gives each. A further refusal is one more name here, in the order of its number,
-// its line in `refusal_number`, and its line in `number` of specs/Answers.antt. No function has a `requires`.
+// The conditions that 01 refuses, and the number that 01 gives each. A further refusal is one more name here, in the order of its number;
+// one more line in `refusal_number`, in `number` of specs/Answers.antt and in `named` and `named-number` of proofs/Answering.antt; and two
+// in the proof of `refusal_number`. No function has a `requires`.
 ghost use mathlib.Core.Path.{_≡_};
 ghost use Rattle.refusals.specs.Answers.{number};
 
-// The conditions that 01 refuses. `number` in specs/Answers.antt gives each its number there.
+// The conditions, in the order of their numbers.
 pub enum Refusal {
     FileTooLong,
     NotTheBanner,

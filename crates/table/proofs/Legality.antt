@@ -10,7 +10,7 @@ use lib.Dec.{eqb, ltb, leb}
 use lib.ListN.{length, take, drop}
 use lib.Seq.{take-nil, drop-nil, getD-take, length-take-le, slice, take-all}
 use lib.Pow.{pow-pos}
-use borrow.Author.Tests.{ltb-true, lt-ltb, leb-true, le-leb, eqb-true, eqb-false, eq-eqb, ne-eqb}
+use borrow.Author.Tests.{ltb-true, lt-ltb, leb-true, le-leb, lt-leb, eqb-true, eqb-false, eq-eqb, ne-eqb}
 use Rattle.sets.specs.Sets.{_⊆_, isSubset, lowest}
 use Rattle.sets.proofs.Order.{subset-is, is-subset, zero-sub, sub-zero}
 use Rattle.sets.proofs.Joins.{join-subset, join-empty}
@@ -34,6 +34,12 @@ range-is m n e =
 
 pub in-range : (m n : ℕ) → 1 ≤ n → n ≤ m → inRange m n ≡ true
 in-range m n l h = rw (le-leb 1 n l, le-leb n m h)
+
+pub below-range : (m n : ℕ) → n < 1 → false ≡ inRange m n
+below-range m n h = sym (rw (lt-leb 1 n h))
+
+pub above-range : (m n : ℕ) → 1 ≤ n → m < n → false ≡ inRange m n
+above-range m n l h = sym (rw (le-leb 1 n l, lt-leb n m h))
 
 pub range-not : (m n : ℕ) → inRange m n ≡ false → (1 ≤ n) × (n ≤ m) → ⊥
 range-not m n e h = let z : true ≡ false = sym (in-range m n (h .0) (h .1)) ∙ e in let w : _≡_ {A = ℕ} 0 1 = cc in omega arith
@@ -163,7 +169,7 @@ and-group : (a b c : Bool) → ((a && b) && c) ≡ (a && (b && c))
 and-group true b c = refl
 and-group false b c = refl
 
-pub fit-by-unions : (g l : ℕ) (rows : List ℕ) → l ≤ 64
+fit-by-unions : (g l : ℕ) (rows : List ℕ) → l ≤ 64
     → rowsFit g l rows ≡ (isSubset (union (take g rows)) (lowest l) && eqb (union (drop g rows)) 0)
 unfolding rowsFit union
 fit-by-unions g l [] h = rw (take-nil {A = ℕ} g, drop-nil {A = ℕ} g, none-subset (lowest l))

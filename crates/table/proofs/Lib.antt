@@ -1,4 +1,5 @@
--- Laws that belong to no one function: pairs and nested rows, legality.
+-- Laws that belong to no one function. For users: pairs by their places, nested rows, padded rows, what the checks decide (`Legality`), and
+-- that no two answers read alike (`Making`). `CheckLoops` serves this crate's loops alone.
 pub mod Places
 pub mod Nesting
 pub mod Legality

@@ -22,19 +22,19 @@ lineLen (b ∷ s) = elim (eqb (endSize (b ∷ s)) 0) [ true ↦ suc (lineLen s) 
 unfoldable pub lineSize : List ℕ → ℕ
 lineSize s = lineLen s + endSize (drop (lineLen s) s)
 
-pub len-end : (b : ℕ) (s : List ℕ) → (endSize (b ∷ s) ≡ 0 → ⊥) → lineLen (b ∷ s) ≡ 0
+len-end : (b : ℕ) (s : List ℕ) → (endSize (b ∷ s) ≡ 0 → ⊥) → lineLen (b ∷ s) ≡ 0
 unfolding lineLen
 len-end b s h = rw (ne-eqb (endSize (b ∷ s)) 0 h, lineLen)
 
-pub len-more : (b : ℕ) (s : List ℕ) → endSize (b ∷ s) ≡ 0 → lineLen (b ∷ s) ≡ suc (lineLen s)
+len-more : (b : ℕ) (s : List ℕ) → endSize (b ∷ s) ≡ 0 → lineLen (b ∷ s) ≡ suc (lineLen s)
 unfolding lineLen
 len-more b s h = rw (eq-eqb (endSize (b ∷ s)) 0 h, lineLen)
 
-pub size-end : (b : ℕ) (s : List ℕ) → (endSize (b ∷ s) ≡ 0 → ⊥) → lineSize (b ∷ s) ≡ endSize (b ∷ s)
+size-end : (b : ℕ) (s : List ℕ) → (endSize (b ∷ s) ≡ 0 → ⊥) → lineSize (b ∷ s) ≡ endSize (b ∷ s)
 unfolding lineSize
 size-end b s h = rw (len-end b s h) (omega arith)
 
-pub size-more : (b : ℕ) (s : List ℕ) → endSize (b ∷ s) ≡ 0 → lineSize (b ∷ s) ≡ suc (lineSize s)
+size-more : (b : ℕ) (s : List ℕ) → endSize (b ∷ s) ≡ 0 → lineSize (b ∷ s) ≡ suc (lineSize s)
 unfolding lineSize
 size-more b s h = rw (len-more b s h) (omega arith)
 
@@ -95,7 +95,7 @@ first-more b c s e f ih =
     let n : endSize (b ∷ c ∷ s) ≡ 0 = end-none b (c ∷ s) e f in
     rw (lines-other b (c ∷ s) e, f, ih, size-more b (c ∷ s) n, len-more b (c ∷ s) n)
 
-pub lines-first : (b : ℕ) (s : List ℕ)
+lines-first : (b : ℕ) (s : List ℕ)
     → lines (b ∷ s) ≡ record { text = take (lineLen (b ∷ s)) (b ∷ s); size = lineSize (b ∷ s) } ∷ lines (drop (lineSize (b ∷ s)) (b ∷ s))
 lines-first b [] = go (eqb b 10) refl
   where
@@ -145,7 +145,7 @@ end-le (b ∷ s) = go (eqb b 10) s
         go2 false = omega arith
 
 -- a line is a part of the file: it takes a byte at least, and no more than there are
-pub len-le : (s : List ℕ) → lineLen s ≤ length s
+len-le : (s : List ℕ) → lineLen s ≤ length s
 unfolding lineLen
 len-le [] = omega arith
 len-le (b ∷ s) = go (eqb (endSize (b ∷ s)) 0) refl (len-le s)

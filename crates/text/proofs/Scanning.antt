@@ -75,7 +75,7 @@ long-not false = refl
 
 -- a line from a place on; S is what the loop started with
 module _ (l : List ℕ) (i k v : ℕ) (S : Option (List ℕ)) (q : scan k v (drop i l) ≡ S) where
-  pub scan-end-at : length l ≤ i → S ≡ close k v (some [])
+  scan-end-at : length l ≤ i → S ≡ close k v (some [])
   unfolding scan
   scan-end-at h = sym q ∙ rw (drop-of-length-le l h)
 
@@ -145,10 +145,10 @@ module _ (l : List ℕ) (i k v : ℕ) (S : Option (List ℕ)) (q : scan k v (dro
 pub field-number : {l : List ℕ} {at : ℕ} {x : Field} {v next : ℕ} → FieldAt l at x → x ≡ Number v next → Found l at v next
 field-number {l} {at} h e = subst (FieldSays l at) e (h .says)
 
-pub field-end : {l : List ℕ} {at : ℕ} {x : Field} → FieldAt l at x → x ≡ End → rest l at ≡ some []
+field-end : {l : List ℕ} {at : ℕ} {x : Field} → FieldAt l at x → x ≡ End → rest l at ≡ some []
 field-end {l} {at} h e = subst (FieldSays l at) e (h .says)
 
-pub field-bad : {l : List ℕ} {at : ℕ} {x : Field} → FieldAt l at x → x ≡ Bad → rest l at ≡ none
+field-bad : {l : List ℕ} {at : ℕ} {x : Field} → FieldAt l at x → x ≡ Bad → rest l at ≡ none
 field-bad {l} {at} h e = subst (FieldSays l at) e (h .says)
 
 -- no number: the line is at its end, or malformed

@@ -1,4 +1,4 @@
--- What a reader must believe of lines, fields and texts; `Steps` is what the crate's own steps promise each other, and no public promise cites it.
+-- What a reader must believe of lines, fields and texts. What the crate's own steps promise each other is private.
 pub mod Lines
 pub mod Fields
 pub mod Bytes

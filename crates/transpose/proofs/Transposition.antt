@@ -43,7 +43,7 @@ pub length-transpose : (w : ℕ) (rows : List ℕ) → length (transpose w rows)
 unfolding transpose
 length-transpose w rows = length-tabulate (column rows) w
 
-pub bit-transpose : (w : ℕ) (rows : List ℕ) → Cases w rows → (i k : ℕ) → bit (row (transpose w rows) k) i ≡ bit (row rows i) k
+bit-transpose : (w : ℕ) (rows : List ℕ) → Cases w rows → (i k : ℕ) → bit (row (transpose w rows) k) i ≡ bit (row rows i) k
 unfolding transpose
 bit-transpose w rows h i k = go (decLt k w)
   where
@@ -92,7 +92,7 @@ chain-transpose w s h ch = places-chain (transpose w s) cross
         go (inl x) = inr (rw (bit-transpose w s h i l) x)
         go (inr x) = inl (rw (bit-transpose w s h j k) x)
 
-pub within-transpose : (w : ℕ) (r s : List ℕ) → Cases w r → Within r s → Within (transpose w r) (transpose w s)
+within-transpose : (w : ℕ) (r s : List ℕ) → Cases w r → Within r s → Within (transpose w r) (transpose w s)
 within-transpose w r s h v = record {
   size = length-transpose w s ∙ sym (length-transpose w r);
   inside = λ c g p. has-transpose w r h g c .0 (v .inside g c (has-transpose w s (cases-within w r s h v) g c .1 p));

@@ -23,13 +23,13 @@ use Rattle.writer.proofs.PairLines.{rows-wide}
 use Rattle.writer.proofs.Counting.{Small, counting-small}
 
 -- ---- the parts of the file
-pub file-length : (t : Table) (n : ℕ) → length (fileBytes t n)
+file-length : (t : Table) (n : ℕ) → length (fileBytes t n)
     ≡ 52 + length (digits (t .gauges)) + length (digits (t .cases)) + length (digits n) + length (rowsFrom (gaugeOf (t .gauges)) (t .rows) 0)
 file-length t n = simp length-append (omega arith)
 
 module _ (t : Table) (ok : Legal t) where
   -- the pairs of its rows over all 64 cases are its pairs
-  pub pairs-all : pairsAt (gaugeOf (t .gauges)) (t .rows) 0 ≡ pairs t
+  pairs-all : pairsAt (gaugeOf (t .gauges)) (t .rows) 0 ≡ pairs t
   pairs-all =
       rows-wide (t .cases) 1 (tableRows t) (ok .cases-high) (λ i. subst (λ (r : ℕ). r < 2 ^ t .cases) (sym (row-tableRows t ok i)) (ok .rows-bits i))
 

@@ -7,7 +7,7 @@ use mathlib.Core.Bool.{Bool, true, false, not, _&&_}
 use native.Mathlib.Omega.{arith}
 use native.Mathlib.Numerals.{add-one}
 use native.Mathlib.Nat.{pow-suc}
-use lib.ListN.{length, getD, take, drop, length-append, length-take, drop-of-length-le}
+use lib.ListN.{length, getD, take, length-append, length-take, drop-of-length-le}
 use lib.Seq.{drop-cons, getD-take}
 use lib.Dec.{eqb}
 use lib.Count.{trailingZeros}
@@ -57,7 +57,7 @@ row-none g zero c b e = refl
 row-none g (suc n) c b e = row-even g n c b (λ h. omega arith) ∙ row-none g n (suc c) (b / 2) (omega arith)
 
 -- a row has no pair behind its highest bit
-pub row-wide : (g : Gauge) (n m c b : ℕ) → b < 2 ^ n → n ≤ m → rowPairs g n c b ≡ rowPairs g m c b
+row-wide : (g : Gauge) (n m c b : ℕ) → b < 2 ^ n → n ≤ m → rowPairs g n c b ≡ rowPairs g m c b
 row-wide g zero m c b l h = row-none g zero c b (omega arith) ∙ sym (row-none g m c b (omega arith))
 row-wide g (suc n) zero c b l h = absurd (omega arith)
 row-wide g (suc n) (suc m) c b l h =

@@ -22,7 +22,7 @@ abbrev pub Above : List ℕ → Type 0
 Above [] = Unit {0}
 Above (b ∷ s) = (13 < b) × Above s
 
-pub above-append : (s t : List ℕ) → Above s → Above t → Above (s ++ t)
+above-append : (s t : List ℕ) → Above s → Above t → Above (s ++ t)
 above-append [] t h k = k
 above-append (b ∷ s) t h k = (h .0, above-append s t (h .1) k)
 
@@ -32,7 +32,7 @@ line-front [] s h = refl
 line-front (b ∷ l) s h =
     rw (ne-eqb b 10 (omega arith), lines) (rw (ne-eqb b 13 (omega arith), line-front l s (h .1)) refl)
 
-pub decimal-above : (k n : ℕ) → Above (decimal k n)
+decimal-above : (k n : ℕ) → Above (decimal k n)
 unfolding decimal
 decimal-above zero n = tt
 decimal-above (suc k) n =
@@ -47,7 +47,7 @@ pub two-above : (a b : ℕ) → Above (digits a ++ 32 ∷ digits b)
 two-above a b = text-above a (digits b) (decimal-above 9 b)
 
 -- ---- fields
-pub scan-digit : (k v d : ℕ) (s : List ℕ) → d < 10 → k < 9 → scan k v ((48 + d) ∷ s) ≡ scan (suc k) (v * 10 + d) s
+scan-digit : (k v d : ℕ) (s : List ℕ) → d < 10 → k < 9 → scan k v ((48 + d) ∷ s) ≡ scan (suc k) (v * 10 + d) s
 unfolding scan
 scan-digit k v d s hd hk =
     rw (
@@ -60,7 +60,7 @@ scan-digit k v d s hd hk =
     )
     (ap (λ (x : ℕ). scan (suc k) (v * 10 + x) s) (omega arith))
 
-pub scan-decimal : (k n : ℕ) (s : List ℕ) → n < 10 ^ k → k ≤ 9 → scan 0 0 (decimal k n ++ s) ≡ scan (length (decimal k n)) n s
+scan-decimal : (k n : ℕ) (s : List ℕ) → n < 10 ^ k → k ≤ 9 → scan 0 0 (decimal k n ++ s) ≡ scan (length (decimal k n)) n s
 unfolding decimal
 scan-decimal zero n s h hk = ap (λ (x : ℕ). scan 0 x s) (omega arith)
 scan-decimal (suc k) n s h hk =
@@ -71,16 +71,16 @@ scan-decimal (suc k) n s h hk =
     ∙ ap (λ (x : ℕ). scan (suc (length (decimal k (n / 10)))) x s) (omega arith)))
     (lt-or-le n 10)
 
-pub close-some : (k v : ℕ) (fs : List ℕ) → 1 ≤ k → close k v (some fs) ≡ some (v ∷ fs)
+close-some : (k v : ℕ) (fs : List ℕ) → 1 ≤ k → close k v (some fs) ≡ some (v ∷ fs)
 close-some zero v fs h = absurd (omega arith)
 close-some (suc k) v fs h = refl
 
 -- a number before a space, and a number at the end of the line
-pub scan-next : (n : ℕ) (s fs : List ℕ) → n < 10 ^ 9 → scan 0 0 s ≡ some fs → scan 0 0 (digits n ++ 32 ∷ s) ≡ some (n ∷ fs)
+scan-next : (n : ℕ) (s fs : List ℕ) → n < 10 ^ 9 → scan 0 0 s ≡ some fs → scan 0 0 (digits n ++ 32 ∷ s) ≡ some (n ∷ fs)
 unfolding scan
 scan-next n s fs h e = scan-decimal 9 n (32 ∷ s) h (omega arith) ∙ rw e (close-some _ n fs (decimal-some 8 n))
 
-pub scan-last : (n : ℕ) → n < 10 ^ 9 → scan 0 0 (digits n) ≡ some (n ∷ [])
+scan-last : (n : ℕ) → n < 10 ^ 9 → scan 0 0 (digits n) ≡ some (n ∷ [])
 unfolding scan
 scan-last n h =
     ap (scan 0 0) (sym (append-nil (digits n)))

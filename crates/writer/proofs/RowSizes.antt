@@ -1,7 +1,7 @@
 -- One row, counted by its bits: as many pairs as bits, and each line two bytes beside its numbers, the digits of the gauge, and two digits
 -- of the case, or one for the cases 1 to 9 (`row-totals`). The sum over the rows is in Counting.antt.
 use Prim.Native.Nat.{ℕ, zero, suc, _+_, _-_, _*_, _/_, _%_, _^_, _≤_, _<_}
-use mathlib.Core.Path.{_≡_, refl, ap, ap₂, sym, _∙_}
+use mathlib.Core.Path.{_≡_, refl, ap, sym, _∙_}
 use mathlib.Core.Logic.{⊎-elim}
 use native.Mathlib.Omega.{arith}
 use native.Mathlib.Numerals.{add-one}

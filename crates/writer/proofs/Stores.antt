@@ -12,7 +12,7 @@ use Rattle.writer.specs.Writing.{digits}
 use Rattle.writer.specs.private.StoreSteps.{Wrote, fieldBytes}
 use Rattle.writer.proofs.Decimals.{digits-short, digits-long, width-one, width-two}
 
-pub sets-append : (l : List ℕ) (i : ℕ) (vs ws : List ℕ) → sets l i (vs ++ ws) ≡ sets (sets l i vs) (i + length vs) ws
+sets-append : (l : List ℕ) (i : ℕ) (vs ws : List ℕ) → sets l i (vs ++ ws) ≡ sets (sets l i vs) (i + length vs) ws
 sets-append l i [] ws = ap (λ (n : ℕ). sets l n ws) (sym (add-zero i))
 sets-append l i (v ∷ vs) ws = sets-append (set l i v) (suc i) vs ws ∙ ap (λ (n : ℕ). sets (sets (set l i v) (suc i) vs) n ws) e
   where

@@ -1,3 +1,3 @@
--- What a reader must believe of writing; `Steps` is what the crate's own steps promise each other, and no public promise cites it.
+-- What a reader must believe of writing. What the crate's own steps promise each other is private.
 pub mod Writing
 pub mod private

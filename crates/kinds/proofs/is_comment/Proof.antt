@@ -5,16 +5,20 @@ use Rattle.kinds.proofs.is_comment.Statement.{statement}
 use Rattle.kinds.proofs.is_comment.Tie as tie
 
 returns : tie.Need-returns
-returns c = search (needs, comment-empty)
+returns c = comment-empty (c .before .args .line .now) (c .if1 .taken)
 
 shared-slice-read-if2 : tie.Need-shared-slice-read-if2
 shared-slice-read-if2 c = search needs
 
 returns-2 : tie.Need-returns-2
-returns-2 c = search (needs, comment-yes)
+returns-2 c =
+    let e = c .before .before in
+    comment-yes (e .before .args .line .now) (e .if1 .left) (c .if2 .taken)
 
 returns-3 : tie.Need-returns-3
-returns-3 c = search (needs, comment-no)
+returns-3 c =
+    let e = c .before .before in
+    comment-no (e .before .args .line .now) (e .if1 .left) (c .if2 .left)
 
 pub is-comment-spec : {M : Type 1} → statement M
 is-comment-spec = tie.close (tie.spec returns shared-slice-read-if2 returns-2 returns-3)

@@ -1,7 +1,7 @@
 -- `text::field_at` meets its contract: the fields from here on, after the digits read so far, are those from the start on. `round` is the
 -- start of a turn, seen from the test whether its byte is blank; each return and each way round the loop has its law of `Scanning`.
 use Prim.Native.Nat.{_≤_, _<_, _-_, _^_}
-use mathlib.Core.Path.{_≡_, refl, sym}
+use mathlib.Core.Path.{_≡_, refl}
 use borrow.Author.Needs.{needs}
 use native.Mathlib.Omega.{arith}
 use lib.ListN.{length, drop}

@@ -1,4 +1,4 @@
--- `text::fields_of` meets its contract: the fields found so far, and what the next place says, give the answer (`Scanning`). Assumes nothing.
+-- `text::fields_of` meets its contract: the fields found so far, and what the next place says, give the answer (`Scanning`).
 use mathlib.Core.Path.{_≡_, refl}
 use mathlib.Core.List.{[], _∷_}
 use mathlib.Core.Logic.{⊎-elim}

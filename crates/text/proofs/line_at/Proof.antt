@@ -1,7 +1,6 @@
 -- `text::line_at` meets its contract: the line at the loop's place is the line at the start.
--- Assumes nothing.
 use Prim.Native.Nat.{_-_}
-use mathlib.Core.Path.{_≡_}
+use mathlib.Core.Path.{_≡_, refl}
 use borrow.Author.Needs.{needs}
 use native.Mathlib.Omega.{arith}
 use lib.ListN.{length}
@@ -17,7 +16,7 @@ abbrev μ-loop : tie.MeasureT-loop
 μ-loop file at i₀ i = length file - i
 
 loop-holds : tie.Need-loop-holds Inv-loop μ-loop
-loop-holds c = search needs
+loop-holds c = refl
 
 end-at-requires : tie.Need-end-at-requires Inv-loop μ-loop
 end-at-requires c κs = search needs
@@ -26,19 +25,23 @@ add-t7 : tie.Need-add-t7 Inv-loop μ-loop
 add-t7 c = omega (arith, end-fits _ _ _ (c .before .end-at .ensures) (c .before .before .loop-test .taken))
 
 returns : tie.Need-returns Inv-loop μ-loop
-returns c = search (needs, span-end)
+returns c =
+    let t = c .before .before in
+    span-end _ (t .before .loop .i) _ (t .before .loop .inv) (t .loop-test .taken) _ (c .before .end-at .ensures) (c .if1 .taken)
 
 add-i : tie.Need-add-i Inv-loop μ-loop
-add-i c = search needs
+add-i c = omega arith
 
 loop-less : tie.Need-loop-less Inv-loop μ-loop
-loop-less c = search needs
+loop-less c = omega arith
 
 loop-again : tie.Need-loop-again Inv-loop μ-loop
-loop-again c = search (needs, span-more)
+loop-again c =
+    let t = c .before .before in
+    span-more _ (t .before .loop .i) _ (t .before .loop .inv) (t .loop-test .taken) _ (c .before .end-at .ensures) (c .if1 .left)
 
 returns-2 : tie.Need-returns-2 Inv-loop μ-loop
-returns-2 c = search (needs, span-past)
+returns-2 c = span-past _ (c .before .loop .i) _ (c .before .loop .inv) (c .loop-test .left)
 
 pub line-at-spec : {M : Type 1} → statement M
 line-at-spec =

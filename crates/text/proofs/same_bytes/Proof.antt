@@ -1,6 +1,7 @@
 -- `text::same_bytes` meets its contract: from here on the texts are the same exactly when they are from the start on.
 use Prim.Native.Nat.{_≤_, _-_}
-use mathlib.Core.Path.{_≡_}
+use mathlib.Core.Path.{_≡_, refl}
+use native.Mathlib.Omega.{arith}
 use borrow.Author.Needs.{needs}
 use lib.ListN.{length, drop}
 use Rattle.text.specs.Bytes.{sameBytes}
@@ -15,10 +16,10 @@ abbrev μ-loop : tie.MeasureT-loop
 μ-loop a b i₀ i = length a - i
 
 returns : tie.Need-returns Inv-loop μ-loop
-returns c = search (needs, same-lengths)
+returns c = let s = c .before in same-lengths (s .args .a .now) (s .args .b .now) (λ e. omega (arith, c .if1 .taken, e))
 
 loop-holds : tie.Need-loop-holds Inv-loop μ-loop
-loop-holds c = search needs
+loop-holds c = (omega arith, omega (arith, c .if1 .left), refl)
 
 shared-slice-read-if2 : tie.Need-shared-slice-read-if2 Inv-loop μ-loop
 shared-slice-read-if2 c = search needs
@@ -27,19 +28,25 @@ shared-slice-read-if2-2 : tie.Need-shared-slice-read-if2-2 Inv-loop μ-loop
 shared-slice-read-if2-2 c = search needs
 
 returns-2 : tie.Need-returns-2 Inv-loop μ-loop
-returns-2 c = search (needs, same-differ)
+returns-2 c =
+    let t = c .before .before .before in
+    let l = t .before in
+    same-differ _ _ (l .loop .i) _ (l .loop .inv .2) (l .loop .inv .1) (t .loop-test .taken) (c .if2 .taken)
 
 add-i : tie.Need-add-i Inv-loop μ-loop
-add-i c = search needs
+add-i c = omega arith
 
 loop-less : tie.Need-loop-less Inv-loop μ-loop
-loop-less c = search needs
+loop-less c = omega arith
 
 loop-again : tie.Need-loop-again Inv-loop μ-loop
-loop-again c = search (needs, same-more)
+loop-again c =
+    let t = c .before .before .before in
+    let l = t .before in
+    (omega arith, l .loop .inv .1, same-more _ _ (l .loop .i) _ (l .loop .inv .2) (l .loop .inv .1) (t .loop-test .taken) (c .if2 .left))
 
 returns-3 : tie.Need-returns-3 Inv-loop μ-loop
-returns-3 c = search (needs, same-end)
+returns-3 c = let l = c .before in same-end _ _ (l .loop .i) _ (l .loop .inv .2) (l .loop .inv .1) (c .loop-test .left)
 
 pub same-bytes-spec : {M : Type 1} → statement M
 same-bytes-spec =

@@ -51,7 +51,8 @@ loop-again : tie.Need-loop-again Inv-loop μ-loop
 loop-again c =
     let r = c .before .before in
     let l = r .before .before .before in
-    putting-more _ _ _ _ _ _ _ _ (l .loop .inv) (r .before .first .ensures .counted) (lowest r) (r .rest .ensures) (c .with .ensures .inside (l .before .pre .0))
+    putting-more _ _ _ _ _ _ _ _ (l .loop .inv) (r .before .first .ensures .counted) (lowest r) (r .rest .ensures)
+    (c .with .ensures .inside (omega (arith, l .before .pre .0, lowest r)))
 
 returns : tie.Need-returns Inv-loop μ-loop
 returns c = putting-all _ _ _ _ _ (c .before .loop .inv) (c .loop-test .left)

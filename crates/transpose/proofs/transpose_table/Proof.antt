@@ -1,6 +1,8 @@
 -- `transpose::transpose_table` meets its contract: the answer is that of the check, and the rows are the columns.
 use borrow.Author.Needs.{needs}
-use mathlib.Core.Path.{_∙_}
+use Prim.Native.Nat.{ℕ}
+use mathlib.Core.List.{List}
+use mathlib.Core.Path.{ap, _∙_}
 use Rattle.refusals.proofs.Answering.{verdict-refused, verdict-accepted, answer-refused, answer-given}
 use Rattle.transpose.proofs.transpose_table.Statement.{statement}
 use Rattle.transpose.proofs.transpose_table.Tie as tie
@@ -29,7 +31,9 @@ transpose-rows-requires c κs = search needs
 returns-2 : tie.Need-returns-2
 returns-2 c =
     let k = c .before .before in
-    rw (c .transpose-rows .ensures) (answer-given _ _ _ (verdict-accepted _ _ (k .enum-told .given .1) (k .before .before .check-table .ensures)))
+    let t = k .before .before .before .args .t in
+    ap (λ (rows : List ℕ). record { refusal = 0; value = record { gauges = t .cases; cases = t .gauges; rows = rows } }) (c .transpose-rows .ensures)
+    ∙ answer-given _ _ _ (verdict-accepted _ _ (k .enum-told .given .1) (k .before .before .check-table .ensures))
 
 pub transpose-table-spec : {M : Type 1} → statement M
 transpose-table-spec =

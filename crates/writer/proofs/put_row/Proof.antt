@@ -1,6 +1,5 @@
 -- `writer::put_row` meets its contract: at each turn what is stored and what is still to be stored are the lines of the row (`Writing`),
 -- and the lowest case left is the next to be written (`row-first`).
-use mathlib.Core.Path.{_≡_}
 use native.Mathlib.Omega.{arith}
 use Rattle.sets.specs.First.{Lowest, Rest}
 use Rattle.writer.specs.Writing.{pairLines, rowPairs}
