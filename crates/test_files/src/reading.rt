@@ -1,43 +1,58 @@
-// A case of the reader: a file is read, and the line says what came.
-use crate::build;
+// Cases of the reader and of the comment lookup: a file is read, and the line says what came.
 use crate::say;
-use refusals::Verdict;
+use crate::script;
+use crate::subject;
 
-// The file as it stands.
-pub fn whole(n: u64, file: &[u8], label: &[u8]) -> u64 {
+pub fn plain(file: &[u8], label: &[u8]) {
     answer(file);
-    say::label(n, label)
+    say::label(label);
 }
 
-// A file that is the banner's line and what follows it.
-pub fn rest(n: u64, after: &[u8], label: &[u8]) -> u64 {
-    let mut space = [0u8; 256];
-    let p = build::banner(&mut space);
-    let end = build::put(&mut space, p, after);
-    whole(n, build::front(&space, end), label)
-}
-
-// The file as it stands; the line has its length too.
-pub fn sized(n: u64, file: &[u8], label: &[u8]) -> u64 {
+// The line has the file's length too.
+pub fn sized(file: &[u8], label: &[u8]) {
     answer(file);
-    say::text(b", of ");
-    say::size(file.len());
+    say::size(b", of ", file.len());
     say::text(b" bytes");
-    say::label(n, label)
+    say::label(label);
 }
 
 // Reads a file, and writes its table or its refusal.
 pub fn answer(file: &[u8]) {
-    let got = reader::read(file);
-    let verdict = got.verdict;
-    let t = got.table;
-    match verdict {
-        Verdict::Refused(why) => {
-            say::refused(why);
-        }
-        Verdict::Accepted => {
-            say::text(b"read ");
-            say::table(t);
-        }
+    let got = subject::read(file);
+    if got.refused != 0 {
+        say::refused(got.refused);
+        return;
     }
+    say::text(b"read ");
+    let t = got.table;
+    say::table(t);
+}
+
+// Looks a comment up, and writes its place and the part shown.
+pub fn comment(file: &[u8], k: u64, label: &[u8]) {
+    say::text(b"comment ");
+    say::number(k);
+    place(file, k);
+    let part = subject::comment(file, k);
+    say::size(b", shows ", part.len());
+    say::text(b" <");
+    say::text(front(part));
+    say::text(b">");
+    say::label(label);
+}
+
+fn place(file: &[u8], k: u64) {
+    let found = subject::comment_at(file, k);
+    if found.refused != 0 {
+        say::text(b" ");
+        say::refused(found.refused);
+        return;
+    }
+    say::size(b" at ", found.start);
+    say::size(b" of ", found.length);
+}
+
+// The first 40 bytes; all where there are fewer.
+fn front(part: &[u8]) -> &[u8] {
+    script::part(part, 0, 40)
 }
