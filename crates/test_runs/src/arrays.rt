@@ -1,4 +1,5 @@
-// Arrays read and written at any index: a place past the end reads as 0, and a store there does nothing. So no caller owes a bound.
+// Arrays read and written at any index: a place past the end reads as 0, and a store there does nothing. So no caller owes a bound. And
+// sums that may wrap; no count here comes near the largest number.
 
 pub fn get(a: &[u64; 64], i: u64) -> u64 {
     if 64 <= i {
@@ -31,51 +32,12 @@ pub fn put_pick(a: &mut [u8; 64], i: u64, x: u64) {
     }
 }
 
-pub fn get_move(a: &[u64; 256], i: u64) -> u64 {
-    if 256 <= i {
-        return 0;
-    }
-    let at = i as usize;
-    a[at]
-}
-
-pub fn put_move(a: &mut [u64; 256], i: u64, x: u64) {
-    if i < 256 {
-        let at = i as usize;
-        a[at] = x;
-    }
-}
-
-pub fn get_chain(a: &[u64; 8192], i: u64) -> u64 {
-    if 8192 <= i {
-        return 0;
-    }
-    let at = i as usize;
-    a[at]
-}
-
-pub fn put_chain(a: &mut [u64; 8192], i: u64, x: u64) {
-    if i < 8192 {
-        let at = i as usize;
-        a[at] = x;
-    }
-}
-
-// One more; no count here comes near the largest number.
 pub fn more(n: u64) -> u64 {
     std::num::wrapping_add_u64(n, 1)
 }
 
 pub fn plus(a: u64, b: u64) -> u64 {
     std::num::wrapping_add_u64(a, b)
-}
-
-// A test as a number, to be compared.
-pub fn truth(b: bool) -> u64 {
-    if b {
-        return 1;
-    }
-    0
 }
 
 fn wide(x: u8) -> u64 {

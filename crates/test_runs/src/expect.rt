@@ -1,97 +1,97 @@
-// The comparisons that the groups share: an answer, a chain or a value with what is due, and the blank fields beside a refusal.
+// The comparisons that the groups share: an answer, a chain, a table or a value with what is due. Blank fields are those of no gauges, no
+// cases, no pairs and the fresh state.
 use super::arrays;
+use super::boards;
 use super::path;
-use super::path::Due;
-use super::plain;
+use super::path::Spot;
 use super::sides;
 use super::sides::Answer;
 use super::sides::Value;
 use super::tally;
 use super::tally::Tally;
-use super::tally::What;
 use table::Chain;
 use table::Table;
 
-// An answer that is due: what it says, its moves and its chain.
-pub fn answered(t: Tally, due: Due, sets: &[u64; 64], a: Answer) -> Tally {
-    let chain = a.chain;
-    let says = tally::same(t, What::Outcome, due_to_say(due), a.says);
-    let moves = tally::same(says, What::Moves, due.moves, a.moves);
-    if due.event < path::HAND_OUT {
-        return blank_chain(moves, chain);
-    }
-    let place = due.event - path::HAND_OUT;
-    a_chain(moves, arrays::get(sets, place), chain)
-}
-
-fn due_to_say(due: Due) -> u64 {
-    if due.event == path::NOTHING {
-        return sides::SPENT;
-    }
-    if due.event == path::END {
-        return sides::ENDS;
-    }
-    sides::HANDED_OUT
-}
-
-// A chain of the table at hand with the pairs `set`.
-pub fn a_chain(t: Tally, set: u64, chain: Chain) -> Tally {
+// A chain of a table with so many gauges, and its pairs.
+pub fn a_chain(t: Tally, gauges: u64, set: u64, chain: Chain) -> Tally {
     let rows = chain.rows;
-    let counted = tally::same(t, What::ChainCount, t.gauges, chain.gauges);
-    tally::same(counted, What::ChainRows, 0, sides::rows_off(&rows, set))
+    let counted = tally::same(t, b"row count of a chain", gauges, chain.gauges);
+    tally::same(
+        counted,
+        b"rows of a chain that differ",
+        0,
+        boards::rows_off(&rows, set),
+    )
+}
+
+// A table by its numbers and pairs.
+pub fn a_table(t: Tally, gauges: u64, cases: u64, pairs: u64, table: Table) -> Tally {
+    let rows = table.rows;
+    let high = tally::same(t, b"gauges of a table", gauges, table.gauges);
+    let wide = tally::same(high, b"cases of a table", cases, table.cases);
+    tally::same(
+        wide,
+        b"rows of a table that differ",
+        0,
+        boards::rows_off(&rows, pairs),
+    )
 }
 
 // A paused value of the table at hand.
 pub fn a_value(t: Tally, state: u64, v: Value) -> Tally {
     let table = v.table;
-    let stated = tally::same(t, What::NextState, state, sides::state_of(v));
+    let stated = tally::same(t, b"picks and phase of a value", state, boards::state_of(v));
     a_table(stated, t.gauges, t.cases, t.pairs, table)
-}
-
-fn a_table(t: Tally, gauges: u64, cases: u64, pairs: u64, table: Table) -> Tally {
-    let rows = table.rows;
-    let high = tally::same(t, What::NextTable, gauges, table.gauges);
-    let wide = tally::same(high, What::NextTable, cases, table.cases);
-    tally::same(wide, What::NextTable, 0, sides::rows_off(&rows, pairs))
-}
-
-// A refused run call: its number, and every other field blank.
-pub fn refused_call(t: Tally, what: What, number: u64, a: Answer) -> Tally {
-    let chain = a.chain;
-    let next = a.next;
-    let says = tally::same(t, what, number, a.says);
-    let moves = tally::same(says, What::Blank, 0, a.moves);
-    blank_value(blank_chain(moves, chain), next)
-}
-
-pub fn blank_chain(t: Tally, chain: Chain) -> Tally {
-    let rows = chain.rows;
-    let counted = tally::same(t, What::Blank, 0, chain.gauges);
-    tally::same(counted, What::Blank, 0, sides::rows_off(&rows, 0))
 }
 
 pub fn blank_value(t: Tally, v: Value) -> Tally {
     let table = v.table;
     let stated = tally::same(
         t,
-        What::Blank,
-        path::state(0, 0, path::DOWN, 0),
-        sides::state_of(v),
+        b"picks and phase of a blank value",
+        0,
+        boards::state_of(v),
     );
-    blank_table(stated, table)
+    a_table(stated, 0, 0, 0, table)
 }
 
-pub fn blank_table(t: Tally, table: Table) -> Tally {
-    let rows = table.rows;
-    let high = tally::same(t, What::Blank, 0, table.gauges);
-    let wide = tally::same(high, What::Blank, 0, table.cases);
-    tally::same(wide, What::Blank, 0, sides::rows_off(&rows, 0))
-}
-
-// The number of picks that a side can make.
-pub fn most_picks(t: Tally, side: u64) -> u64 {
-    if side == plain::GAUGES {
-        return t.gauges;
+// An answer that is due where a call begins at a number of moves: what it says, its moves, its chain, and the next value.
+pub fn answered(t: Tally, from: u64, due: Spot, sets: &[u64; 64], a: Answer) -> Tally {
+    let chain = a.chain;
+    let next = a.next;
+    let says = tally::same(t, b"answer of a call", due_to_say(due.event), a.says);
+    let moves = tally::same(
+        says,
+        b"moves of a call",
+        due.moves,
+        arrays::plus(from, a.moves),
+    );
+    if due.event == path::HAND_OUT {
+        let set = arrays::get(sets, std::num::wrapping_sub_u64(due.handed, 1));
+        return a_value(
+            a_chain(moves, t.gauges, set, chain),
+            path::state_of(due),
+            next,
+        );
     }
-    t.cases
+    a_value(a_chain(moves, 0, 0, chain), path::state_of(due), next)
+}
+
+fn due_to_say(event: u64) -> u64 {
+    if event == path::NOTHING {
+        return sides::SPENT;
+    }
+    if event == path::END {
+        return sides::ENDS;
+    }
+    sides::HANDED_OUT
+}
+
+// A refused run call: its number, and every other field blank.
+pub fn refused_call(t: Tally, number: u64, a: Answer) -> Tally {
+    let chain = a.chain;
+    let next = a.next;
+    let says = tally::same(t, b"refusal of a call", number, a.says);
+    let moves = tally::same(says, b"moves of a refused call", 0, a.moves);
+    blank_value(a_chain(moves, 0, 0, chain), next)
 }

@@ -1,7 +1,9 @@
-// Group 6: tables whose lists are known by count. The n by n table where gauge g lacks only case g has n! ladders; K2's run first ends with
+// Group 5: tables whose lists are known by count. The n by n table where gauge g lacks only case g has n! ladders; K2's run first ends with
 // move 25 (01, K9); the full 64 by 64 table has one ladder, itself; the empty one has the empty ladder. And the numbers of chains that the
 // plain lister finds in full tables.
 use super::arrays;
+use super::boards;
+use super::calls;
 use super::expect;
 use super::path;
 use super::plain;
@@ -11,11 +13,15 @@ use super::sides::Answer;
 use super::sides::Value;
 use super::tally;
 use super::tally::Tally;
-use super::tally::What;
 use table::Chain;
 use table::Table;
 
 const ALL: u64 = 0xffff_ffff_ffff_ffff;
+
+// The board without its diagonal.
+const OFF_DIAGONAL: u64 = 0x7fbf_dfef_f7fb_fdfe;
+
+const MOST_BUDGET: u64 = 1_000_000;
 
 // A run under way: the next value, the last pick sequence handed out, the hand-outs, the moves, and whether it ended.
 struct Counting {
@@ -25,32 +31,6 @@ struct Counting {
     handed: u64,
     moves: u64,
     ended: bool,
-}
-
-// The tables that lack the diagonal, n = 1 to 8, both sides.
-pub fn diagonals(t: Tally) -> Tally {
-    let mut now = t;
-    let mut ladders: u64 = 1;
-    let mut n: u64 = 1;
-    while n < 9 {
-        ladders = times(ladders, n);
-        now = tally::about(now, n, n, plain::full(n, n) & 0x7fbf_dfef_f7fb_fdfe);
-        now = ladders_of(now, plain::GAUGES, ladders);
-        now = ladders_of(now, plain::CASES, ladders);
-        n += 1;
-    }
-    now
-}
-
-// A product of small numbers.
-fn times(a: u64, n: u64) -> u64 {
-    let mut sum: u64 = 0;
-    let mut i: u64 = 0;
-    while i < n {
-        sum = arrays::plus(sum, a);
-        i += 1;
-    }
-    sum
 }
 
 // The full n by n table has as many chains as n by n matrices of zeros and ones are known by their row and column sums: a check of the plain
@@ -64,42 +44,59 @@ pub fn chains(t: Tally) -> Tally {
 
 fn chains_of(t: Tally, n: u64, chains: u64) -> Tally {
     let all = plain::full(n, n);
-    let named = tally::about(t, n, n, all);
-    tally::same(named, What::Chains, chains, plain::count_chains(all))
+    let list = plain::side_list(plain::GAUGES, all);
+    tally::same(
+        tally::about(t, n, n, all),
+        b"number of chains",
+        chains,
+        list.chains,
+    )
+}
+
+// The tables that lack the diagonal, n = 1 to 8, both sides.
+pub fn diagonals(t: Tally) -> Tally {
+    let mut now = t;
+    let mut n: u64 = 1;
+    while n < 9 {
+        now = tally::about(now, n, n, plain::full(n, n) & OFF_DIAGONAL);
+        now = ladders_of(now, plain::GAUGES, MOST_BUDGET, calls::factorial(n));
+        now = ladders_of(now, plain::CASES, MOST_BUDGET, calls::factorial(n));
+        n += 1;
+    }
+    now
 }
 
 // K2, both sides: six ladders and the end with move 25, in calls of the largest budget and in calls of one move.
 pub fn known(t: Tally) -> Tally {
-    let named = tally::about(t, 3, 3, refusing::k2());
-    let first = moves_of(named, plain::GAUGES, 1_000_000, 6, 25);
-    let second = moves_of(first, plain::GAUGES, 1, 6, 25);
-    let third = moves_of(second, plain::CASES, 1_000_000, 6, 25);
-    moves_of(third, plain::CASES, 1, 6, 25)
+    let named = tally::about(t, 3, 3, refusing::K2);
+    let first = k2_of(named, plain::GAUGES, MOST_BUDGET);
+    let second = k2_of(first, plain::GAUGES, 1);
+    let third = k2_of(second, plain::CASES, MOST_BUDGET);
+    k2_of(third, plain::CASES, 1)
 }
 
-fn ladders_of(t: Tally, side: u64, ladders: u64) -> Tally {
-    let done = count(t, side, 1_000_000);
+fn k2_of(t: Tally, side: u64, budget: u64) -> Tally {
+    let done = count(t, side, budget);
+    let now = done.tally;
+    let moved = tally::same(now, b"moves to the first end", 25, done.moves);
+    finished(moved, done.handed, 6, done.ended)
+}
+
+fn ladders_of(t: Tally, side: u64, budget: u64, ladders: u64) -> Tally {
+    let done = count(t, side, budget);
     let now = done.tally;
     finished(now, done.handed, ladders, done.ended)
 }
 
-fn moves_of(t: Tally, side: u64, budget: u64, ladders: u64, moves: u64) -> Tally {
-    let done = count(t, side, budget);
-    let now = done.tally;
-    let moved = tally::same(now, What::FirstEnd, moves, done.moves);
-    finished(moved, done.handed, ladders, done.ended)
-}
-
 fn finished(t: Tally, handed: u64, ladders: u64, ended: bool) -> Tally {
-    let mut now = t;
-    now.ladders = arrays::plus(t.ladders, handed);
-    let counted = tally::same(now, What::Ladders, ladders, handed);
-    tally::holds(counted, What::Ends, ended)
+    let named = tally::of_side(t, t.side, handed);
+    let counted = tally::same(named, b"ladders handed out", ladders, handed);
+    tally::holds(counted, b"ends", ended)
 }
 
 // The calls of a run from the fresh start to the first end.
 fn count(t: Tally, side: u64, budget: u64) -> Counting {
-    let mut going = begin(t, side);
+    let mut going = begin(tally::of_side(t, side, 0));
     let mut k: u64 = 0;
     while k < 100_000 {
         going = one_call(going, side, budget);
@@ -111,13 +108,16 @@ fn count(t: Tally, side: u64, budget: u64) -> Counting {
     going
 }
 
-fn begin(t: Tally, side: u64) -> Counting {
-    let started = sides::start(side, sides::table_of(t.gauges, t.cases, t.pairs));
+fn begin(t: Tally) -> Counting {
+    let started = sides::start(t.side, boards::table_of(t.gauges, t.cases, t.pairs));
     let value = started.value;
-    let mut now = tally::called(t);
-    now.side = side;
     Counting {
-        tally: tally::same(now, What::Start, sides::ACCEPTED, started.says),
+        tally: tally::same(
+            tally::called(t, 1),
+            b"answer of a start",
+            sides::ACCEPTED,
+            started.says,
+        ),
         value: value,
         last: 0,
         handed: 0,
@@ -128,21 +128,20 @@ fn begin(t: Tally, side: u64) -> Counting {
 
 fn one_call(going: Counting, side: u64, budget: u64) -> Counting {
     let value = going.value;
-    let answer = sides::call(side, value, budget);
     let t = going.tally;
-    let counted = tally::called(t);
-    if answer.says == sides::HANDED_OUT {
-        return handed(going, counted, side, answer);
-    }
+    let answer = sides::call(side, value, budget);
     let next = answer.next;
-    Counting {
-        tally: tally::holds(counted, What::Outcome, is_due(answer.says, budget)),
-        value: next,
-        last: going.last,
-        handed: going.handed,
-        moves: arrays::plus(going.moves, answer.moves),
-        ended: answer.says == sides::ENDS,
+    let mut after = going;
+    after.value = next;
+    after.moves = arrays::plus(going.moves, answer.moves);
+    after.tally = tally::called(t, 1);
+    if answer.says == sides::HANDED_OUT {
+        return handed(after, side, answer);
     }
+    let called = after.tally;
+    after.tally = tally::holds(called, b"answer of a call", is_due(answer.says, budget));
+    after.ended = answer.says == sides::ENDS;
+    after
 }
 
 // An end, or where the budget is one move, spent; the move limits leave no other answer.
@@ -157,28 +156,25 @@ fn is_due(says: u64, budget: u64) -> bool {
 }
 
 // A hand-out: a maximal chain of the table whose pick sequence comes after the last one.
-fn handed(going: Counting, t: Tally, side: u64, answer: Answer) -> Counting {
+fn handed(going: Counting, side: u64, answer: Answer) -> Counting {
+    let t = going.tally;
     let chain = answer.chain;
     let rows = chain.rows;
-    let next = answer.next;
-    let pairs = sides::pairs_of(&rows);
-    let key = side_key(side, pairs);
-    let table = sides::table_of(t.gauges, t.cases, t.pairs);
-    let whole = expect::a_chain(t, pairs, chain);
+    let pairs = boards::pairs_of(&rows);
+    let key = plain::pick_key(plain::turned(side, pairs));
+    let table = boards::table_of(t.gauges, t.cases, t.pairs);
+    let whole = expect::a_chain(tally::called(t, 1), t.gauges, pairs, chain);
     let says = sides::judged_maximal(table, chain);
-    let judged = tally::same(tally::called(whole), What::JudgeMaximal, sides::YES, says);
-    Counting {
-        tally: tally::holds(
-            judged,
-            What::Order,
-            comes_after(going.handed, going.last, key),
-        ),
-        value: next,
-        last: key,
-        handed: arrays::more(going.handed),
-        moves: arrays::plus(going.moves, answer.moves),
-        ended: false,
-    }
+    let judged = tally::same(whole, b"judge of maximal chains", sides::YES, says);
+    let mut after = going;
+    after.tally = tally::holds(
+        judged,
+        b"order of pick sequences",
+        comes_after(going.handed, going.last, key),
+    );
+    after.last = key;
+    after.handed = arrays::more(going.handed);
+    after
 }
 
 fn comes_after(handed: u64, last: u64, key: u64) -> bool {
@@ -188,69 +184,66 @@ fn comes_after(handed: u64, last: u64, key: u64) -> bool {
     last < key
 }
 
-fn side_key(side: u64, pairs: u64) -> u64 {
-    if side == plain::GAUGES {
-        return plain::pick_key(pairs);
-    }
-    plain::pick_key(plain::exchange(pairs))
-}
-
-// The 64 by 64 tables, both sides: the full one with its ladder at move 65 and its end at move 130, the empty one with 1 and 2.
+// The 64 by 64 tables, both sides: the full one with its ladder at move 65 and its end 65 moves later, the empty one with 1 and 1.
 pub fn largest(t: Tally) -> Tally {
-    let first = one_ladder(t, plain::GAUGES, ALL, 65, 130);
-    let second = one_ladder(first, plain::CASES, ALL, 65, 130);
-    let third = one_ladder(second, plain::GAUGES, 0, 1, 2);
-    one_ladder(third, plain::CASES, 0, 1, 2)
+    let first = one_ladder(t, plain::GAUGES, ALL, 65);
+    let second = one_ladder(first, plain::CASES, ALL, 65);
+    let third = one_ladder(second, plain::GAUGES, 0, 1);
+    one_ladder(third, plain::CASES, 0, 1)
 }
 
 // A 64 by 64 table with equal rows, which is its only ladder: a hand-out, an end, and an end again.
-fn one_ladder(t: Tally, side: u64, row: u64, out: u64, end: u64) -> Tally {
-    let rows = [row; 64];
+fn one_ladder(t: Tally, side: u64, row: u64, moves: u64) -> Tally {
     let table = Table {
         gauges: 64,
         cases: 64,
-        rows: rows,
+        rows: [row; 64],
     };
-    let mut named = tally::about(t, 64, 64, row);
-    named.side = side;
-    named.ladders = arrays::more(t.ladders);
+    let named = tally::of_side(tally::about(t, 64, 64, row), side, 1);
     let started = sides::start(side, table);
     let fresh = started.value;
     let begun = tally::same(
-        tally::called(named),
-        What::Start,
+        tally::called(named, 1),
+        b"answer of a start",
         sides::ACCEPTED,
         started.says,
     );
-    let first = sides::call(side, fresh, 1_000_000);
-    let handed = step(begun, first, sides::HANDED_OUT, out);
+    let first = sides::call(side, fresh, MOST_BUDGET);
     let chain = first.chain;
-    let whole = same_rows(handed, chain, row);
-    let after = first.next;
-    let second = sides::call(side, after, 1_000_000);
-    let left = std::num::wrapping_sub_u64(end, out);
-    let ended = step(whole, second, sides::ENDS, left);
+    let next = first.next;
+    let whole = same_rows(step(begun, first, sides::HANDED_OUT, moves), chain, row);
+    two_ends(whole, side, next, moves)
+}
+
+fn two_ends(t: Tally, side: u64, value: Value, moves: u64) -> Tally {
+    let first = sides::call(side, value, MOST_BUDGET);
+    let next = first.next;
+    let second = sides::call(side, next, MOST_BUDGET);
     let last = second.next;
-    let third = sides::call(side, last, 1_000_000);
-    let again = step(ended, third, sides::ENDS, 1);
-    let over = third.next;
+    let ended = step(step(t, first, sides::ENDS, moves), second, sides::ENDS, 1);
+    let state = path::state(0, 0, path::ENDED, 0);
     tally::same(
-        again,
-        What::NextState,
-        path::state(0, 0, path::ENDED, 0),
-        sides::state_of(over),
+        ended,
+        b"picks and phase of a value",
+        state,
+        boards::state_of(last),
     )
 }
 
 fn step(t: Tally, answer: Answer, says: u64, moves: u64) -> Tally {
-    let said = tally::same(tally::called(t), What::Outcome, says, answer.says);
-    tally::same(said, What::Moves, moves, answer.moves)
+    let said = tally::same(tally::called(t, 1), b"answer of a call", says, answer.says);
+    tally::same(said, b"moves of a call", moves, answer.moves)
 }
 
 // A chain of 64 equal rows.
 fn same_rows(t: Tally, chain: Chain, row: u64) -> Tally {
     let rows = chain.rows;
     let wanted = [row; 64];
-    let counted = tally::same(t, What::ChainCount, 64, chain.gauges);
-    tally::same(counted, What::ChainRows, 0, refusing::off(&wanted, &rows))
+    let counted = tally::same(t, b"row count of a chain", 64, chain.gauges);
+    tally::same(
+        counted,
+        b"rows of a chain that differ",
+        0,
+        boards::differ(&wanted, &rows),
+    )
 }

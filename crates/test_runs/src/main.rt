@@ -1,11 +1,15 @@
 // The library against a plain lister over all sets of pairs of small tables. Each group writes one line with what it
 // compared; a disagreement shows in its count, and the first of a group is written out before it.
+//
+// `plain` and `path` say what is due, from 01 alone; `sides` is the one file that names the library's types; `tally` counts and compares.
 mod arrays;
+mod boards;
+mod calls;
 mod chains;
 mod damage;
 mod expect;
+mod groups;
 mod large;
-mod lists;
 mod path;
 mod plain;
 mod refusing;
@@ -13,100 +17,35 @@ mod samples;
 mod sides;
 mod tally;
 
-use tally::Tally;
-
 fn main() {
-    lists_of_all();
-    lists_of_some();
-    judges();
-    growing();
-    damaged();
+    tally::sum_up(
+        b"runs, all tables up to 3 by 3: ",
+        groups::small(tally::fresh(), groups::RUNS),
+    );
+    tally::sum_up(
+        b"runs, some larger tables: ",
+        groups::larger(tally::fresh(), groups::RUNS),
+    );
+    chains_and_growing();
+    tally::sum_up(
+        b"damaged values: ",
+        groups::small(tally::fresh(), groups::DAMAGE),
+    );
     refused();
     counts();
 }
 
-// Every table of every shape up to 3 by 3.
-fn lists_of_all() {
-    let mut t = tally::fresh();
-    t = lists::shape(t, 1, 1);
-    t = lists::shape(t, 1, 2);
-    t = lists::shape(t, 1, 3);
-    t = lists::shape(t, 2, 1);
-    t = lists::shape(t, 2, 2);
-    t = lists::shape(t, 2, 3);
-    t = lists::shape(t, 3, 1);
-    t = lists::shape(t, 3, 2);
-    t = lists::shape(t, 3, 3);
-    io::write_all(1, b"runs, all tables up to 3 by 3: ");
-    tally::sum_up(t);
-}
-
-// Some tables of larger shapes, the full one first.
-fn lists_of_some() {
-    let mut t = tally::fresh();
-    t = lists::sample(t, 4, 4, 41);
-    t = lists::sample(t, 2, 5, 41);
-    t = lists::sample(t, 5, 2, 41);
-    t = lists::sample(t, 1, 8, 41);
-    t = lists::sample(t, 8, 1, 41);
-    io::write_all(1, b"runs, some larger tables: ");
-    tally::sum_up(t);
-}
-
-fn judges() {
-    let t = every_chain(tally::fresh(), chains::JUDGE);
-    io::write_all(1, b"judges: ");
-    tally::sum_up(t);
-}
-
-fn growing() {
-    let t = every_chain(tally::fresh(), chains::GROW);
-    io::write_all(1, b"growing: ");
-    tally::sum_up(t);
-}
-
-// Every table of every shape up to 3 by 3 with every set of the shape, and some larger tables with every set of theirs.
-fn every_chain(fresh: Tally, group: u64) -> Tally {
-    let mut t = fresh;
-    t = chains::shape(t, group, 1, 1);
-    t = chains::shape(t, group, 1, 2);
-    t = chains::shape(t, group, 1, 3);
-    t = chains::shape(t, group, 2, 1);
-    t = chains::shape(t, group, 2, 2);
-    t = chains::shape(t, group, 2, 3);
-    t = chains::shape(t, group, 3, 1);
-    t = chains::shape(t, group, 3, 2);
-    t = chains::shape(t, group, 3, 3);
-    t = chains::sample(t, group, 4, 4, 41);
-    t = chains::sample(t, group, 2, 5, 41);
-    t = chains::sample(t, group, 5, 2, 41);
-    t = chains::sample(t, group, 1, 8, 41);
-    t = chains::sample(t, group, 8, 1, 41);
-    t
-}
-
-// Every table of the small shapes, every third of 2 by 3 and of 3 by 2, every ninth of 3 by 3.
-fn damaged() {
-    let mut t = tally::fresh();
-    t = damage::shape(t, 1, 1, 1);
-    t = damage::shape(t, 1, 3, 1);
-    t = damage::shape(t, 3, 1, 1);
-    t = damage::shape(t, 2, 2, 1);
-    t = damage::shape(t, 2, 3, 3);
-    t = damage::shape(t, 3, 2, 3);
-    t = damage::shape(t, 3, 3, 9);
-    io::write_all(1, b"damaged values: ");
-    tally::sum_up(t);
+fn chains_and_growing() {
+    let t = groups::small(tally::fresh(), groups::CHAINS);
+    tally::sum_up(b"judges and growing: ", groups::larger(t, groups::CHAINS));
 }
 
 fn refused() {
-    let t = refusing::chains(refusing::tables(tally::fresh()));
-    io::write_all(1, b"refusals of tables and chains: ");
-    tally::sum_up(t);
+    let t = refusing::odd_chains(refusing::tables(tally::fresh()));
+    tally::sum_up(b"refusals of tables and chains: ", t);
 }
 
 fn counts() {
-    let t = large::largest(large::known(large::diagonals(large::chains(tally::fresh()))));
-    io::write_all(1, b"known counts: ");
-    tally::sum_up(t);
+    let t = large::known(large::diagonals(large::chains(tally::fresh())));
+    tally::sum_up(b"known counts: ", large::largest(t));
 }

@@ -1,35 +1,7 @@
 // What a group of checks has counted, and the account of its first disagreement: the table, what differed, what was expected and found.
 use super::arrays;
-use super::plain;
 
-// What a comparison is of.
-pub enum What {
-    Subsets,
-    Chains,
-    Members,
-    Factorial,
-    Start,
-    Outcome,
-    Moves,
-    ChainCount,
-    ChainRows,
-    NextState,
-    NextTable,
-    Blank,
-    Limit,
-    FirstEnd,
-    Ladders,
-    Ends,
-    JudgeChain,
-    JudgeMaximal,
-    Grow,
-    Damaged,
-    Undamaged,
-    Refusal,
-    Order,
-}
-
-// The table at hand (its pairs as the plain lister has them), the side, the list of budgets or for damaged values the change, and the counts.
+// The table at hand (its pairs as a board), the side, the list of budgets or for damaged values the change, and the counts.
 pub struct Tally {
     pub gauges: u64,
     pub cases: u64,
@@ -59,7 +31,7 @@ pub fn fresh() -> Tally {
 }
 
 // One comparison of two numbers.
-pub fn same(t: Tally, what: What, want: u64, got: u64) -> Tally {
+pub fn same(t: Tally, what: &[u8], want: u64, got: u64) -> Tally {
     let mut after = t;
     after.comparisons = arrays::more(t.comparisons);
     if want == got {
@@ -73,8 +45,11 @@ pub fn same(t: Tally, what: What, want: u64, got: u64) -> Tally {
 }
 
 // One test that must hold.
-pub fn holds(t: Tally, what: What, test: bool) -> Tally {
-    same(t, what, 1, arrays::truth(test))
+pub fn holds(t: Tally, what: &[u8], test: bool) -> Tally {
+    if test {
+        return same(t, what, 1, 1);
+    }
+    same(t, what, 1, 0)
 }
 
 // The table that the next comparisons are about.
@@ -89,16 +64,24 @@ pub fn about(t: Tally, gauges: u64, cases: u64, pairs: u64) -> Tally {
     after
 }
 
-// One more call of the library.
-pub fn called(t: Tally) -> Tally {
+// The side that the next comparisons are about, and the ladders that it has.
+pub fn of_side(t: Tally, side: u64, ladders: u64) -> Tally {
     let mut after = t;
-    after.calls = arrays::more(t.calls);
+    after.side = side;
+    after.ladders = arrays::plus(t.ladders, ladders);
+    after
+}
+
+// So many more calls of the library.
+pub fn called(t: Tally, calls: u64) -> Tally {
+    let mut after = t;
+    after.calls = arrays::plus(t.calls, calls);
     after
 }
 
 // The line of a group.
-pub fn sum_up(t: Tally) {
-    number(b"", t.tables);
+pub fn sum_up(group: &[u8], t: Tally) {
+    number(group, t.tables);
     number(b" tables, ", t.ladders);
     number(b" ladders, ", t.calls);
     number(b" calls, ", t.comparisons);
@@ -117,53 +100,19 @@ fn number(text: &[u8], n: u64) {
     io::print_hex(1, n, 1);
 }
 
-fn report(t: Tally, what: What, want: u64, got: u64) {
+fn report(t: Tally, what: &[u8], want: u64, got: u64) {
     io::write_all(1, b"FIRST DISAGREEMENT: ");
-    say(what);
+    io::write_all(1, what);
     number(b": expected ", want);
     number(b", found ", got);
-    number(b"; a table of ", t.gauges);
-    number(b" by ", t.cases);
-    io::write_all(1, b" with the rows");
-    report_rows(t.gauges, t.pairs);
+    report_table(t);
     number(b"; side ", t.side);
     number(b", budgets or change ", t.budgets);
     io::write_all(1, b"\n");
 }
 
-fn report_rows(gauges: u64, pairs: u64) {
-    let mut gauge: u64 = 0;
-    while gauge < gauges {
-        gauge += 1;
-        number(b" ", plain::row(pairs, gauge));
-    }
-}
-
-fn say(what: What) {
-    match what {
-        What::Subsets => io::write_all(1, b"sets of pairs tried"),
-        What::Chains => io::write_all(1, b"number of chains"),
-        What::Members => io::write_all(1, b"members of both lists"),
-        What::Factorial => io::write_all(1, b"bound on the list's length"),
-        What::Start => io::write_all(1, b"answer of a start"),
-        What::Outcome => io::write_all(1, b"answer of a call"),
-        What::Moves => io::write_all(1, b"moves of a call"),
-        What::ChainCount => io::write_all(1, b"row count of a chain"),
-        What::ChainRows => io::write_all(1, b"rows of a chain that differ"),
-        What::NextState => io::write_all(1, b"picks and phase of a value"),
-        What::NextTable => io::write_all(1, b"rows of a value's table that differ"),
-        What::Blank => io::write_all(1, b"a blank field"),
-        What::Limit => io::write_all(1, b"move limit"),
-        What::FirstEnd => io::write_all(1, b"moves to the first end"),
-        What::Ladders => io::write_all(1, b"ladders handed out"),
-        What::Ends => io::write_all(1, b"ends"),
-        What::JudgeChain => io::write_all(1, b"judge of chains"),
-        What::JudgeMaximal => io::write_all(1, b"judge of maximal chains"),
-        What::Grow => io::write_all(1, b"answer of growing"),
-        What::Damaged => io::write_all(1, b"answer to a damaged value"),
-        What::Undamaged => io::write_all(1, b"answer to a value that the run passes through"),
-        What::Refusal => io::write_all(1, b"refusal"),
-        What::Order => io::write_all(1, b"order of pick sequences"),
-    }
-    ;
+fn report_table(t: Tally) {
+    number(b"; a table of ", t.gauges);
+    number(b" by ", t.cases);
+    number(b" with the pairs ", t.pairs);
 }

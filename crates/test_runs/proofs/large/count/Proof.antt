@@ -1,50 +1,11 @@
--- `test_runs::large::count` is safe and ends: the measure is what its loop still has to count. Nothing has to hold from turn to turn. Assumes nothing.
+-- `test_runs::large::count` is safe and ends: the measure is what its loop still has to count.
 use Prim.Native.Nat.{_-_}
 use native.Mathlib.Omega.{arith}
 use Rattle.test_runs.proofs.large.count.Statement.{statement}
 use Rattle.test_runs.proofs.large.count.Tie as tie
 
-abbrev Inv-loop : tie.InvT-loop
-Inv-loop side budget going₀ k₀ going k = Unit {0}
-
-abbrev μ-loop : tie.MeasureT-loop
-μ-loop side budget going₀ k₀ going k = 100000 - k
-
-begin-requires : tie.Need-begin-requires Inv-loop μ-loop
-begin-requires c κs = tt
-
-loop-holds : tie.Need-loop-holds Inv-loop μ-loop
-loop-holds c = tt
-
-one-call-requires : tie.Need-one-call-requires Inv-loop μ-loop
-one-call-requires c κs = tt
-
-returns : tie.Need-returns Inv-loop μ-loop
-returns c = tt
-
-add-k : tie.Need-add-k Inv-loop μ-loop
-add-k c = omega arith
-
-loop-less : tie.Need-loop-less Inv-loop μ-loop
-loop-less c = omega arith
-
-loop-again : tie.Need-loop-again Inv-loop μ-loop
-loop-again c = tt
-
-returns-2 : tie.Need-returns-2 Inv-loop μ-loop
-returns-2 c = tt
-
 pub count-spec : {M : Type 1} → statement M
 count-spec =
     tie.close
-    (tie.spec
-    Inv-loop
-    μ-loop
-    begin-requires
-    loop-holds
-    one-call-requires
-    returns
-    add-k
-    loop-less
-    loop-again
-    returns-2)
+    (tie.spec (λ side budget going₀ k₀ going k. Unit {0}) (λ side budget going₀ k₀ going k. 100000 - k) (λ c κs. tt) (λ c κs. tt) (λ c. tt)
+    (λ c κs. tt) (λ c. tt) (λ c. omega arith) (λ c. omega arith) (λ c. tt) (λ c. tt))

@@ -1,0 +1,120 @@
+// Boards as rows and rows as boards; and the state of a paused value as the number of `path`.
+use super::arrays;
+use super::path;
+use super::plain;
+use super::sides::Value;
+use table::Chain;
+use table::Table;
+
+// The state of a value that no run passes through, as its numbers are too large.
+const NO_STATE: u64 = 0xffff_ffff_ffff_ffff;
+
+// The table of a set of pairs.
+pub fn table_of(gauges: u64, cases: u64, pairs: u64) -> Table {
+    Table {
+        gauges: gauges,
+        cases: cases,
+        rows: rows_of(pairs),
+    }
+}
+
+// A set of pairs as a chain of a table with so many gauges.
+pub fn chain_of(gauges: u64, pairs: u64) -> Chain {
+    Chain {
+        gauges: gauges,
+        rows: rows_of(pairs),
+    }
+}
+
+fn rows_of(pairs: u64) -> [u64; 64] {
+    let mut rows = [0u64; 64];
+    let mut i: u64 = 0;
+    while i < 8 {
+        arrays::put(&mut rows, i, plain::row(pairs, arrays::more(i)));
+        i += 1;
+    }
+    rows
+}
+
+// Rows that are zero but one, at a place from 0.
+pub fn one_row(at: u64, row: u64) -> [u64; 64] {
+    let mut rows = [0u64; 64];
+    arrays::put(&mut rows, at, row);
+    rows
+}
+
+// How many of the 64 rows differ from those of a set of pairs.
+pub fn rows_off(rows: &[u64; 64], pairs: u64) -> u64 {
+    let own = rows_of(pairs);
+    differ(rows, &own)
+}
+
+// How many of 64 rows differ.
+pub fn differ(a: &[u64; 64], b: &[u64; 64]) -> u64 {
+    let mut off: u64 = 0;
+    let mut i: u64 = 0;
+    while i < 64 {
+        if arrays::get(a, i) != arrays::get(b, i) {
+            off = arrays::more(off);
+        }
+        i += 1;
+    }
+    off
+}
+
+// The first eight rows as a set of pairs, eight cases each.
+pub fn pairs_of(rows: &[u64; 64]) -> u64 {
+    let mut pairs: u64 = 0;
+    let mut i: u64 = 8;
+    while 0 < i {
+        i -= 1;
+        pairs = (pairs << 8) | (arrays::get(rows, i) & 255);
+    }
+    pairs
+}
+
+// The state of a value, all its numbers but the table's.
+pub fn state_of(v: Value) -> u64 {
+    let picks = v.picks;
+    let stage = v.stage;
+    let key = key_of(&picks);
+    if 255 < v.count {
+        return NO_STATE;
+    }
+    if 255 < stage.from {
+        return NO_STATE;
+    }
+    if key == NO_STATE {
+        return NO_STATE;
+    }
+    path::state(key, v.count, stage.phase, stage.from)
+}
+
+// The picks as hexadecimal digits: at most eight, and zeros behind them.
+fn key_of(picks: &[u8; 64]) -> u64 {
+    let mut key: u64 = 0;
+    let mut i: u64 = 0;
+    while i < 64 {
+        let pick = arrays::get_pick(picks, i);
+        if most_at(i) < pick {
+            return NO_STATE;
+        }
+        key = key | digit_at(i, pick);
+        i += 1;
+    }
+    key
+}
+
+fn most_at(i: u64) -> u64 {
+    if i < 8 {
+        return 15;
+    }
+    0
+}
+
+fn digit_at(i: u64, pick: u64) -> u64 {
+    if 8 <= i {
+        return 0;
+    }
+    pick << (28 - 4 * i)
+}

@@ -1,0 +1,226 @@
+// Group 1: both runs of a table against the plain lists, call by call, for several lists of budgets, from the fresh start to the first end
+// and once after it.
+use super::arrays;
+use super::boards;
+use super::expect;
+use super::path;
+use super::path::Spot;
+use super::plain;
+use super::plain::List;
+use super::sides;
+use super::sides::Value;
+use super::tally;
+use super::tally::Tally;
+
+// "A run call has a budget from 0 to 1,000,000 moves" (01).
+const MOST_BUDGET: u64 = 1_000_000;
+
+// The lists of budgets tried: see `budget_of`.
+const PATTERNS: u64 = 7;
+
+// No list of calls here comes near so many.
+const MOST_CALLS: u64 = 4096;
+
+// A list of run calls under way: the value for the next call, where it must be, the moves, those since the last hand-out, the ends.
+struct Going {
+    tally: Tally,
+    value: Value,
+    spot: Spot,
+    moves: u64,
+    since: u64,
+    ends: u64,
+}
+
+// The two lists have the same members, and each run gives its list.
+pub fn table(t: Tally) -> Tally {
+    let ours = plain::side_list(plain::GAUGES, t.pairs);
+    let theirs = plain::side_list(plain::CASES, t.pairs);
+    let a = ours.sets;
+    let b = theirs.sets;
+    let both = plain::shared_members(&a, ours.count, &b, theirs.count);
+    let first = tally::same(t, b"members of both lists", ours.count, theirs.count);
+    let second = tally::same(first, b"members of both lists", ours.count, both);
+    one_side(one_side(second, plain::GAUGES, ours), plain::CASES, theirs)
+}
+
+fn one_side(t: Tally, side: u64, list: List) -> Tally {
+    let sets = list.sets;
+    let keys = list.keys;
+    let most = factorial(least_of(t.gauges, t.cases));
+    let named = tally::of_side(t, side, list.count);
+    let short = tally::holds(named, b"bound on the list's length", list.count <= most);
+    patterns(short, side, &sets, &keys, list.count)
+}
+
+// n!, for the tables here.
+pub fn factorial(n: u64) -> u64 {
+    match n {
+        2 => 2,
+        3 => 6,
+        4 => 24,
+        5 => 120,
+        6 => 720,
+        7 => 5040,
+        8 => 40320,
+        _ => 1,
+    }
+}
+
+fn least_of(a: u64, b: u64) -> u64 {
+    if a < b {
+        return a;
+    }
+    b
+}
+
+fn patterns(t: Tally, side: u64, sets: &[u64; 64], keys: &[u64; 64], count: u64) -> Tally {
+    let mut now = t;
+    let mut pattern: u64 = 0;
+    while pattern < PATTERNS {
+        now.budgets = pattern;
+        now = one_list(now, side, sets, keys, count);
+        pattern += 1;
+    }
+    now
+}
+
+// One list of calls: from the fresh start until the second end.
+fn one_list(t: Tally, side: u64, sets: &[u64; 64], keys: &[u64; 64], count: u64) -> Tally {
+    let mut going = begin(t, side);
+    let mut k: u64 = 0;
+    while k < MOST_CALLS {
+        going = one_call(going, side, budget_of(t.budgets, k), sets, keys, count);
+        if going.ends == 2 {
+            return finish(going, keys, count);
+        }
+        k += 1;
+    }
+    finish(going, keys, count)
+}
+
+fn begin(t: Tally, side: u64) -> Going {
+    let started = sides::start(side, boards::table_of(t.gauges, t.cases, t.pairs));
+    let value = started.value;
+    let said = tally::same(
+        tally::called(t, 1),
+        b"answer of a start",
+        sides::ACCEPTED,
+        started.says,
+    );
+    Going {
+        tally: expect::a_value(said, path::state_of(path::fresh()), value),
+        value: value,
+        spot: path::fresh(),
+        moves: 0,
+        since: 0,
+        ends: 0,
+    }
+}
+
+// As many hand-outs as the list has members, and an end after the first; it comes after the same moves for every list of budgets.
+fn finish(going: Going, keys: &[u64; 64], count: u64) -> Tally {
+    let t = going.tally;
+    let spot = going.spot;
+    let end = path::find(keys, count, path::state(0, 0, path::ENDED, 0));
+    let moved = tally::same(
+        t,
+        b"moves to the second end",
+        arrays::more(end.moves),
+        going.moves,
+    );
+    let handed = tally::same(moved, b"ladders handed out", count, spot.handed);
+    tally::same(handed, b"ends", 2, going.ends)
+}
+
+// The budget of call k of a list.
+fn budget_of(pattern: u64, k: u64) -> u64 {
+    match pattern {
+        0 => k % 2,
+        1 => 1,
+        2 => 2,
+        3 => 3,
+        4 => 7,
+        5 => mixed_budget(k % 12),
+        _ => MOST_BUDGET,
+    }
+}
+
+// Small, large, none, and refused ones in between.
+fn mixed_budget(k: u64) -> u64 {
+    match k {
+        0 | 7 | 10 => 1_000_001,
+        1 | 6 => 1,
+        2 => 3,
+        3 => 0,
+        4 => 0xffff_ffff_ffff_ffff,
+        5 => 2,
+        8 => 1_000_000,
+        9 => 5,
+        _ => 4,
+    }
+}
+
+fn one_call(
+    going: Going,
+    side: u64,
+    budget: u64,
+    sets: &[u64; 64],
+    keys: &[u64; 64],
+    count: u64,
+) -> Going {
+    let value = going.value;
+    let spot = going.spot;
+    let before = going.tally;
+    let answer = sides::call(side, value, budget);
+    let t = tally::called(before, 1);
+    let mut after = going;
+    if MOST_BUDGET < budget {
+        after.tally = expect::refused_call(t, 18, answer);
+        return after;
+    }
+    let due = path::call(keys, count, spot, budget);
+    let told = expect::answered(t, spot.moves, due, sets, answer);
+    let since = arrays::plus(going.since, answer.moves);
+    let next = answer.next;
+    after.tally = limit(told, side, spot.handed, going.ends, since);
+    after.value = next;
+    after.spot = due;
+    after.moves = arrays::plus(going.moves, answer.moves);
+    after.since = since_after(since, answer.says);
+    after.ends = ends_after(going.ends, answer.says);
+    after
+}
+
+fn since_after(since: u64, says: u64) -> u64 {
+    if says == sides::HANDED_OUT {
+        return 0;
+    }
+    since
+}
+
+fn ends_after(ends: u64, says: u64) -> u64 {
+    if says == sides::ENDS {
+        return arrays::more(ends);
+    }
+    ends
+}
+
+// At most n + 1 moves to the first hand-out, at most 2n + 1 from one to the next or to the first end, or so far.
+fn limit(t: Tally, side: u64, handed: u64, ends: u64, since: u64) -> Tally {
+    if 0 < ends {
+        return t;
+    }
+    let n = most_picks(t, side);
+    if handed == 0 {
+        return tally::holds(t, b"move limit at the start", since <= arrays::more(n));
+    }
+    tally::holds(t, b"move limit", since <= arrays::more(arrays::plus(n, n)))
+}
+
+// The number of picks that a side can make.
+fn most_picks(t: Tally, side: u64) -> u64 {
+    if side == plain::GAUGES {
+        return t.gauges;
+    }
+    t.cases
+}
