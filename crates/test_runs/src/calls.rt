@@ -38,8 +38,8 @@ pub fn table(t: Tally) -> Tally {
     let a = ours.sets;
     let b = theirs.sets;
     let both = plain::shared_members(&a, ours.count, &b, theirs.count);
-    let first = tally::same(t, b"members of both lists", ours.count, theirs.count);
-    let second = tally::same(first, b"members of both lists", ours.count, both);
+    let first = tally::same(t, tally::MEMBERS, ours.count, theirs.count);
+    let second = tally::same(first, tally::MEMBERS, ours.count, both);
     one_side(one_side(second, plain::GAUGES, ours), plain::CASES, theirs)
 }
 
@@ -48,7 +48,7 @@ fn one_side(t: Tally, side: u64, list: List) -> Tally {
     let keys = list.keys;
     let most = factorial(least_of(t.gauges, t.cases));
     let named = tally::of_side(t, side, list.count);
-    let short = tally::holds(named, b"bound on the list's length", list.count <= most);
+    let short = tally::holds(named, tally::LENGTH, list.count <= most);
     patterns(short, side, &sets, &keys, list.count)
 }
 
@@ -103,7 +103,7 @@ fn begin(t: Tally, side: u64) -> Going {
     let value = started.value;
     let said = tally::same(
         tally::called(t, 1),
-        b"answer of a start",
+        tally::SAYS,
         sides::ACCEPTED,
         started.says,
     );
@@ -122,14 +122,9 @@ fn finish(going: Going, keys: &[u64; 64], count: u64) -> Tally {
     let t = going.tally;
     let spot = going.spot;
     let end = path::find(keys, count, path::state(0, 0, path::ENDED, 0));
-    let moved = tally::same(
-        t,
-        b"moves to the second end",
-        arrays::more(end.moves),
-        going.moves,
-    );
-    let handed = tally::same(moved, b"ladders handed out", count, spot.handed);
-    tally::same(handed, b"ends", 2, going.ends)
+    let moved = tally::same(t, tally::MOVES, arrays::more(end.moves), going.moves);
+    let handed = tally::same(moved, tally::HANDED, count, spot.handed);
+    tally::same(handed, tally::ENDS, 2, going.ends)
 }
 
 // The budget of call k of a list.
@@ -186,23 +181,14 @@ fn one_call(
     after.value = next;
     after.spot = due;
     after.moves = arrays::plus(going.moves, answer.moves);
-    after.since = since_after(since, answer.says);
-    after.ends = ends_after(going.ends, answer.says);
+    after.since = since;
+    if answer.says == path::HANDED_OUT {
+        after.since = 0;
+    }
+    if answer.says == path::ENDS {
+        after.ends = arrays::more(going.ends);
+    }
     after
-}
-
-fn since_after(since: u64, says: u64) -> u64 {
-    if says == sides::HANDED_OUT {
-        return 0;
-    }
-    since
-}
-
-fn ends_after(ends: u64, says: u64) -> u64 {
-    if says == sides::ENDS {
-        return arrays::more(ends);
-    }
-    ends
 }
 
 // At most n + 1 moves to the first hand-out, at most 2n + 1 from one to the next or to the first end, or so far.
@@ -212,9 +198,9 @@ fn limit(t: Tally, side: u64, handed: u64, ends: u64, since: u64) -> Tally {
     }
     let n = most_picks(t, side);
     if handed == 0 {
-        return tally::holds(t, b"move limit at the start", since <= arrays::more(n));
+        return tally::holds(t, tally::LIMIT, since <= arrays::more(n));
     }
-    tally::holds(t, b"move limit", since <= arrays::more(arrays::plus(n, n)))
+    tally::holds(t, tally::LIMIT, since <= arrays::more(arrays::plus(n, n)))
 }
 
 // The number of picks that a side can make.

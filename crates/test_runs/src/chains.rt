@@ -37,22 +37,26 @@ fn one_set(t: Tally, table: Table, set: u64, over: u64) -> Tally {
     if !plain::is_chain(set) {
         return judged(t, table, chain, sides::NO, sides::NO, 14, 0);
     }
+    if over == set {
+        return judged(
+            t,
+            table,
+            chain,
+            sides::YES,
+            sides::YES,
+            sides::ACCEPTED,
+            over,
+        );
+    }
     judged(
         t,
         table,
         chain,
         sides::YES,
-        yes_if(over == set),
+        sides::NO,
         sides::ACCEPTED,
         over,
     )
-}
-
-fn yes_if(b: bool) -> u64 {
-    if b {
-        return sides::YES;
-    }
-    sides::NO
 }
 
 // Both judges and growing on a chain. "a chain of the table is answered by the first ladder in gauge order that contains it" (01).
@@ -67,26 +71,21 @@ pub fn judged(
 ) -> Tally {
     let first = tally::same(
         tally::called(t, 3),
-        b"judge of chains",
+        tally::SAYS,
         says,
         sides::judged_chain(table, chain),
     );
     let second = tally::same(
         first,
-        b"judge of maximal chains",
+        tally::SAYS,
         maximal,
         sides::judged_maximal(table, chain),
     );
     let grown = sides::grow(table, chain);
     let got = grown.chain;
-    let third = tally::same(second, b"answer of growing", grows, grown.says);
-    expect::a_chain(third, rows_due(grows, t.gauges), over, got)
-}
-
-// A refused growing has a blank chain.
-fn rows_due(grows: u64, gauges: u64) -> u64 {
+    let third = tally::same(second, tally::SAYS, grows, grown.says);
     if grows == sides::ACCEPTED {
-        return gauges;
+        return expect::a_chain(third, t.gauges, over, got);
     }
-    0
+    expect::a_chain(third, 0, 0, got)
 }

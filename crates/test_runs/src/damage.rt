@@ -6,7 +6,6 @@ use super::expect;
 use super::path;
 use super::plain;
 use super::sides;
-use super::sides::Stage;
 use super::sides::Value;
 use super::tally;
 use super::tally::Tally;
@@ -30,22 +29,15 @@ pub fn table(t: Tally) -> Tally {
 // Each pair of the shape put into the table or taken out, and none.
 fn one_side(t: Tally, side: u64) -> Tally {
     let tried = plain::full(t.gauges, t.cases);
-    let mut now = t;
+    let mut now = one_run(t, side, NO_PLACE);
     let mut place: u64 = 0;
-    while place < 65 {
-        if is_tried(tried, place) {
+    while place < 64 {
+        if plain::has(tried, place) {
             now = one_run(now, side, place);
         }
         place += 1;
     }
     now
-}
-
-fn is_tried(all: u64, place: u64) -> bool {
-    if place == NO_PLACE {
-        return true;
-    }
-    plain::has(all, place)
 }
 
 // The values of the run on the table at hand, up to its first end, each with a pair of its table changed.
@@ -82,7 +74,7 @@ fn values(t: Tally, side: u64, place: u64, fresh: Value) -> Tally {
             &keys,
             count,
         );
-        if says == sides::ENDS {
+        if says == path::ENDS {
             return now;
         }
         let answer = sides::call(side, value, 1);
@@ -90,7 +82,7 @@ fn values(t: Tally, side: u64, place: u64, fresh: Value) -> Tally {
         says = answer.says;
         at += 1;
     }
-    tally::same(now, b"ends", 1, 0)
+    tally::same(now, tally::ENDS, 1, 0)
 }
 
 fn one_value(
@@ -144,21 +136,25 @@ fn one_change(
     )
 }
 
-// One number of a value changed.
+// One number of a value changed: a pick, the count, the pick gone back from, or the phase (0, 1 and 3, see `path`).
 fn changed(v: Value, change: u64) -> Value {
     let k = change % ODD;
     let which = change / ODD;
     let stage = v.stage;
+    let mut after = v;
     if which < 8 {
         return with_pick(v, place_of(which), odd(0, k));
     }
     if which == 8 {
-        return with_count(v, odd(v.count, k));
+        after.count = odd(v.count, k);
+        return after;
     }
     if which == 9 {
-        return with_stage(v, sides::stage_of(path::BACK, odd(stage.from, k)));
+        after.stage = sides::stage_of(path::BACK, odd(stage.from, k));
+        return after;
     }
-    with_stage(v, sides::stage_of(phase_of(k), 0))
+    after.stage = sides::stage_of(arrays::plus(k, k / 2), 0);
+    after
 }
 
 // The places of the picks that are changed: near the front, right behind what fits a small table, and the last.
@@ -170,16 +166,6 @@ fn place_of(which: u64) -> u64 {
         return 8;
     }
     63
-}
-
-fn phase_of(k: u64) -> u64 {
-    if k == 0 {
-        return path::DOWN;
-    }
-    if k == 1 {
-        return path::HANDED;
-    }
-    path::ENDED
 }
 
 // Numbers of all sizes; some agree with the right one in their low bits.
@@ -210,17 +196,5 @@ fn with_pick(v: Value, place: u64, pick: u64) -> Value {
 fn with_table(v: Value, table: Table) -> Value {
     let mut after = v;
     after.table = table;
-    after
-}
-
-fn with_count(v: Value, count: u64) -> Value {
-    let mut after = v;
-    after.count = count;
-    after
-}
-
-fn with_stage(v: Value, stage: Stage) -> Value {
-    let mut after = v;
-    after.stage = stage;
     after
 }

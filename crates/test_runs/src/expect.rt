@@ -4,7 +4,6 @@ use super::arrays;
 use super::boards;
 use super::path;
 use super::path::Spot;
-use super::sides;
 use super::sides::Answer;
 use super::sides::Value;
 use super::tally;
@@ -15,43 +14,28 @@ use table::Table;
 // A chain of a table with so many gauges, and its pairs.
 pub fn a_chain(t: Tally, gauges: u64, set: u64, chain: Chain) -> Tally {
     let rows = chain.rows;
-    let counted = tally::same(t, b"row count of a chain", gauges, chain.gauges);
-    tally::same(
-        counted,
-        b"rows of a chain that differ",
-        0,
-        boards::rows_off(&rows, set),
-    )
+    let counted = tally::same(t, tally::CHAIN, gauges, chain.gauges);
+    tally::same(counted, tally::CHAIN, 0, boards::rows_off(&rows, set))
 }
 
 // A table by its numbers and pairs.
 pub fn a_table(t: Tally, gauges: u64, cases: u64, pairs: u64, table: Table) -> Tally {
     let rows = table.rows;
-    let high = tally::same(t, b"gauges of a table", gauges, table.gauges);
-    let wide = tally::same(high, b"cases of a table", cases, table.cases);
-    tally::same(
-        wide,
-        b"rows of a table that differ",
-        0,
-        boards::rows_off(&rows, pairs),
-    )
+    let high = tally::same(t, tally::TABLE, gauges, table.gauges);
+    let wide = tally::same(high, tally::TABLE, cases, table.cases);
+    tally::same(wide, tally::TABLE, 0, boards::rows_off(&rows, pairs))
 }
 
 // A paused value of the table at hand.
 pub fn a_value(t: Tally, state: u64, v: Value) -> Tally {
     let table = v.table;
-    let stated = tally::same(t, b"picks and phase of a value", state, boards::state_of(v));
+    let stated = tally::same(t, tally::STATE, state, boards::state_of(v));
     a_table(stated, t.gauges, t.cases, t.pairs, table)
 }
 
 pub fn blank_value(t: Tally, v: Value) -> Tally {
     let table = v.table;
-    let stated = tally::same(
-        t,
-        b"picks and phase of a blank value",
-        0,
-        boards::state_of(v),
-    );
+    let stated = tally::same(t, tally::STATE, 0, boards::state_of(v));
     a_table(stated, 0, 0, 0, table)
 }
 
@@ -59,14 +43,9 @@ pub fn blank_value(t: Tally, v: Value) -> Tally {
 pub fn answered(t: Tally, from: u64, due: Spot, sets: &[u64; 64], a: Answer) -> Tally {
     let chain = a.chain;
     let next = a.next;
-    let says = tally::same(t, b"answer of a call", due_to_say(due.event), a.says);
-    let moves = tally::same(
-        says,
-        b"moves of a call",
-        due.moves,
-        arrays::plus(from, a.moves),
-    );
-    if due.event == path::HAND_OUT {
+    let says = tally::same(t, tally::SAYS, due.event, a.says);
+    let moves = tally::same(says, tally::MOVES, due.moves, arrays::plus(from, a.moves));
+    if due.event == path::HANDED_OUT {
         let set = arrays::get(sets, std::num::wrapping_sub_u64(due.handed, 1));
         return a_value(
             a_chain(moves, t.gauges, set, chain),
@@ -77,21 +56,11 @@ pub fn answered(t: Tally, from: u64, due: Spot, sets: &[u64; 64], a: Answer) -> 
     a_value(a_chain(moves, 0, 0, chain), path::state_of(due), next)
 }
 
-fn due_to_say(event: u64) -> u64 {
-    if event == path::NOTHING {
-        return sides::SPENT;
-    }
-    if event == path::END {
-        return sides::ENDS;
-    }
-    sides::HANDED_OUT
-}
-
 // A refused run call: its number, and every other field blank.
 pub fn refused_call(t: Tally, number: u64, a: Answer) -> Tally {
     let chain = a.chain;
     let next = a.next;
-    let says = tally::same(t, b"refusal of a call", number, a.says);
-    let moves = tally::same(says, b"moves of a refused call", 0, a.moves);
+    let says = tally::same(t, tally::SAYS, number, a.says);
+    let moves = tally::same(says, tally::MOVES, 0, a.moves);
     blank_value(a_chain(moves, 0, 0, chain), next)
 }

@@ -71,15 +71,10 @@ fn shape(t: Tally, group: u64, gauges: u64, cases: u64, stride: u64) -> Tally {
         pairs = plain::next_subset(all, pairs);
         turns += 1;
         if pairs == all {
-            return tally::same(
-                now,
-                b"sets of pairs tried",
-                two_to(u64::count_ones(all)),
-                turns,
-            );
+            return tally::same(now, tally::SETS, two_to(u64::count_ones(all)), turns);
         }
     }
-    tally::same(now, b"sets of pairs tried", 1, 0)
+    tally::same(now, tally::SETS, 1, 0)
 }
 
 fn is_turn(turn: u64, stride: u64) -> bool {

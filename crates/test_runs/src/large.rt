@@ -23,13 +23,12 @@ const OFF_DIAGONAL: u64 = 0x7fbf_dfef_f7fb_fdfe;
 
 const MOST_BUDGET: u64 = 1_000_000;
 
-// A run under way: the next value, the last pick sequence handed out, the hand-outs, the moves, and whether it ended.
+// A run under way: the next value, the least number of a pick sequence that may come next, the hand-outs, and whether it ended.
 struct Counting {
     tally: Tally,
     value: Value,
-    last: u64,
+    least: u64,
     handed: u64,
-    moves: u64,
     ended: bool,
 }
 
@@ -47,7 +46,7 @@ fn chains_of(t: Tally, n: u64, chains: u64) -> Tally {
     let list = plain::side_list(plain::GAUGES, all);
     tally::same(
         tally::about(t, n, n, all),
-        b"number of chains",
+        tally::CHAINS,
         chains,
         list.chains,
     )
@@ -59,47 +58,37 @@ pub fn diagonals(t: Tally) -> Tally {
     let mut n: u64 = 1;
     while n < 9 {
         now = tally::about(now, n, n, plain::full(n, n) & OFF_DIAGONAL);
-        now = ladders_of(now, plain::GAUGES, MOST_BUDGET, calls::factorial(n));
-        now = ladders_of(now, plain::CASES, MOST_BUDGET, calls::factorial(n));
+        now = ladders_of(now, plain::GAUGES, calls::factorial(n));
+        now = ladders_of(now, plain::CASES, calls::factorial(n));
         n += 1;
     }
     now
 }
 
-// K2, both sides: six ladders and the end with move 25, in calls of the largest budget and in calls of one move.
+// K2: six ladders, and the first end with move 25 (01, K9). Group 1 has its runs.
 pub fn known(t: Tally) -> Tally {
+    let list = plain::side_list(plain::GAUGES, refusing::K2);
+    let keys = list.keys;
+    let end = path::find(&keys, list.count, path::state(0, 0, path::ENDED, 0));
     let named = tally::about(t, 3, 3, refusing::K2);
-    let first = k2_of(named, plain::GAUGES, MOST_BUDGET);
-    let second = k2_of(first, plain::GAUGES, 1);
-    let third = k2_of(second, plain::CASES, MOST_BUDGET);
-    k2_of(third, plain::CASES, 1)
+    let counted = tally::same(named, tally::LENGTH, 6, list.count);
+    tally::same(counted, tally::MOVES, 25, end.moves)
 }
 
-fn k2_of(t: Tally, side: u64, budget: u64) -> Tally {
-    let done = count(t, side, budget);
+fn ladders_of(t: Tally, side: u64, ladders: u64) -> Tally {
+    let done = count(t, side);
     let now = done.tally;
-    let moved = tally::same(now, b"moves to the first end", 25, done.moves);
-    finished(moved, done.handed, 6, done.ended)
-}
-
-fn ladders_of(t: Tally, side: u64, budget: u64, ladders: u64) -> Tally {
-    let done = count(t, side, budget);
-    let now = done.tally;
-    finished(now, done.handed, ladders, done.ended)
-}
-
-fn finished(t: Tally, handed: u64, ladders: u64, ended: bool) -> Tally {
-    let named = tally::of_side(t, t.side, handed);
-    let counted = tally::same(named, b"ladders handed out", ladders, handed);
-    tally::holds(counted, b"ends", ended)
+    let named = tally::of_side(now, side, done.handed);
+    let counted = tally::same(named, tally::HANDED, ladders, done.handed);
+    tally::holds(counted, tally::ENDS, done.ended)
 }
 
 // The calls of a run from the fresh start to the first end.
-fn count(t: Tally, side: u64, budget: u64) -> Counting {
+fn count(t: Tally, side: u64) -> Counting {
     let mut going = begin(tally::of_side(t, side, 0));
     let mut k: u64 = 0;
     while k < 100_000 {
-        going = one_call(going, side, budget);
+        going = one_call(going, side);
         if going.ended {
             return going;
         }
@@ -114,45 +103,32 @@ fn begin(t: Tally) -> Counting {
     Counting {
         tally: tally::same(
             tally::called(t, 1),
-            b"answer of a start",
+            tally::SAYS,
             sides::ACCEPTED,
             started.says,
         ),
         value: value,
-        last: 0,
+        least: 0,
         handed: 0,
-        moves: 0,
         ended: false,
     }
 }
 
-fn one_call(going: Counting, side: u64, budget: u64) -> Counting {
+// A call of the largest budget: a hand-out or the end; the move limits leave no other answer.
+fn one_call(going: Counting, side: u64) -> Counting {
     let value = going.value;
     let t = going.tally;
-    let answer = sides::call(side, value, budget);
+    let answer = sides::call(side, value, MOST_BUDGET);
     let next = answer.next;
     let mut after = going;
     after.value = next;
-    after.moves = arrays::plus(going.moves, answer.moves);
     after.tally = tally::called(t, 1);
-    if answer.says == sides::HANDED_OUT {
+    if answer.says == path::HANDED_OUT {
         return handed(after, side, answer);
     }
-    let called = after.tally;
-    after.tally = tally::holds(called, b"answer of a call", is_due(answer.says, budget));
-    after.ended = answer.says == sides::ENDS;
+    after.tally = tally::same(tally::called(t, 1), tally::SAYS, path::ENDS, answer.says);
+    after.ended = true;
     after
-}
-
-// An end, or where the budget is one move, spent; the move limits leave no other answer.
-fn is_due(says: u64, budget: u64) -> bool {
-    if says == sides::ENDS {
-        return true;
-    }
-    if budget != 1 {
-        return false;
-    }
-    says == sides::SPENT
 }
 
 // A hand-out: a maximal chain of the table whose pick sequence comes after the last one.
@@ -165,23 +141,12 @@ fn handed(going: Counting, side: u64, answer: Answer) -> Counting {
     let table = boards::table_of(t.gauges, t.cases, t.pairs);
     let whole = expect::a_chain(tally::called(t, 1), t.gauges, pairs, chain);
     let says = sides::judged_maximal(table, chain);
-    let judged = tally::same(whole, b"judge of maximal chains", sides::YES, says);
+    let judged = tally::same(whole, tally::SAYS, sides::YES, says);
     let mut after = going;
-    after.tally = tally::holds(
-        judged,
-        b"order of pick sequences",
-        comes_after(going.handed, going.last, key),
-    );
-    after.last = key;
+    after.tally = tally::holds(judged, tally::ORDER, going.least <= key);
+    after.least = arrays::more(key);
     after.handed = arrays::more(going.handed);
     after
-}
-
-fn comes_after(handed: u64, last: u64, key: u64) -> bool {
-    if handed == 0 {
-        return true;
-    }
-    last < key
 }
 
 // The 64 by 64 tables, both sides: the full one with its ladder at move 65 and its end 65 moves later, the empty one with 1 and 1.
@@ -204,14 +169,14 @@ fn one_ladder(t: Tally, side: u64, row: u64, moves: u64) -> Tally {
     let fresh = started.value;
     let begun = tally::same(
         tally::called(named, 1),
-        b"answer of a start",
+        tally::SAYS,
         sides::ACCEPTED,
         started.says,
     );
     let first = sides::call(side, fresh, MOST_BUDGET);
     let chain = first.chain;
     let next = first.next;
-    let whole = same_rows(step(begun, first, sides::HANDED_OUT, moves), chain, row);
+    let whole = same_rows(step(begun, first, path::HANDED_OUT, moves), chain, row);
     two_ends(whole, side, next, moves)
 }
 
@@ -220,30 +185,20 @@ fn two_ends(t: Tally, side: u64, value: Value, moves: u64) -> Tally {
     let next = first.next;
     let second = sides::call(side, next, MOST_BUDGET);
     let last = second.next;
-    let ended = step(step(t, first, sides::ENDS, moves), second, sides::ENDS, 1);
+    let ended = step(step(t, first, path::ENDS, moves), second, path::ENDS, 1);
     let state = path::state(0, 0, path::ENDED, 0);
-    tally::same(
-        ended,
-        b"picks and phase of a value",
-        state,
-        boards::state_of(last),
-    )
+    tally::same(ended, tally::STATE, state, boards::state_of(last))
 }
 
 fn step(t: Tally, answer: Answer, says: u64, moves: u64) -> Tally {
-    let said = tally::same(tally::called(t, 1), b"answer of a call", says, answer.says);
-    tally::same(said, b"moves of a call", moves, answer.moves)
+    let said = tally::same(tally::called(t, 1), tally::SAYS, says, answer.says);
+    tally::same(said, tally::MOVES, moves, answer.moves)
 }
 
 // A chain of 64 equal rows.
 fn same_rows(t: Tally, chain: Chain, row: u64) -> Tally {
     let rows = chain.rows;
     let wanted = [row; 64];
-    let counted = tally::same(t, b"row count of a chain", 64, chain.gauges);
-    tally::same(
-        counted,
-        b"rows of a chain that differ",
-        0,
-        boards::differ(&wanted, &rows),
-    )
+    let counted = tally::same(t, tally::CHAIN, 64, chain.gauges);
+    tally::same(counted, tally::CHAIN, 0, boards::differ(&wanted, &rows))
 }

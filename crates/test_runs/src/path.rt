@@ -14,12 +14,12 @@ pub const BACK: u64 = 2;
 
 pub const ENDED: u64 = 3;
 
-// What a move gives.
-pub const NOTHING: u64 = 0;
+// What the last move of a call gives, which is what the call says: a hand-out, nothing, or an end.
+pub const HANDED_OUT: u64 = 101;
 
-pub const HAND_OUT: u64 = 1;
+pub const SPENT: u64 = 102;
 
-pub const END: u64 = 2;
+pub const ENDS: u64 = 103;
 
 // Where a run is: its picks, their count, the phase, the pick gone back from; what the last move gave, the hand-outs and the moves so far.
 pub struct Spot {
@@ -39,7 +39,7 @@ pub fn fresh() -> Spot {
         count: 0,
         phase: DOWN,
         from: 0,
-        event: NOTHING,
+        event: SPENT,
         handed: 0,
         moves: 0,
     }
@@ -57,7 +57,7 @@ pub fn state(key: u64, count: u64, phase: u64, from: u64) -> u64 {
 // One move, by the rules of 01.
 fn step(keys: &[u64; 64], many: u64, s: Spot) -> Spot {
     let mut now = s;
-    now.event = NOTHING;
+    now.event = SPENT;
     now.moves = arrays::more(s.moves);
     if s.phase == DOWN {
         return step_down(keys, many, now);
@@ -76,7 +76,7 @@ fn step_down(keys: &[u64; 64], many: u64, s: Spot) -> Spot {
     }
     let mut now = s;
     now.phase = HANDED;
-    now.event = HAND_OUT;
+    now.event = HANDED_OUT;
     now.handed = arrays::more(s.handed);
     now
 }
@@ -104,7 +104,7 @@ fn take_back(s: Spot) -> Spot {
     if s.count == 0 {
         now.phase = ENDED;
         now.from = 0;
-        now.event = END;
+        now.event = ENDS;
         return now;
     }
     let last = s.count - 1;
@@ -164,11 +164,11 @@ fn front(key: u64, count: u64) -> u64 {
 // A call: moves up to the first that gives something, or as many as the budget.
 pub fn call(keys: &[u64; 64], many: u64, s: Spot, budget: u64) -> Spot {
     let mut now = s;
-    now.event = NOTHING;
+    now.event = SPENT;
     let mut made: u64 = 0;
     while made < budget {
         now = step(keys, many, now);
-        if now.event != NOTHING {
+        if now.event != SPENT {
             return now;
         }
         made += 1;
@@ -185,7 +185,7 @@ pub fn find(keys: &[u64; 64], many: u64, wanted: u64) -> Spot {
             return now;
         }
         now = step(keys, many, now);
-        if now.event == END {
+        if now.event == ENDS {
             return now;
         }
         turns += 1;

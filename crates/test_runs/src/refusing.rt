@@ -111,36 +111,33 @@ fn refused(t: Tally, says: u64, table: Table) -> Tally {
 
 // A table given: the one handed in, or a blank one.
 fn given(t: Tally, says: u64, table: Table, got: Given) -> Tally {
-    let own = got.table;
-    let said = tally::same(tally::called(t, 1), b"answer about a table", says, got.says);
-    if says == sides::ACCEPTED {
-        return kept(said, table, own);
-    }
-    expect::a_table(said, 0, 0, 0, own)
-}
-
-fn kept(t: Tally, table: Table, got: Table) -> Tally {
     let rows = table.rows;
-    let got_rows = got.rows;
-    let high = tally::same(t, b"gauges of a table", table.gauges, got.gauges);
-    let wide = tally::same(high, b"cases of a table", table.cases, got.cases);
-    tally::same(
-        wide,
-        b"rows of a table that differ",
-        0,
-        boards::differ(&rows, &got_rows),
-    )
+    let own = got.table;
+    let own_rows = own.rows;
+    let said = tally::same(tally::called(t, 1), tally::SAYS, says, got.says);
+    if says != sides::ACCEPTED {
+        return expect::a_table(said, 0, 0, 0, own);
+    }
+    let high = tally::same(said, tally::TABLE, table.gauges, own.gauges);
+    let wide = tally::same(high, tally::TABLE, table.cases, own.cases);
+    tally::same(wide, tally::TABLE, 0, boards::differ(&rows, &own_rows))
 }
 
+// A fresh value has the table and the state of no moves; a blank one has that state too.
 fn started(t: Tally, side: u64, says: u64, table: Table) -> Tally {
     let begun = sides::start(side, table);
     let value = begun.value;
     let own = value.table;
-    let said = tally::same(tally::called(t, 1), b"answer of a start", says, begun.says);
-    if says == sides::ACCEPTED {
-        return kept(said, table, own);
-    }
-    expect::blank_value(said, value)
+    let got = Given {
+        says: begun.says,
+        table: own,
+    };
+    tally::same(
+        given(t, says, table, got),
+        tally::STATE,
+        0,
+        boards::state_of(value),
+    )
 }
 
 // Run calls on the table: with a value that is fresh but for it, and with one and a budget that get 15 and 18 elsewhere.

@@ -20,14 +20,8 @@ use table::Gauge;
 use table::Made;
 use table::Table;
 
-// What an answer says, as one number: a refusal by its number in 01, or one of these.
+// What an answer says, as one number: a refusal by its number in 01, one of these, or for a run call one of `path`.
 pub const ACCEPTED: u64 = 100;
-
-pub const HANDED_OUT: u64 = 101;
-
-pub const SPENT: u64 = 102;
-
-pub const ENDS: u64 = 103;
 
 pub const YES: u64 = 104;
 
@@ -261,9 +255,9 @@ fn of_made(m: Made) -> Given {
 
 fn of_outcome(outcome: Outcome) -> u64 {
     match outcome {
-        Outcome::HandedOut => HANDED_OUT,
-        Outcome::Spent => SPENT,
-        Outcome::End => ENDS,
+        Outcome::HandedOut => path::HANDED_OUT,
+        Outcome::Spent => path::SPENT,
+        Outcome::End => path::ENDS,
         Outcome::Refused(why) => refusals::refusal_number(why),
     }
 }

@@ -1,6 +1,34 @@
 // What a group of checks has counted, and the account of its first disagreement: the table, what differed, what was expected and found.
 use super::arrays;
 
+// What a comparison is of, by the place of its name in `say`: the sets of pairs tried, the number of chains, the members and the length of a
+// list, what an answer says, moves, a chain, a table, the picks and phase of a value, a move limit, hand-outs, ends, the order of a list.
+pub const SETS: u64 = 0;
+
+pub const CHAINS: u64 = 1;
+
+pub const MEMBERS: u64 = 2;
+
+pub const LENGTH: u64 = 3;
+
+pub const SAYS: u64 = 4;
+
+pub const MOVES: u64 = 5;
+
+pub const CHAIN: u64 = 6;
+
+pub const TABLE: u64 = 7;
+
+pub const STATE: u64 = 8;
+
+pub const LIMIT: u64 = 9;
+
+pub const HANDED: u64 = 10;
+
+pub const ENDS: u64 = 11;
+
+pub const ORDER: u64 = 12;
+
 // The table at hand (its pairs as a board), the side, the list of budgets or for damaged values the change, and the counts.
 pub struct Tally {
     pub gauges: u64,
@@ -31,7 +59,7 @@ pub fn fresh() -> Tally {
 }
 
 // One comparison of two numbers.
-pub fn same(t: Tally, what: &[u8], want: u64, got: u64) -> Tally {
+pub fn same(t: Tally, what: u64, want: u64, got: u64) -> Tally {
     let mut after = t;
     after.comparisons = arrays::more(t.comparisons);
     if want == got {
@@ -45,7 +73,7 @@ pub fn same(t: Tally, what: &[u8], want: u64, got: u64) -> Tally {
 }
 
 // One test that must hold.
-pub fn holds(t: Tally, what: &[u8], test: bool) -> Tally {
+pub fn holds(t: Tally, what: u64, test: bool) -> Tally {
     if test {
         return same(t, what, 1, 1);
     }
@@ -100,19 +128,34 @@ fn number(text: &[u8], n: u64) {
     io::print_hex(1, n, 1);
 }
 
-fn report(t: Tally, what: &[u8], want: u64, got: u64) {
+// A line on a disagreement: numbers, each behind a word.
+fn report(t: Tally, what: u64, want: u64, got: u64) {
     io::write_all(1, b"FIRST DISAGREEMENT: ");
-    io::write_all(1, what);
-    number(b": expected ", want);
-    number(b", found ", got);
-    report_table(t);
-    number(b"; side ", t.side);
-    number(b", budgets or change ", t.budgets);
+    say(what);
+    number(b" expected ", want);
+    number(b" found ", got);
+    number(b" gauges ", t.gauges);
+    number(b" cases ", t.cases);
+    number(b" pairs ", t.pairs);
+    number(b" side ", t.side);
+    number(b" budgets or change ", t.budgets);
     io::write_all(1, b"\n");
 }
 
-fn report_table(t: Tally) {
-    number(b"; a table of ", t.gauges);
-    number(b" by ", t.cases);
-    number(b" with the pairs ", t.pairs);
+// The name of a comparison, of 13 that are 11 bytes each.
+fn say(what: u64) {
+    let names =
+        b"sets tried,chains    ,members   ,length    ,answer    ,moves     ,chain     ,table     ,state     ,limit     ,hand-outs ,ends      ,order     ,";
+    say_part(names, what);
+}
+
+fn say_part(names: &[u8], what: u64) {
+    if 12 < what {
+        return;
+    }
+    let from = (what as usize) * 11;
+    let to = from + 11;
+    if to <= names.len() {
+        io::write_all(1, &names[from..to]);
+    }
 }

@@ -1,14 +1,12 @@
 -- `test_runs::groups::shape` is safe and ends: the measure is what its loop still has to count.
 use Prim.Native.Nat.{_-_}
 use native.Mathlib.Omega.{arith}
-use borrow.Author.Needs.{needs}
 use Rattle.test_runs.proofs.groups.shape.Statement.{statement}
 use Rattle.test_runs.proofs.groups.shape.Tie as tie
 
 pub shape-spec : {M : Type 1} → statement M
 shape-spec =
     tie.close
-    (tie.spec (λ group gauges cases stride all now₀ pairs₀ turns₀ t10 t11 now pairs turns. Unit {0})
-    (λ group gauges cases stride all now₀ pairs₀ turns₀ t10 t11 now pairs turns. 65536 - turns) (λ c κs. tt) (λ c. tt) (λ c κs. tt)
-    (λ c κs. tt) (λ c κs. tt) (λ c κs. tt) (λ c. omega arith) (λ c. search needs) (λ c κs. tt) (λ c κs. tt) (λ c. tt) (λ c. omega arith)
-    (λ c. tt) (λ c. search needs) (λ c κs. tt) (λ c. tt))
+    (tie.spec (λ group gauges cases stride all now₀ pairs₀ turns₀ now pairs turns. Unit {0})
+    (λ group gauges cases stride all now₀ pairs₀ turns₀ now pairs turns. 65536 - turns) (λ c κs. tt) (λ c. tt) (λ c κs. tt) (λ c κs. tt)
+    (λ c κs. tt) (λ c κs. tt) (λ c. omega arith) (λ c κs. tt) (λ c κs. tt) (λ c. tt) (λ c. omega arith) (λ c. tt) (λ c κs. tt) (λ c. tt))
