@@ -26,7 +26,8 @@ use Rattle.lists.proofs.BothSides.{gauge-fair}
 use Rattle.lists.proofs.Demand.{demand3}
 use Rattle.runs.specs.Paused.{Value, paused}
 use Rattle.runs.specs.Calling.{PausedAt}
-use Rattle.blocks.specs.Filling.{files, longest, Filling, calls, after, text, isEnd, hasEnd, Stops, Fills, Filled, Item, Blocks, leaves, output, isOver, Listed, CarriesList}
+use Rattle.blocks.specs.Filling.{files, longest, Filling, calls, after, text, isEnd, hasEnd, Stops, Fills, Filled, Item, Blocks, leaves, output, isOver}
+use Rattle.blocks.specs.Filling.{Listed, CarriesList}
 use Rattle.blocks.proofs.Calls.{files-append, handouts-append, hasEnd-append, calls-more, reached-after}
 
 -- ---- a call that answered end

@@ -18,7 +18,8 @@ use lib.Seq.{ext-getD, getD-set-same, getD-set-other}
 use borrow.Author.Tests.{eqb-true, eq-eqb}
 use Rattle.sets.specs.Sets.{meet, _⊆_, isProperSubset}
 use Rattle.sets.proofs.Tests.{is-true}
-use Rattle.sets.proofs.Order.{sub-refl, sub-trans, sub-antisym, sub-dec, meet-left, meet-right, meet-glb, zero-sub, ones-mono, ones-strict, proper-is, not-proper}
+use Rattle.sets.proofs.Order.{sub-refl, sub-trans, sub-antisym, sub-dec, meet-left, meet-right, meet-glb, zero-sub, ones-mono, ones-strict, proper-is}
+use Rattle.sets.proofs.Order.{not-proper}
 use Rattle.sets.proofs.Tabulated.{all-at, all-of}
 use Rattle.table.specs.Pairs.{row, Within}
 use Rattle.table.specs.Chains.{IsChain, IsMaximal}

@@ -34,7 +34,8 @@ use Rattle.lists.specs.Picks.{common, rulesOut, candidate, select, candidates}
 use Rattle.lists.specs.OnTable.{chainRow, chainOf}
 use Rattle.lists.proofs.Listed.{chainsInOrder, gauge-list}
 use Rattle.lists.proofs.Growing.{covers, fitting, growFrom, grow, grow-first}
-use Rattle.known.specs.KnownTables.{pairs, count, Entry, Shape, Lists, moveOf, k1, k2, k3, k4, k5, k10, Known, K1, K2, K3, K4, K5, K6, K7, K8, K9, K10, Claim, knownTables, AllKnown, Attained}
+use Rattle.known.specs.KnownTables.{pairs, count, Entry, Shape, Lists, moveOf, k1, k2, k3, k4, k5, k10, Known, K1, K2, K3, K4, K5, K6, K7, K8, K9, K10}
+use Rattle.known.specs.KnownTables.{Claim, knownTables, AllKnown, Attained}
 
 -- ---- the gauge list of a table, from what is computed
 module _ (t : Table) (g l : ℕ) where

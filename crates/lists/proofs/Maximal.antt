@@ -29,7 +29,8 @@ use Rattle.lists.specs.OnTable.{chainRow, chainOf}
 use Rattle.sets.proofs.Tests.{test}
 use Rattle.lists.proofs.Unpicked.{Un, un-nil, un-left, un-ne, un-snoc, free, free-nil, free-drop}
 use Rattle.lists.proofs.Remainders.{step-left, step-right, step-glb, remainder-past}
-use Rattle.lists.proofs.Taking.{score-un, score-in, next, next-is, take-none, take-stop, take-more, all-empty, next-in, next-filled, next-max, next-first}
+use Rattle.lists.proofs.Taking.{score-un, score-in, next, next-is, take-none, take-stop, take-more, all-empty, next-in, next-filled, next-max}
+use Rattle.lists.proofs.Taking.{next-first}
 use Rattle.lists.proofs.Candidates.{Cand, none-candidate, LeafFrom, IsLeaf, leaf-from, leaf-to}
 use Rattle.lists.proofs.Existence.{filled-below, ones-pos, nothing-left}
 use Rattle.lists.proofs.ChainRows.{row-none, row-hit, row-miss, row-le, row-under, length-chainOf, row-chainOf, chainOf-within, chainOf-chain}

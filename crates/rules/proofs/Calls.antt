@@ -17,8 +17,10 @@ use native.Mathlib.Omega.{arith}
 use lib.Dec.{ltb}
 use lib.ListN.{length}
 use borrow.Author.Tests.{lt-ltb, le-ltb}
-use Rattle.rules.specs.Machine.{cutLast, Phase, Down, Handed, Back, Ended, State, Given, nothing, hands, ends, at, fresh, takeBack, down, back, above, step, move}
-use Rattle.rules.specs.Calls.{Reply, refused, spent, handed, end, Call, result, mostBudget, answered, handouts, movesUntil, isHandOut, isHandOutOrEnd, proceed, carry, call, callsFrom, calls, stateAfter}
+use Rattle.rules.specs.Machine.{cutLast, Phase, Down, Handed, Back, Ended, State, Given, nothing, hands, ends, at, fresh, takeBack, down, back, above}
+use Rattle.rules.specs.Machine.{step, move}
+use Rattle.rules.specs.Calls.{Reply, refused, spent, handed, end, Call, result, mostBudget, answered, handouts, movesUntil, isHandOut, isHandOutOrEnd}
+use Rattle.rules.specs.Calls.{proceed, carry, call, callsFrom, calls, stateAfter}
 use Rattle.rules.specs.private.Fitting.{Fits}
 use Rattle.rules.proofs.Trees.{by-last, cut-snoc, length-snoc, Tree, leaves, kid-fits}
 use Rattle.rules.proofs.Progress.{rest, listed, move-rest, move-fits}

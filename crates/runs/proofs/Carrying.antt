@@ -15,7 +15,8 @@ use Rattle.search.proofs.Within.{length-within}
 use Rattle.replay.specs.Picked.{Replays}
 use Rattle.replay.specs.declared.Replayed.{Replayed}
 use Rattle.replay.proofs.Numbers.{places-numbers}
-use Rattle.runs.specs.private.Working.{Sized, modePhase, placed, placesOf, stateOf, HoldsAt, Holds, Laying, ComesOut, Advanced, Decides, filled, PhaseIn, StandsFor, CarriesOn, refusedReport}
+use Rattle.runs.specs.private.Working.{Sized, modePhase, placed, placesOf, stateOf, HoldsAt, Holds, Laying, ComesOut, Advanced, Decides, filled}
+use Rattle.runs.specs.private.Working.{PhaseIn, StandsFor, CarriesOn, refusedReport}
 use Rattle.runs.specs.declared.engine.Mode.{Mode}
 use Rattle.runs.specs.declared.engine.Spot.{Spot}
 use Rattle.runs.specs.declared.engine.Report.{Report}

@@ -34,7 +34,8 @@ use Rattle.runs.specs.declared.engine.Spot.{Spot}
 use Rattle.runs.specs.declared.engine.Moved.{Moved}
 use Rattle.runs.specs.declared.engine.Moved.the-variants.{On, Out, Over}
 use Rattle.runs.proofs.Padding.{last-split}
-use Rattle.runs.proofs.Holding.{stepped-on, stepped-out, stepped-over, full-is, common-none, room, holds-pick, few, last-count, last-below, last-number, holds-back, left-back, number-back}
+use Rattle.runs.proofs.Holding.{stepped-on, stepped-out, stepped-over, full-is, common-none, room, holds-pick, few, last-count, last-below}
+use Rattle.runs.proofs.Holding.{last-number, holds-back, left-back, number-back}
 
 -- ---- the side's rows
 module _ (n : ℕ) (rows : List ℕ) (z : Sized n rows) where

@@ -17,7 +17,8 @@ ghost use Rattle.rules.specs.Machine.{takeBack, cutLast};
 ghost use Rattle.lists.specs.OnTable.{chainOf};
 ghost use Rattle.search.specs.Finding.{within};
 ghost use Rattle.sets.specs.First.{Without};
-ghost use Rattle.runs.specs.private.Working.{Sized, Holds, Laying, stateOf, placesOf, modePhase, spotDown, movedFrom, Stepped, TakesBack, NumberAt, leftAfter, Advanced, Decides, filled as filledPlaces, PhaseIn, CarriesOn, refusedReport};
+ghost use Rattle.runs.specs.private.Working.{Sized, Holds, Laying, stateOf, placesOf, modePhase, spotDown, movedFrom, Stepped, TakesBack, NumberAt};
+ghost use Rattle.runs.specs.private.Working.{leftAfter, Advanced, Decides, filled as filledPlaces, PhaseIn, CarriesOn, refusedReport};
 
 // "A run call has a budget from 0 to 1,000,000 moves" (01).
 const MOST_BUDGET: u64 = 1_000_000;

@@ -5,7 +5,8 @@ use mathlib.Core.Path.{_≡_, refl, sym, _∙_}
 use native.Mathlib.Omega.{arith}
 use borrow.Author.Tests.{not-true, not-false}
 use borrow.Author.Needs.{needs}
-use Rattle.replay.proofs.Going.{full-is, Low, low-none, low-more, Going, going-none, going-more, picked-few, bad-zero, bad-place, bad-empty, bad-judge, going-made, going-against, replays-no, replays-yes}
+use Rattle.replay.proofs.Going.{full-is, Low, low-none, low-more, Going, going-none, going-more, picked-few, bad-zero, bad-place, bad-empty, bad-judge}
+use Rattle.replay.proofs.Going.{going-made, going-against, replays-no, replays-yes}
 use Rattle.replay.proofs.replay.Statement.{statement}
 use Rattle.replay.proofs.replay.Tie as tie
 
