@@ -1,6 +1,7 @@
 -- `reader::comment` meets its contract: the part that `comment_at` gives lies in the file, and its bytes are those that are shown.
 use native.Mathlib.Omega.{arith}
-use native.Mathlib.Nat.{add-sub-cancel-left}
+use mathlib.Core.Path.{refl, sym}
+use native.Mathlib.Nat.{add-zero, add-comm, add-sub-cancel-left}
 use Rattle.reader.proofs.Lookup.{part-is, part-none, part-inside}
 use borrow.Author.Needs.{needs}
 use Rattle.reader.proofs.comment.Statement.{statement}
@@ -22,7 +23,7 @@ returns : tie.Need-returns
 returns c =
     let f = c .before .before .before in
     rw (← part-none _ _ _ (f .comment-at .ensures) (c .before .enum-told .given .1))
-    (record { block = search needs; offset = search needs; bytes = search needs })
+    (record { block = refl; offset = sym (add-zero _); bytes = refl })
 
 add-result : tie.Need-add-result
 add-result c =
@@ -44,7 +45,7 @@ returns-2 : tie.Need-returns-2
 returns-2 c =
     let f = c .before .before .before .before in
     rw (← part-is _ _ _ (f .comment-at .ensures) (c .before .before .place .given .1))
-    (record { block = search needs; offset = search needs; bytes = rw add-sub-cancel-left })
+    (record { block = refl; offset = add-comm _ _; bytes = rw add-sub-cancel-left })
 
 pub comment-spec : {M : Type 1} → statement M
 comment-spec =

@@ -15,7 +15,7 @@ refuse-requires : tie.Need-refuse-requires
 refuse-requires c κs = search needs
 
 returns : tie.Need-returns
-returns c = c .refuse .ensures ∙ file-long _ (c .before .if1 .taken)
+returns c = c .refuse .ensures ∙ file-long (c .before .before .before .args .file .now) (omega arith)
 
 line-at-requires : tie.Need-line-at-requires
 line-at-requires c κs = search needs

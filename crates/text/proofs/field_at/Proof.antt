@@ -85,7 +85,7 @@ returns-2 c =
     let b = c .before .before in
     let l = round b in
     record {
-      says = scan-long-at _ (l .loop .i) _ _ _ (l .loop .inv .3) (test b .loop-test .taken) _ (b .is-blank .ensures) (c .before .if1 .left) (c .if3 .taken);
+      says = scan-long-at _ (l .loop .i) _ _ _ (l .loop .inv .3) (test b .loop-test .taken) _ (b .is-blank .ensures) (c .before .if1 .left) (omega arith);
     }
 
 digit-of-requires : tie.Need-digit-of-requires Inv-loop μ-loop
