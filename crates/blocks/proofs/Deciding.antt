@@ -26,7 +26,7 @@ use Rattle.lists.specs.OnTable.{ReachedOn}
 use Rattle.lists.proofs.CandidateTree.{reached-fits}
 use Rattle.runs.specs.Paused.{Value, numbered, paused}
 use Rattle.runs.specs.Calling.{PausedAt}
-use Rattle.runs.specs.declared.GaugeRun.{GaugeRun}
+use Rattle.runs.specs.declared.gauges.GaugeRun.{GaugeRun}
 use Rattle.runs.proofs.Readings.{gauge-value-injective}
 use Rattle.runs.proofs.Answered.{paused-state}
 use Rattle.writer.specs.Writing.{writeFile}
