@@ -1,2 +1,3 @@
--- What a reader must believe of turning, beside crate `table`'s `transpose`.
+-- What a reader must believe of turning, beside crate `table`'s `transpose`; `private` is for the steps alone.
 pub mod Places
+pub mod private
