@@ -95,26 +95,26 @@ fn key_of(picks: &[u8; 64]) -> u64 {
     let mut key: u64 = 0;
     let mut i: u64 = 0;
     while i < 64 {
-        let pick = arrays::get_pick(picks, i);
-        if most_at(i) < pick {
+        let digit = digit_at(i, arrays::get_pick(picks, i));
+        if digit == NO_STATE {
             return NO_STATE;
         }
-        key = key | digit_at(i, pick);
+        key = key | digit;
         i += 1;
     }
     key
 }
 
-fn most_at(i: u64) -> u64 {
-    if i < 8 {
-        return 15;
-    }
-    0
-}
-
+// A pick at its place of a key.
 fn digit_at(i: u64, pick: u64) -> u64 {
-    if 8 <= i {
+    if pick == 0 {
         return 0;
+    }
+    if 15 < pick {
+        return NO_STATE;
+    }
+    if 8 <= i {
+        return NO_STATE;
     }
     pick << (28 - 4 * i)
 }

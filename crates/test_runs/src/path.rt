@@ -6,6 +6,7 @@
 // and the pick gone back from.
 use super::arrays;
 
+// The phases; those in which a pick is made are even.
 pub const DOWN: u64 = 0;
 
 pub const HANDED: u64 = 1;
@@ -54,51 +55,29 @@ pub fn state(key: u64, count: u64, phase: u64, from: u64) -> u64 {
     key | (count << 32) | (phase << 40) | (from << 48)
 }
 
-// One move, by the rules of 01.
+// One move, by the rules of 01. While Down nothing was gone back from, and every pick is above that.
 fn step(keys: &[u64; 64], many: u64, s: Spot) -> Spot {
     let mut now = s;
     now.event = SPENT;
     now.moves = arrays::more(s.moves);
-    if s.phase == DOWN {
-        return step_down(keys, many, now);
+    let pick = next_pick(keys, many, s);
+    if pick != 0 {
+        now.key = with_digit(s.key, s.count, pick);
+        now.count = arrays::more(s.count);
+        now.phase = DOWN;
+        now.from = 0;
+        return now;
     }
-    if s.phase == BACK {
-        return step_on(now, next_pick(keys, many, s.key, s.count, s.from));
+    if s.phase == DOWN {
+        now.phase = HANDED;
+        now.event = HANDED_OUT;
+        now.handed = arrays::more(s.handed);
+        return now;
     }
     take_back(now)
 }
 
-// Rules 1 and 2.
-fn step_down(keys: &[u64; 64], many: u64, s: Spot) -> Spot {
-    let pick = next_pick(keys, many, s.key, s.count, 0);
-    if pick != 0 {
-        return picked(s, pick);
-    }
-    let mut now = s;
-    now.phase = HANDED;
-    now.event = HANDED_OUT;
-    now.handed = arrays::more(s.handed);
-    now
-}
-
-// Rule 4.
-fn step_on(s: Spot, pick: u64) -> Spot {
-    if pick != 0 {
-        return picked(s, pick);
-    }
-    take_back(s)
-}
-
-fn picked(s: Spot, pick: u64) -> Spot {
-    let mut now = s;
-    now.key = with_digit(s.key, s.count, pick);
-    now.count = arrays::more(s.count);
-    now.phase = DOWN;
-    now.from = 0;
-    now
-}
-
-// Rules 3 and 4, and rule 5, where there are no picks: the last pick is taken back; without picks, the end.
+// Rules 3 to 5 where nothing is picked: the last pick is taken back; without picks, the end.
 fn take_back(s: Spot) -> Spot {
     let mut now = s;
     if s.count == 0 {
@@ -115,12 +94,13 @@ fn take_back(s: Spot) -> Spot {
     now
 }
 
-// The lowest pick above `above` that follows the first `count` picks of `key` in the list; 0 where there is none.
-fn next_pick(keys: &[u64; 64], many: u64, key: u64, count: u64, above: u64) -> u64 {
+// The pick of rules 1 and 4, for Down and Back: the lowest that follows the picks made in the list, above the one gone back from; 0 where
+// there is none, and in the other phases.
+fn next_pick(keys: &[u64; 64], many: u64, s: Spot) -> u64 {
     let mut i: u64 = 0;
     while i < many {
-        let pick = pick_there(arrays::get(keys, i), key, count);
-        if above < pick {
+        let pick = pick_there(arrays::get(keys, i), s);
+        if s.from < pick {
             return pick;
         }
         i += 1;
@@ -128,12 +108,15 @@ fn next_pick(keys: &[u64; 64], many: u64, key: u64, count: u64, above: u64) -> u
     0
 }
 
-// The pick that follows the first `count` picks of `key` in a sequence; 0 where it starts with others, or has no more.
-fn pick_there(own: u64, key: u64, count: u64) -> u64 {
-    if front(own, count) == key {
-        return digit(own, count);
+// The pick that follows the picks made in a sequence; 0 where it starts with others, or has no more.
+fn pick_there(own: u64, s: Spot) -> u64 {
+    if front(own, s.count) != s.key {
+        return 0;
     }
-    0
+    if s.phase % 2 == 1 {
+        return 0;
+    }
+    digit(own, s.count)
 }
 
 // The digit of a pick sequence at a place, from 0.

@@ -128,17 +128,23 @@ fn number(text: &[u8], n: u64) {
     io::print_hex(1, n, 1);
 }
 
-// A line on a disagreement: numbers, each behind a word.
+// A line on a disagreement. Behind the colon: the table's gauges, cases and pairs, the side, the list of budgets or the change.
 fn report(t: Tally, what: u64, want: u64, got: u64) {
-    io::write_all(1, b"FIRST DISAGREEMENT: ");
+    io::write_all(1, b"FIRST DISAGREEMENT, ");
     say(what);
     number(b" expected ", want);
     number(b" found ", got);
-    number(b" gauges ", t.gauges);
-    number(b" cases ", t.cases);
-    number(b" pairs ", t.pairs);
-    number(b" side ", t.side);
-    number(b" budgets or change ", t.budgets);
+    io::write_all(1, b":");
+    report_place(t);
+}
+
+fn report_place(t: Tally) {
+    let space = b" ";
+    number(space, t.gauges);
+    number(space, t.cases);
+    number(space, t.pairs);
+    number(space, t.side);
+    number(space, t.budgets);
     io::write_all(1, b"\n");
 }
 

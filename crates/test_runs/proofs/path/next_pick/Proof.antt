@@ -7,5 +7,5 @@ use Rattle.test_runs.proofs.path.next_pick.Tie as tie
 pub next-pick-spec : {M : Type 1} → statement M
 next-pick-spec =
     tie.close
-    (tie.spec (λ keys many key count above i₀ i. Unit {0}) (λ keys many key count above i₀ i. many - i) (λ c. tt) (λ c κs. tt) (λ c κs. tt)
-    (λ c. tt) (λ c. omega arith) (λ c. omega arith) (λ c. tt) (λ c. tt))
+    (tie.spec (λ keys many s i₀ i. Unit {0}) (λ keys many s i₀ i. many - i) (λ c. tt) (λ c κs. tt) (λ c κs. tt) (λ c. tt) (λ c. omega arith)
+    (λ c. omega arith) (λ c. tt) (λ c. tt))
