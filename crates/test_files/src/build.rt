@@ -134,10 +134,10 @@ fn byte_of(unit: u64, i: u64) -> u8 {
     if unit < COMMENT {
         return unit as u8;
     }
-    if i % COMMENT_LINE == 1024 {
-        return b'\n';
+    match i % COMMENT_LINE {
+        1024 => b'\n',
+        _ => b'%',
     }
-    b'%'
 }
 
 fn put(out: &mut [u8; ROOM], at: usize, byte: u8) {

@@ -48,25 +48,27 @@ fn is_of_table(verb: u8) -> bool {
     }
 }
 
-// The verbs read, long, comment and again.
+// The verbs read, long, comment and again; the last reads a file for the verb show.
 fn of_file(line: &[u8], verb: u8) {
     let mut space = [build::FILL; build::ROOM];
     let end = build::file(script::content(line), &mut space);
     let file = build::front(&space, end);
+    let label = script::label(line);
     match verb {
-        b'a' => writing::again(file, script::label(line)),
-        b'c' => reading::comment(file, script::argument(line), script::label(line)),
-        b'l' => reading::sized(file, script::label(line)),
-        _ => reading::plain(file, script::label(line)),
+        b'a' => writing::table(reading::table(file), b's', build::ROOM, label),
+        b'c' => reading::comment(file, script::argument(line), label),
+        b'l' => reading::sized(file, label),
+        _ => reading::plain(file, label),
     }
 }
 
-// The verbs write, trip and show.
+// The verbs write, trip and show; the last two lend the whole buffer.
 fn of_table(line: &[u8], verb: u8) {
     let t = tables::table(script::content(line));
-    match verb {
-        b's' => writing::shown(t, script::label(line)),
-        b't' => writing::trip(t, script::label(line)),
-        _ => writing::lent(t, script::argument(line), script::label(line)),
+    let label = script::label(line);
+    if verb == b'w' {
+        writing::table(t, verb, script::argument(line) as usize, label);
+        return;
     }
+    writing::table(t, verb, build::ROOM, label);
 }

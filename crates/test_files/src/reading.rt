@@ -2,6 +2,7 @@
 use crate::say;
 use crate::script;
 use crate::subject;
+use table::Table;
 
 pub fn plain(file: &[u8], label: &[u8]) {
     answer(file);
@@ -11,9 +12,7 @@ pub fn plain(file: &[u8], label: &[u8]) {
 // The line has the file's length too.
 pub fn sized(file: &[u8], label: &[u8]) {
     answer(file);
-    say::size(b", of ", file.len());
-    say::text(b" bytes");
-    say::label(label);
+    say::bytes(file.len(), label);
 }
 
 // Reads a file, and writes its table or its refusal.
@@ -28,7 +27,13 @@ pub fn answer(file: &[u8]) {
     say::table(t);
 }
 
-// Looks a comment up, and writes its place and the part shown.
+// The table of a file; a blank one where it is refused.
+pub fn table(file: &[u8]) -> Table {
+    let got = subject::read(file);
+    got.table
+}
+
+// Looks a comment up, and writes its place and the part shown, up to 40 bytes of it.
 pub fn comment(file: &[u8], k: u64, label: &[u8]) {
     say::text(b"comment ");
     say::number(k);
@@ -36,7 +41,7 @@ pub fn comment(file: &[u8], k: u64, label: &[u8]) {
     let part = subject::comment(file, k);
     say::size(b", shows ", part.len());
     say::text(b" <");
-    say::text(front(part));
+    say::text(script::part(part, 0, 40));
     say::text(b">");
     say::label(label);
 }
@@ -50,9 +55,4 @@ fn place(file: &[u8], k: u64) {
     }
     say::size(b" at ", found.start);
     say::size(b" of ", found.length);
-}
-
-// The first 40 bytes; all where there are fewer.
-fn front(part: &[u8]) -> &[u8] {
-    script::part(part, 0, 40)
 }

@@ -24,6 +24,13 @@ pub fn size(words: &[u8], n: usize) {
     number(n as u64);
 }
 
+// The end of a line about so many bytes.
+pub fn bytes(n: usize, words: &[u8]) {
+    size(b", of ", n);
+    text(b" bytes");
+    label(words);
+}
+
 // Writes a line.
 pub fn line(words: &[u8]) {
     text(words);

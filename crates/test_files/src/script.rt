@@ -57,13 +57,10 @@ pub fn number(s: &[u8], from: usize) -> u64 {
 
 // The value of a digit; 10 where the byte is none.
 pub fn digit(b: u8) -> u64 {
-    if b < b'0' {
-        return 10;
+    match b {
+        b'0'..=b'9' => wide(b - b'0'),
+        _ => 10,
     }
-    if b'9' < b {
-        return 10;
-    }
-    wide(b - b'0')
 }
 
 pub fn wide(b: u8) -> u64 {

@@ -9,14 +9,17 @@ use crate::subject::Wrote;
 use crate::tables;
 use table::Table;
 
-// Lends a part of a buffer, its front, to the writer.
-pub fn lent(t: Table, size: u64, label: &[u8]) {
+// Writes a table to the front of a buffer, of which `size` bytes are lent, and goes on by the verb: write, trip or show.
+pub fn table(t: Table, verb: u8, size: usize, label: &[u8]) {
     let mut space = [build::FILL; build::ROOM];
-    let got = write_front(t, &mut space, size as usize);
+    let got = write_front(t, &mut space, size);
     outcome(got, &space);
-    say::size(b", of ", size as usize);
-    say::text(b" bytes");
-    say::label(label);
+    let file = script::part(&space, 0, got.length);
+    match verb {
+        b't' => compare(t, file, label),
+        b'w' => say::bytes(size, label),
+        _ => show(file, label),
+    }
 }
 
 fn write_front(t: Table, out: &mut [u8], size: usize) -> Wrote {
@@ -52,41 +55,18 @@ fn changed(bytes: &[u8]) -> usize {
     count
 }
 
-// Writes a table, reads the file back, and compares all rows.
-pub fn trip(t: Table, label: &[u8]) {
-    let mut space = [build::FILL; build::ROOM];
-    let got = subject::write(t, &mut space);
-    outcome(got, &space);
-    if got.refused == 0 {
-        compare(t, script::part(&space, 0, got.length));
-    }
-    say::label(label);
-}
-
 // Reads a file, and compares its table with the one that was written.
-fn compare(t: Table, file: &[u8]) {
+fn compare(t: Table, file: &[u8], label: &[u8]) {
     say::text(b", ");
     reading::answer(file);
     let back = subject::read(file);
     let other = back.table;
     say::text(b", differ ");
     say::number(tables::rows_differ(t, other));
-}
-
-// Writes a table and shows the file.
-pub fn shown(t: Table, label: &[u8]) {
-    let mut space = [build::FILL; build::ROOM];
-    let got = subject::write(t, &mut space);
-    outcome(got, &space);
     say::label(label);
-    if got.refused == 0 {
-        say::text(script::part(&space, 0, got.length));
-    }
 }
 
-// Reads a file, writes its table, and shows the file.
-pub fn again(file: &[u8], label: &[u8]) {
-    let back = subject::read(file);
-    let t = back.table;
-    shown(t, label);
+fn show(file: &[u8], label: &[u8]) {
+    say::label(label);
+    say::text(file);
 }

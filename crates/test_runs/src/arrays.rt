@@ -24,16 +24,12 @@ pub fn get_pick(a: &[u8; 64], i: u64) -> u64 {
     wide(a[at])
 }
 
-// A number above 255 is no pick: it stores 255.
+// A pick is a byte: of a larger number it stores the low eight bits.
 pub fn put_pick(a: &mut [u8; 64], i: u64, x: u64) {
     if i < 64 {
         let at = i as usize;
-        a[at] = narrow(x);
+        a[at] = (x % 256) as u8;
     }
-}
-
-pub fn more(n: u64) -> u64 {
-    std::num::wrapping_add_u64(n, 1)
 }
 
 pub fn plus(a: u64, b: u64) -> u64 {
@@ -42,11 +38,4 @@ pub fn plus(a: u64, b: u64) -> u64 {
 
 fn wide(x: u8) -> u64 {
     x as u64
-}
-
-fn narrow(x: u64) -> u8 {
-    if 255 < x {
-        return 255;
-    }
-    x as u8
 }

@@ -30,7 +30,7 @@ fn rows_of(pairs: u64) -> [u64; 64] {
     let mut rows = [0u64; 64];
     let mut i: u64 = 0;
     while i < 8 {
-        arrays::put(&mut rows, i, plain::row(pairs, arrays::more(i)));
+        arrays::put(&mut rows, i, plain::row(pairs, arrays::plus(i, 1)));
         i += 1;
     }
     rows
@@ -55,7 +55,7 @@ pub fn differ(a: &[u64; 64], b: &[u64; 64]) -> u64 {
     let mut i: u64 = 0;
     while i < 64 {
         if arrays::get(a, i) != arrays::get(b, i) {
-            off = arrays::more(off);
+            off = arrays::plus(off, 1);
         }
         i += 1;
     }
@@ -77,17 +77,10 @@ pub fn pairs_of(rows: &[u64; 64]) -> u64 {
 pub fn state_of(v: Value) -> u64 {
     let picks = v.picks;
     let stage = v.stage;
-    let key = key_of(&picks);
-    if 255 < v.count {
+    if 255 < (v.count | stage.from) {
         return NO_STATE;
     }
-    if 255 < stage.from {
-        return NO_STATE;
-    }
-    if key == NO_STATE {
-        return NO_STATE;
-    }
-    path::state(key, v.count, stage.phase, stage.from)
+    path::state(key_of(&picks), v.count, stage.phase, stage.from)
 }
 
 // The picks as hexadecimal digits: at most eight, and zeros behind them.
@@ -116,5 +109,5 @@ fn digit_at(i: u64, pick: u64) -> u64 {
     if 8 <= i {
         return NO_STATE;
     }
-    pick << (28 - 4 * i)
+    pick << path::cut(i)
 }

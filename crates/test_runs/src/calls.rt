@@ -46,9 +46,12 @@ pub fn table(t: Tally) -> Tally {
 fn one_side(t: Tally, side: u64, list: List) -> Tally {
     let sets = list.sets;
     let keys = list.keys;
-    let most = factorial(least_of(t.gauges, t.cases));
+    let mut least = t.gauges;
+    if t.cases < least {
+        least = t.cases;
+    }
     let named = tally::of_side(t, side, list.count);
-    let short = tally::holds(named, tally::LENGTH, list.count <= most);
+    let short = tally::holds(named, tally::LENGTH, list.count <= factorial(least));
     patterns(short, side, &sets, &keys, list.count)
 }
 
@@ -64,13 +67,6 @@ pub fn factorial(n: u64) -> u64 {
         8 => 40320,
         _ => 1,
     }
-}
-
-fn least_of(a: u64, b: u64) -> u64 {
-    if a < b {
-        return a;
-    }
-    b
 }
 
 fn patterns(t: Tally, side: u64, sets: &[u64; 64], keys: &[u64; 64], count: u64) -> Tally {
@@ -122,25 +118,22 @@ fn finish(going: Going, keys: &[u64; 64], count: u64) -> Tally {
     let t = going.tally;
     let spot = going.spot;
     let end = path::find(keys, count, path::state(0, 0, path::ENDED, 0));
-    let moved = tally::same(t, tally::MOVES, arrays::more(end.moves), going.moves);
+    let moved = tally::same(t, tally::MOVES, arrays::plus(end.moves, 1), going.moves);
     let handed = tally::same(moved, tally::HANDED, count, spot.handed);
     tally::same(handed, tally::ENDS, 2, going.ends)
 }
 
-// The budget of call k of a list.
+// The budget of call k of a list: none and one in turn, the same number at each call, or small, large, none and refused ones in turn.
 fn budget_of(pattern: u64, k: u64) -> u64 {
     match pattern {
         0 => k % 2,
-        1 => 1,
-        2 => 2,
-        3 => 3,
         4 => 7,
         5 => mixed_budget(k % 12),
-        _ => MOST_BUDGET,
+        6 => MOST_BUDGET,
+        same => same,
     }
 }
 
-// Small, large, none, and refused ones in between.
 fn mixed_budget(k: u64) -> u64 {
     match k {
         0 | 7 | 10 => 1_000_001,
@@ -186,27 +179,23 @@ fn one_call(
         after.since = 0;
     }
     if answer.says == path::ENDS {
-        after.ends = arrays::more(going.ends);
+        after.ends = arrays::plus(going.ends, 1);
     }
     after
 }
 
-// At most n + 1 moves to the first hand-out, at most 2n + 1 from one to the next or to the first end, or so far.
+// At most n + 1 moves to the first hand-out, at most 2n + 1 from one to the next or to the first end, or so far; n is the number of picks
+// that a side can make.
 fn limit(t: Tally, side: u64, handed: u64, ends: u64, since: u64) -> Tally {
     if 0 < ends {
         return t;
     }
-    let n = most_picks(t, side);
-    if handed == 0 {
-        return tally::holds(t, tally::LIMIT, since <= arrays::more(n));
-    }
-    tally::holds(t, tally::LIMIT, since <= arrays::more(arrays::plus(n, n)))
-}
-
-// The number of picks that a side can make.
-fn most_picks(t: Tally, side: u64) -> u64 {
+    let mut n = t.cases;
     if side == plain::GAUGES {
-        return t.gauges;
+        n = t.gauges;
     }
-    t.cases
+    if handed == 0 {
+        return tally::holds(t, tally::LIMIT, since <= arrays::plus(n, 1));
+    }
+    tally::holds(t, tally::LIMIT, since <= arrays::plus(n << 1, 1))
 }

@@ -31,7 +31,7 @@ pub fn table(t: Tally, all: u64) -> Tally {
 // `over` is the first of the table's ladders that contains the set: the set itself where it is a ladder.
 fn one_set(t: Tally, table: Table, set: u64, over: u64) -> Tally {
     let chain = boards::chain_of(t.gauges, set);
-    if !plain::within(set, t.pairs) {
+    if !((set & t.pairs) == set) {
         return judged(t, table, chain, 13, 13, 13, 0);
     }
     if !plain::is_chain(set) {

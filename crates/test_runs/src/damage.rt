@@ -19,61 +19,48 @@ const CHANGES: u64 = 183;
 
 const TOO_LARGE: u64 = 1_000_001;
 
-// The place past the board: no pair of the table is changed.
-const NO_PLACE: u64 = 64;
-
 pub fn table(t: Tally) -> Tally {
     one_side(one_side(t, plain::GAUGES), plain::CASES)
 }
 
-// Each pair of the shape put into the table or taken out, and none.
+// No pair of the table changed, and each pair of the shape put into it or taken out.
 fn one_side(t: Tally, side: u64) -> Tally {
     let tried = plain::full(t.gauges, t.cases);
-    let mut now = one_run(t, side, NO_PLACE);
+    let mut now = one_run(t, side, 0);
     let mut place: u64 = 0;
     while place < 64 {
         if plain::has(tried, place) {
-            now = one_run(now, side, place);
+            now = one_run(now, side, plain::pair(place));
         }
         place += 1;
     }
     now
 }
 
-// The values of the run on the table at hand, up to its first end, each with a pair of its table changed.
-fn one_run(t: Tally, side: u64, place: u64) -> Tally {
+// The values of the run on the table at hand, up to its first end, each with the pair `flip` of its table changed.
+fn one_run(t: Tally, side: u64, flip: u64) -> Tally {
     let own = boards::table_of(t.gauges, t.cases, t.pairs);
     let mut there = tally::called(t, 1);
-    there.side = side;
-    there.pairs = plain::flipped(t.pairs, place);
-    there.budgets = arrays::plus(CHANGES, place);
+    there.pairs = t.pairs ^ flip;
+    there.budgets = CHANGES;
     let started = sides::start(side, own);
     let fresh = started.value;
-    let mut back = values(there, side, place, fresh);
+    let mut back = values(there, side, flip, fresh);
     back.pairs = t.pairs;
     back
 }
 
-fn values(t: Tally, side: u64, place: u64, fresh: Value) -> Tally {
+fn values(t: Tally, side: u64, flip: u64, fresh: Value) -> Tally {
     let list = plain::side_list(side, t.pairs);
     let sets = list.sets;
     let keys = list.keys;
-    let count = list.count;
     let table = boards::table_of(t.gauges, t.cases, t.pairs);
-    let mut now = tally::of_side(t, side, count);
+    let mut now = tally::of_side(t, side, list.count);
     let mut value = fresh;
     let mut says: u64 = 0;
     let mut at: u64 = 0;
     while at < 256 {
-        now = one_value(
-            now,
-            side,
-            place,
-            with_table(value, table),
-            &sets,
-            &keys,
-            count,
-        );
+        now = one_value(now, side, flip, value, table, &sets, &keys, list.count);
         if says == path::ENDS {
             return now;
         }
@@ -85,20 +72,24 @@ fn values(t: Tally, side: u64, place: u64, fresh: Value) -> Tally {
     tally::same(now, tally::ENDS, 1, 0)
 }
 
+// A value with the table at hand; where that is its own, with each change of its numbers too.
 fn one_value(
     t: Tally,
     side: u64,
-    place: u64,
+    flip: u64,
     v: Value,
+    table: Table,
     sets: &[u64; 64],
     keys: &[u64; 64],
     count: u64,
 ) -> Tally {
-    let own = one_change(tally::called(t, 1), side, v, sets, keys, count);
-    if place == NO_PLACE {
-        return changes(own, side, v, sets, keys, count);
+    let mut there = v;
+    there.table = table;
+    let own = one_change(tally::called(t, 1), side, there, sets, keys, count);
+    if flip != 0 {
+        return own;
     }
-    own
+    changes(own, side, v, sets, keys, count)
 }
 
 fn changes(t: Tally, side: u64, v: Value, sets: &[u64; 64], keys: &[u64; 64], count: u64) -> Tally {
@@ -136,36 +127,36 @@ fn one_change(
     )
 }
 
-// One number of a value changed: a pick, the count, the pick gone back from, or the phase (0, 1 and 3, see `path`).
+// One number of a value changed: a pick near the front, right behind what fits a small table, or the last; the count; the pick gone back
+// from; or the phase (0, 1 and 3, see `path`).
 fn changed(v: Value, change: u64) -> Value {
     let k = change % ODD;
     let which = change / ODD;
     let stage = v.stage;
     let mut after = v;
-    if which < 8 {
-        return with_pick(v, place_of(which), odd(0, k));
+    match which {
+        6 => {
+            return with_pick(v, 8, odd(0, k));
+        }
+        7 => {
+            return with_pick(v, 63, odd(0, k));
+        }
+        8 => {
+            after.count = odd(v.count, k);
+            return after;
+        }
+        9 => {
+            after.stage = sides::stage_of(path::BACK, odd(stage.from, k));
+            return after;
+        }
+        10 => {
+            after.stage = sides::stage_of(arrays::plus(k, k / 2), 0);
+            return after;
+        }
+        place => {
+            return with_pick(v, place, odd(0, k));
+        }
     }
-    if which == 8 {
-        after.count = odd(v.count, k);
-        return after;
-    }
-    if which == 9 {
-        after.stage = sides::stage_of(path::BACK, odd(stage.from, k));
-        return after;
-    }
-    after.stage = sides::stage_of(arrays::plus(k, k / 2), 0);
-    after
-}
-
-// The places of the picks that are changed: near the front, right behind what fits a small table, and the last.
-fn place_of(which: u64) -> u64 {
-    if which < 6 {
-        return which;
-    }
-    if which == 6 {
-        return 8;
-    }
-    63
 }
 
 // Numbers of all sizes; some agree with the right one in their low bits.
@@ -190,11 +181,5 @@ fn with_pick(v: Value, place: u64, pick: u64) -> Value {
     arrays::put_pick(&mut picks, place, pick);
     let mut after = v;
     after.picks = picks;
-    after
-}
-
-fn with_table(v: Value, table: Table) -> Value {
-    let mut after = v;
-    after.table = table;
     after
 }

@@ -34,61 +34,43 @@ pub fn small(t: Tally, group: u64) -> Tally {
     let mut now = t;
     let mut k: u64 = 0;
     while k < 9 {
-        now = shape(
-            now,
-            group,
-            arrays::more(k / 3),
-            arrays::more(k % 3),
-            stride(group, k),
-        );
+        now = shape(now, group, k);
         k += 1;
     }
     now
 }
 
-// Damaged values cost most: every third table of 2 by 3 and 3 by 2, every ninth of 3 by 3.
-fn stride(group: u64, k: u64) -> u64 {
-    if group != DAMAGE {
-        return 1;
-    }
-    match k {
-        5 | 7 => 3,
-        8 => 9,
-        _ => 1,
-    }
-}
-
-// Every `stride`-th table of a shape, the full one first.
-fn shape(t: Tally, group: u64, gauges: u64, cases: u64, stride: u64) -> Tally {
+// The tables of a shape, the full one first.
+fn shape(t: Tally, group: u64, k: u64) -> Tally {
+    let gauges = arrays::plus(k / 3, 1);
+    let cases = arrays::plus(k % 3, 1);
     let all = plain::full(gauges, cases);
     let mut now = t;
     let mut pairs: u64 = all;
     let mut turns: u64 = 0;
-    while turns < 65536 {
-        if is_turn(turns, stride) {
+    while turns < 512 {
+        if is_turn(group, k, turns) {
             now = one_table(tally::about(now, gauges, cases, pairs), group, all);
         }
         pairs = plain::next_subset(all, pairs);
-        turns += 1;
         if pairs == all {
-            return tally::same(now, tally::SETS, two_to(u64::count_ones(all)), turns);
+            return now;
         }
+        turns += 1;
     }
-    tally::same(now, tally::SETS, 1, 0)
+    now
 }
 
-fn is_turn(turn: u64, stride: u64) -> bool {
-    if stride == 0 {
-        return false;
+// Damaged values cost most: every third table of 2 by 3 and 3 by 2, every ninth of 3 by 3.
+fn is_turn(group: u64, k: u64, turn: u64) -> bool {
+    if group != DAMAGE {
+        return true;
     }
-    turn % stride == 0
-}
-
-fn two_to(n: u32) -> u64 {
-    if 64 <= n {
-        return 0;
+    match k {
+        5 | 7 => turn % 3 == 0,
+        8 => turn % 9 == 0,
+        _ => true,
     }
-    1u64 << n
 }
 
 // Shapes up to 4 by 4 and 8 by 1.

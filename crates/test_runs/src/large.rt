@@ -85,7 +85,16 @@ fn ladders_of(t: Tally, side: u64, ladders: u64) -> Tally {
 
 // The calls of a run from the fresh start to the first end.
 fn count(t: Tally, side: u64) -> Counting {
-    let mut going = begin(tally::of_side(t, side, 0));
+    let started = sides::start(side, boards::table_of(t.gauges, t.cases, t.pairs));
+    let value = started.value;
+    let named = tally::of_side(tally::called(t, 1), side, 0);
+    let mut going = Counting {
+        tally: tally::same(named, tally::SAYS, sides::ACCEPTED, started.says),
+        value: value,
+        least: 0,
+        handed: 0,
+        ended: false,
+    };
     let mut k: u64 = 0;
     while k < 100_000 {
         going = one_call(going, side);
@@ -95,23 +104,6 @@ fn count(t: Tally, side: u64) -> Counting {
         k += 1;
     }
     going
-}
-
-fn begin(t: Tally) -> Counting {
-    let started = sides::start(t.side, boards::table_of(t.gauges, t.cases, t.pairs));
-    let value = started.value;
-    Counting {
-        tally: tally::same(
-            tally::called(t, 1),
-            tally::SAYS,
-            sides::ACCEPTED,
-            started.says,
-        ),
-        value: value,
-        least: 0,
-        handed: 0,
-        ended: false,
-    }
 }
 
 // A call of the largest budget: a hand-out or the end; the move limits leave no other answer.
@@ -144,8 +136,8 @@ fn handed(going: Counting, side: u64, answer: Answer) -> Counting {
     let judged = tally::same(whole, tally::SAYS, sides::YES, says);
     let mut after = going;
     after.tally = tally::holds(judged, tally::ORDER, going.least <= key);
-    after.least = arrays::more(key);
-    after.handed = arrays::more(going.handed);
+    after.least = arrays::plus(key, 1);
+    after.handed = arrays::plus(going.handed, 1);
     after
 }
 

@@ -2,9 +2,10 @@
 // to 5 of 01 walk: the candidates after some picks are the picks that follow them in the list. So the state after each move is known
 // without rows and remainders.
 //
-// A pick sequence is a number of hexadecimal digits, as `plain` has it; a state is one number too: its picks, then their count, the phase,
-// and the pick gone back from.
+// A pick sequence is a number of hexadecimal digits, as `plain` has it, at most eight and zeros behind them; a state is one number too: its
+// picks, and in the low half their count, the phase, and the pick gone back from.
 use super::arrays;
+ghost use Prim.Native.Nat.{_<_};
 
 // The phases; those in which a pick is made are even.
 pub const DOWN: u64 = 0;
@@ -52,18 +53,18 @@ pub fn state_of(s: Spot) -> u64 {
 }
 
 pub fn state(key: u64, count: u64, phase: u64, from: u64) -> u64 {
-    key | (count << 32) | (phase << 40) | (from << 48)
+    key | count | (phase << 8) | (from << 16)
 }
 
 // One move, by the rules of 01. While Down nothing was gone back from, and every pick is above that.
 fn step(keys: &[u64; 64], many: u64, s: Spot) -> Spot {
     let mut now = s;
     now.event = SPENT;
-    now.moves = arrays::more(s.moves);
+    now.moves = arrays::plus(s.moves, 1);
     let pick = next_pick(keys, many, s);
     if pick != 0 {
-        now.key = with_digit(s.key, s.count, pick);
-        now.count = arrays::more(s.count);
+        now.key = s.key | (pick << cut(s.count));
+        now.count = arrays::plus(s.count, 1);
         now.phase = DOWN;
         now.from = 0;
         return now;
@@ -71,7 +72,7 @@ fn step(keys: &[u64; 64], many: u64, s: Spot) -> Spot {
     if s.phase == DOWN {
         now.phase = HANDED;
         now.event = HANDED_OUT;
-        now.handed = arrays::more(s.handed);
+        now.handed = arrays::plus(s.handed, 1);
         return now;
     }
     take_back(now)
@@ -121,27 +122,19 @@ fn pick_there(own: u64, s: Spot) -> u64 {
 
 // The digit of a pick sequence at a place, from 0.
 fn digit(key: u64, place: u64) -> u64 {
-    if 8 <= place {
-        return 0;
-    }
-    (key >> (28 - 4 * place)) & 15
-}
-
-// The sequence with a digit at a place that has none.
-fn with_digit(key: u64, place: u64, pick: u64) -> u64 {
-    if 8 <= place {
-        return key;
-    }
-    key | (pick << (28 - 4 * place))
+    (key >> cut(place)) & 15
 }
 
 // The first `count` picks of a sequence.
 fn front(key: u64, count: u64) -> u64 {
-    if 8 <= count {
-        return key;
-    }
-    let cut = 32 - 4 * count;
-    (key >> cut) << cut
+    ((key >> 4) >> cut(count)) << cut(count) << 4
+}
+
+// The bits behind the digit at a place.
+pub fn cut(place: u64) -> u64
+    ensures { λ r. ⌜ r < 64 ⌝ }
+{
+    60 - place % 16 * 4
 }
 
 // A call: moves up to the first that gives something, or as many as the budget.

@@ -1,33 +1,31 @@
 // What a group of checks has counted, and the account of its first disagreement: the table, what differed, what was expected and found.
 use super::arrays;
 
-// What a comparison is of, by the place of its name in `say`: the sets of pairs tried, the number of chains, the members and the length of a
+// What a comparison is of, by the place of its name in `say`: the number of chains, the members and the length of a
 // list, what an answer says, moves, a chain, a table, the picks and phase of a value, a move limit, hand-outs, ends, the order of a list.
-pub const SETS: u64 = 0;
+pub const CHAINS: u64 = 0;
 
-pub const CHAINS: u64 = 1;
+pub const MEMBERS: u64 = 1;
 
-pub const MEMBERS: u64 = 2;
+pub const LENGTH: u64 = 2;
 
-pub const LENGTH: u64 = 3;
+pub const SAYS: u64 = 3;
 
-pub const SAYS: u64 = 4;
+pub const MOVES: u64 = 4;
 
-pub const MOVES: u64 = 5;
+pub const CHAIN: u64 = 5;
 
-pub const CHAIN: u64 = 6;
+pub const TABLE: u64 = 6;
 
-pub const TABLE: u64 = 7;
+pub const STATE: u64 = 7;
 
-pub const STATE: u64 = 8;
+pub const LIMIT: u64 = 8;
 
-pub const LIMIT: u64 = 9;
+pub const HANDED: u64 = 9;
 
-pub const HANDED: u64 = 10;
+pub const ENDS: u64 = 10;
 
-pub const ENDS: u64 = 11;
-
-pub const ORDER: u64 = 12;
+pub const ORDER: u64 = 11;
 
 // The table at hand (its pairs as a board), the side, the list of budgets or for damaged values the change, and the counts.
 pub struct Tally {
@@ -61,11 +59,11 @@ pub fn fresh() -> Tally {
 // One comparison of two numbers.
 pub fn same(t: Tally, what: u64, want: u64, got: u64) -> Tally {
     let mut after = t;
-    after.comparisons = arrays::more(t.comparisons);
+    after.comparisons = arrays::plus(t.comparisons, 1);
     if want == got {
         return after;
     }
-    after.disagreements = arrays::more(t.disagreements);
+    after.disagreements = arrays::plus(t.disagreements, 1);
     if t.disagreements == 0 {
         report(t, what, want, got);
     }
@@ -88,7 +86,7 @@ pub fn about(t: Tally, gauges: u64, cases: u64, pairs: u64) -> Tally {
     after.pairs = pairs;
     after.side = 0;
     after.budgets = 0;
-    after.tables = arrays::more(t.tables);
+    after.tables = arrays::plus(t.tables, 1);
     after
 }
 
@@ -148,15 +146,15 @@ fn report_place(t: Tally) {
     io::write_all(1, b"\n");
 }
 
-// The name of a comparison, of 13 that are 11 bytes each.
+// The name of a comparison, of 12 that are 11 bytes each.
 fn say(what: u64) {
     let names =
-        b"sets tried,chains    ,members   ,length    ,answer    ,moves     ,chain     ,table     ,state     ,limit     ,hand-outs ,ends      ,order     ,";
+        b"chains    ,members   ,length    ,answer    ,moves     ,chain     ,table     ,state     ,limit     ,hand-outs ,ends      ,order     ,";
     say_part(names, what);
 }
 
 fn say_part(names: &[u8], what: u64) {
-    if 12 < what {
+    if 11 < what {
         return;
     }
     let from = (what as usize) * 11;

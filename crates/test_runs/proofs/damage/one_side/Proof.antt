@@ -8,4 +8,4 @@ pub one-side-spec : {M : Type 1} → statement M
 one-side-spec =
     tie.close
     (tie.spec (λ side tried now₀ place₀ now place. Unit {0}) (λ side tried now₀ place₀ now place. 64 - place) (λ c κs. tt) (λ c κs. tt)
-    (λ c. tt) (λ c κs. tt) (λ c κs. tt) (λ c. omega arith) (λ c. omega arith) (λ c. tt) (λ c. tt))
+    (λ c. tt) (λ c κs. tt) (λ c κs. tt) (λ c κs. tt) (λ c. omega arith) (λ c. omega arith) (λ c. tt) (λ c. tt))

@@ -7,6 +7,6 @@ use Rattle.test_runs.proofs.damage.values.Tie as tie
 pub values-spec : {M : Type 1} → statement M
 values-spec =
     tie.close
-    (tie.spec (λ side place sets keys count table now₀ value₀ says₀ at₀ now value says at. Unit {0})
-    (λ side place sets keys count table now₀ value₀ says₀ at₀ now value says at. 256 - at) (λ c κs. tt) (λ c κs. tt) (λ c κs. tt) (λ c. tt)
-    (λ c κs. tt) (λ c κs. tt) (λ c. tt) (λ c κs. tt) (λ c. omega arith) (λ c. omega arith) (λ c. tt) (λ c κs. tt) (λ c. tt))
+    (tie.spec (λ side flip list sets keys table now₀ value₀ says₀ at₀ now value says at. Unit {0})
+    (λ side flip list sets keys table now₀ value₀ says₀ at₀ now value says at. 256 - at) (λ c κs. tt) (λ c κs. tt) (λ c κs. tt) (λ c. tt)
+    (λ c κs. tt) (λ c. tt) (λ c κs. tt) (λ c. omega arith) (λ c. omega arith) (λ c. tt) (λ c κs. tt) (λ c. tt))
