@@ -3,3 +3,4 @@ pub mod FirstLine
 pub mod LineAt
 pub mod Scanning
 pub mod Comparing
+pub mod SmallLetters

@@ -1,11 +1,12 @@
 // Lines and fields of a text file that is lent as bytes: the line at a place, the fields of a line, and whether two texts are the same.
 // Every public function takes any bytes and any place and refuses nothing; none changes lent memory.
 ghost use mathlib.Core.Path.{_≡_};
+ghost use mathlib.Core.List.{map};
 ghost use Prim.Native.Nat.{_≤_};
 ghost use lib.ListN.{length, drop};
 ghost use Rattle.text.specs.Lines.{spanAt};
 ghost use Rattle.text.specs.Fields.{isBlank, fields};
-ghost use Rattle.text.specs.Bytes.{sameBytes};
+ghost use Rattle.text.specs.Bytes.{sameBytes, small as smallOf};
 ghost use Rattle.text.specs.private.ScanSteps.{endSize, digitOf, FieldAt};
 
 // The digits that a field has at most (01: "A field is 1 to 9 digits").
@@ -97,6 +98,36 @@ pub fn same_bytes(a: &[u8], b: &[u8]) -> bool
         i += 1;
     }
     true
+}
+
+// Whether a text, its capitals taken as small letters, is another one.
+pub fn same_small(a: &[u8], b: &[u8]) -> bool
+    ensures { λ r. ⌜ r ≡ sameBytes (map smallOf (now (a .entry))) (now (b .entry)) ⌝ }
+{
+    if a.len() != b.len() {
+        return false;
+    }
+    let mut i = 0;
+    while i < a.len() {
+        if small(a[i]) != b[i] {
+            return false;
+        }
+        i += 1;
+    }
+    true
+}
+
+// A capital letter, A to Z, as the small one; any other byte as it is.
+fn small(b: u8) -> u8
+    ensures { λ r. ⌜ r ≡ smallOf b ⌝ }
+{
+    if b < b'A' {
+        return b;
+    }
+    if b'Z' < b {
+        return b;
+    }
+    b + 32
 }
 
 // The bytes of the end of line at a place: 1 for LF, 2 for CR LF, 0 for none. A CR that no LF follows is an ordinary byte.

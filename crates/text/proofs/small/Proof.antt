@@ -1,0 +1,20 @@
+-- `text::small` meets its contract: one law for each answer.
+use borrow.Author.Needs.{needs}
+use Rattle.text.proofs.SmallLetters.{small-below, small-above, small-capital}
+use Rattle.text.proofs.small.Statement.{statement}
+use Rattle.text.proofs.small.Tie as tie
+
+returns : tie.Need-returns
+returns c = search (needs, small-below)
+
+returns-2 : tie.Need-returns-2
+returns-2 c = search (needs, small-above)
+
+add-result : tie.Need-add-result
+add-result c = search needs
+
+returns-3 : tie.Need-returns-3
+returns-3 c = search (needs, small-capital)
+
+pub small-spec : {M : Type 1} → statement M
+small-spec = tie.close (tie.spec returns returns-2 add-result returns-3)
