@@ -1,12 +1,13 @@
 -- The banner (01, "The file"): "Banner, lower case, single spaces: %%MatrixMarket matrix coordinate pattern general". It is the fourteen
--- bytes `%%MatrixMarket` and then the words of a kind of file, each with a space ahead of it. What is read as a banner (`isBanner`) and
--- what the writer writes (`banner`) are made of the same two texts; that the one is exactly the other is `banner-only` and
--- `banner-reads` in proofs/Opening.antt. A further kind of file is a further text of words.
+-- bytes `%%MatrixMarket` and then the words of a kind of file, each with a space ahead of it. What is read (`isBanner`) may have capitals in
+-- the words (02, R-1: "accept any mix of capitals in the four words after `%%MatrixMarket`, which itself keeps its spelling. The writer goes
+-- on in lower case"); what is written (`banner`) has none. That a line is read exactly when it is the banner but for capitals in the
+-- words is `banner-only` and `banner-mixed` in proofs/Opening.antt. A further kind of file is a further text of words.
 use Prim.Native.Nat.{ℕ}
-use mathlib.Core.List.{List, [], _∷_, _++_}
+use mathlib.Core.List.{List, [], _∷_, _++_, map}
 use mathlib.Core.Bool.{Bool, _&&_}
 use lib.ListN.{take, drop}
-use Rattle.text.specs.Bytes.{sameBytes}
+use Rattle.text.specs.Bytes.{sameBytes, small}
 
 -- `%%MatrixMarket`
 abbrev pub opening : List ℕ
@@ -20,9 +21,9 @@ pattern =
     32 ∷ 112 ∷ 97 ∷ 116 ∷ 116 ∷ 101 ∷ 114 ∷ 110 ∷
     32 ∷ 103 ∷ 101 ∷ 110 ∷ 101 ∷ 114 ∷ 97 ∷ 108 ∷ []
 
--- a line of a kind with these words: its first fourteen bytes are the opening, and behind them stand the words
+-- a line of a kind with these words: its first fourteen bytes are the opening, and what stands behind them is, in small letters, the words
 abbrev pub isOfKind : List ℕ → List ℕ → Bool
-isOfKind words l = sameBytes (take 14 l) opening && sameBytes (drop 14 l) words
+isOfKind words l = sameBytes (take 14 l) opening && sameBytes (map small (drop 14 l)) words
 
 -- a first line that is accepted
 abbrev pub isBanner : List ℕ → Bool

@@ -30,7 +30,7 @@ pub enum PairLine {
     Bad(Refusal),
 }
 
-// "First line: 2 not the banner."
+// "First line: 2 not the banner." Its words may have capitals.
 pub fn is_banner(line: &[u8]) -> bool
     ensures { λ r. ⌜ r ≡ isBanner (now (line .entry)) ⌝ }
 {
@@ -42,7 +42,7 @@ pub fn is_banner(line: &[u8]) -> bool
     if !text::same_bytes(&line[start..behind], b"%%MatrixMarket") {
         return false;
     }
-    text::same_bytes(&line[behind..], b" matrix coordinate pattern general")
+    text::same_small(&line[behind..], b" matrix coordinate pattern general")
 }
 
 // "Comment lines (first byte `%`)."

@@ -1,13 +1,13 @@
 -- `kinds::is_banner` meets its contract: a line that is too short, one that opens otherwise, and one that goes on with the words or not.
 use Prim.Native.Nat.{ℕ, _-_}
 use mathlib.Core.Path.{ap, _∙_}
-use mathlib.Core.List.{List}
+use mathlib.Core.List.{List, map}
 use native.Mathlib.Omega.{arith}
 use borrow.Author.Needs.{needs}
 use borrow.Author.Tests.{not-true, not-false}
 use lib.ListN.{length, drop, length-drop}
 use lib.Seq.{take-all}
-use Rattle.text.specs.Bytes.{sameBytes}
+use Rattle.text.specs.Bytes.{sameBytes, small}
 use Rattle.kinds.specs.Banner.{pattern}
 use Rattle.kinds.proofs.Opening.{opening-short, opening-other, opening-words}
 use Rattle.kinds.proofs.is_banner.Statement.{statement}
@@ -42,27 +42,27 @@ same-bytes-requires c κs = search needs
 returns-2 : tie.Need-returns-2
 returns-2 c = opening-other pattern (line (compared (c .before))) _ (c .before .same-bytes .ensures) (not-true _ (c .if2 .taken))
 
-sub-same-bytes-2 : tie.Need-sub-same-bytes-2
-sub-same-bytes-2 c = search needs
+sub-same-small : tie.Need-sub-same-small
+sub-same-small c = search needs
 
-part-same-bytes-start-2 : tie.Need-part-same-bytes-start-2
-part-same-bytes-start-2 c = search needs
+part-same-small-start : tie.Need-part-same-small-start
+part-same-small-start c = search needs
 
-part-same-bytes-end-2 : tie.Need-part-same-bytes-end-2
-part-same-bytes-end-2 c = search needs
+part-same-small-end : tie.Need-part-same-small-end
+part-same-small-end c = search needs
 
-slice-aggregate-same-bytes-2 : tie.Need-slice-aggregate-same-bytes-2
-slice-aggregate-same-bytes-2 c = search needs
+slice-aggregate-same-small : tie.Need-slice-aggregate-same-small
+slice-aggregate-same-small c = search needs
 
-same-bytes-requires-2 : tie.Need-same-bytes-requires-2
-same-bytes-requires-2 c κs = search needs
+same-small-requires : tie.Need-same-small-requires
+same-small-requires c κs = search needs
 
 returns-3 : tie.Need-returns-3
 returns-3 c =
     let e = c .before .before .before in
     let l = line (compared (e .before)) in
     opening-words pattern l _ (e .before .same-bytes .ensures) (not-false _ (e .if2 .left)) _
-    (c .same-bytes2 .ensures ∙ ap (λ (s : List ℕ). sameBytes s pattern) (take-all (length l - 14) (drop 14 l) (omega (arith, length-drop 14 l))))
+    (c .same-small .ensures ∙ ap (λ (s : List ℕ). sameBytes (map small s) pattern) (take-all (length l - 14) (drop 14 l) (omega (arith, length-drop 14 l))))
 
 pub is-banner-spec : {M : Type 1} → statement M
 is-banner-spec =
@@ -75,9 +75,9 @@ is-banner-spec =
     slice-aggregate-same-bytes
     same-bytes-requires
     returns-2
-    sub-same-bytes-2
-    part-same-bytes-start-2
-    part-same-bytes-end-2
-    slice-aggregate-same-bytes-2
-    same-bytes-requires-2
+    sub-same-small
+    part-same-small-start
+    part-same-small-end
+    slice-aggregate-same-small
+    same-small-requires
     returns-3)
