@@ -1,7 +1,7 @@
 -- Capitals as small letters: the three answers of `small`, and the laws by which one text in small letters is compared with another from
 -- a place on. They are those of Comparing.antt for the list of the small letters, read at the bytes as they stand.
 use Prim.Native.Nat.{ℕ, _+_, _≤_, _<_}
-use mathlib.Core.Path.{_≡_, refl, sym, _∙_, ap, subst}
+use mathlib.Core.Path.{_≡_, sym, _∙_}
 use mathlib.Core.List.{List, map}
 use mathlib.Core.Bool.{Bool, false, true}
 use native.Mathlib.Omega.{arith}
@@ -27,8 +27,8 @@ small-at : (a : List ℕ) (i : ℕ) → getD (map small a) i 0 ≡ small (getD a
 unfolding small
 small-at a i = List·getD-map small a i 0
 
-pub small-lengths : (a b : List ℕ) → (length a ≡ length b → ⊥) → false ≡ sameBytes (map small a) b
-small-lengths a b h = same-lengths (map small a) b (λ e. h (sym (length-map a small) ∙ e))
+pub small-lengths : (a b : List ℕ) → (length b ≡ length a → ⊥) → false ≡ sameBytes (map small a) b
+small-lengths a b h = same-lengths (map small a) b (λ e. h (sym e ∙ length-map a small))
 
 module _ (a b : List ℕ) (i : ℕ) (S : Bool) (q : sameBytes (drop i (map small a)) (drop i b) ≡ S) (n : length a ≡ length b) where
   as-long : length (map small a) ≡ length b

@@ -104,7 +104,7 @@ pub fn same_bytes(a: &[u8], b: &[u8]) -> bool
 pub fn same_small(a: &[u8], b: &[u8]) -> bool
     ensures { λ r. ⌜ r ≡ sameBytes (map smallOf (now (a .entry))) (now (b .entry)) ⌝ }
 {
-    if a.len() != b.len() {
+    if b.len() != a.len() {
         return false;
     }
     let mut i = 0;

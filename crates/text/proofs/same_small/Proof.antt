@@ -46,7 +46,8 @@ loop-again c =
     let at = c .before .before .before .before .before in
     let args = at .before .before .before .before .args in
     let told = c .before .before .small .ensures in
-    (search needs, search needs, small-more (args .a .now) (args .b .now) (at .loop .i) _ (at .loop .inv .2) (at .loop .inv .1) _ told (search needs) (c .if2 .left))
+    let more = small-more (args .a .now) (args .b .now) (at .loop .i) _ (at .loop .inv .2) (at .loop .inv .1) in
+    (search needs, search needs, more _ told (search needs) (c .if2 .left))
 
 returns-3 : tie.Need-returns-3 Inv-loop μ-loop
 returns-3 c = search (needs, small-end)
