@@ -14,9 +14,9 @@ pub small-below : (b : ℕ) → b < 65 → b ≡ small b
 unfolding small
 small-below b h = rw (lt-leb 65 b h)
 
-pub small-above : (b : ℕ) → 65 ≤ b → 90 < b → b ≡ small b
+pub small-above : (b : ℕ) → 90 < b → b ≡ small b
 unfolding small
-small-above b l h = rw (le-leb 65 b l, lt-leb b 90 h)
+small-above b h = let l : 65 ≤ b = omega arith in rw (le-leb 65 b l, lt-leb b 90 h)
 
 pub small-capital : (b : ℕ) → 65 ≤ b → b ≤ 90 → b + 32 ≡ small b
 unfolding small

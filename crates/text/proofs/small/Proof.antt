@@ -1,20 +1,21 @@
 -- `text::small` meets its contract: one law for each answer.
+use native.Mathlib.Omega.{arith}
 use borrow.Author.Needs.{needs}
 use Rattle.text.proofs.SmallLetters.{small-below, small-above, small-capital}
 use Rattle.text.proofs.small.Statement.{statement}
 use Rattle.text.proofs.small.Tie as tie
 
 returns : tie.Need-returns
-returns c = search (needs, small-below)
+returns c = small-below _ (omega arith)
 
 returns-2 : tie.Need-returns-2
-returns-2 c = search (needs, small-above)
+returns-2 c = small-above _ (omega arith)
 
 add-result : tie.Need-add-result
 add-result c = search needs
 
 returns-3 : tie.Need-returns-3
-returns-3 c = search (needs, small-capital)
+returns-3 c = small-capital _ (omega arith) (omega arith)
 
 pub small-spec : {M : Type 1} → statement M
 small-spec = tie.close (tie.spec returns returns-2 add-result returns-3)
