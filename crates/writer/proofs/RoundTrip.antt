@@ -19,6 +19,7 @@ use Rattle.table.specs.Tables.{Legal, noRows, tableRefusal}
 use Rattle.refusals.specs.Answers.{Answer}
 use Rattle.table.specs.declared.Table.{Table}
 use Rattle.table.proofs.Legality.{legal-of, length-rows}
+use Rattle.text.specs.Bytes.{small}
 use Rattle.text.specs.Lines.{lines}
 use Rattle.kinds.specs.Banner.{banner}
 use Rattle.kinds.specs.Kinds.{headLine, pairLine}
@@ -197,7 +198,7 @@ module _ (t : Table) (ok : Legal t) where
       (rw (head-line, readHead))
 
   file-read : readLines (lines (writeFile t)) ≡ readHead (lines (sizeText t ++ 10 ∷ pairLines (pairs t)))
-  unfolding readLines writeFile
+  unfolding readLines writeFile small
   file-read = rw (line-front banner (sizeText t ++ 10 ∷ pairLines (pairs t)) banner-above)
 
   rows-read : run (t .gauges) (t .cases) noRows (pairs t) ≡ accepted t
