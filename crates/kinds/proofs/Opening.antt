@@ -58,7 +58,8 @@ banner-mixed l m = kind-mixed pattern l m
 
 -- ---- the answers of the code
 pub opening-short : (words l : List ℕ) → length l < 14 → false ≡ isOfKind words l
-opening-short words l h = ap (λ (t : Bool). t && sameBytes (map small (drop 14 l)) words) (same-lengths (take 14 l) opening (λ e. omega (arith, length-take 14 l)))
+opening-short words l h =
+    ap (λ (t : Bool). t && sameBytes (map small (drop 14 l)) words) (same-lengths (take 14 l) opening (λ e. omega (arith, length-take 14 l)))
 
 module _ (words l : List ℕ) (t : Bool) (e : t ≡ sameBytes (take 14 l) opening) where
   pub opening-other : t ≡ false → false ≡ isOfKind words l
