@@ -1,6 +1,7 @@
 // What bench/run measures: a table from standard input is listed whole, by gauges or by cases, one public run call a ladder, some times over.
-// Arguments: the side, `gauges` or `cases`, and the budget of a call with the number of repeats, as one word of two numbers. It writes the
-// number of ladders and a sum that depends on every row of each and on their order. The plain lister in bench/plain.rs writes the same.
+// Arguments: the side, `gauges` or `cases`, the budget of a call with the number of repeats, as one word of two numbers, and `omit` for a run
+// that omits the ladders with no essential pair. It writes the number of ladders and a sum that depends on every row of each and on their
+// order. The plain lister in bench/plain.rs writes the same, and never omits.
 use libc::STDIN_FILENO;
 use libc::STDOUT_FILENO;
 use refusals::Verdict;
@@ -37,22 +38,24 @@ fn answer(t: Table) {
     match fields {
         Fields::Two(budget, repeats) => tell(measured(t, budget, repeats)),
         _ => {
-            io::write_all(STDOUT_FILENO, b"usage: SIDE 'BUDGET REPEATS'\n");
+            io::write_all(STDOUT_FILENO, b"usage: SIDE 'BUDGET REPEATS' [omit]\n");
         }
     }
 }
 
 fn measured(t: Table, budget: u64, repeats: u64) -> Tally {
-    if by_cases() {
-        return repeat_cases(t, budget, repeats);
+    let omit = is_given(3, b"omit");
+    if is_given(1, b"cases") {
+        return repeat_cases(t, omit, budget, repeats);
     }
-    repeat_gauges(t, budget, repeats)
+    repeat_gauges(t, omit, budget, repeats)
 }
 
-fn by_cases() -> bool {
+// Whether an argument is this word.
+fn is_given(place: usize, wanted: &[u8]) -> bool {
     let mut word = [0u8; 64];
-    let n = os::arg(1, &mut word);
-    text::same_bytes(&word[..n], b"cases")
+    let n = os::arg(place, &mut word);
+    text::same_bytes(&word[..n], wanted)
 }
 
 fn tell(tally: Tally) {
@@ -62,29 +65,29 @@ fn tell(tally: Tally) {
     io::write_all(STDOUT_FILENO, b"\n");
 }
 
-fn repeat_gauges(t: Table, budget: u64, repeats: u64) -> Tally {
+fn repeat_gauges(t: Table, omit: bool, budget: u64, repeats: u64) -> Tally {
     let mut tally = Tally { count: 0, sum: 0 };
     let mut left = repeats;
     while 0 < left {
-        tally = list_gauges(t, budget, tally);
+        tally = list_gauges(t, omit, budget, tally);
         left -= 1;
     }
     tally
 }
 
-fn repeat_cases(t: Table, budget: u64, repeats: u64) -> Tally {
+fn repeat_cases(t: Table, omit: bool, budget: u64, repeats: u64) -> Tally {
     let mut tally = Tally { count: 0, sum: 0 };
     let mut left = repeats;
     while 0 < left {
-        tally = list_cases(t, budget, tally);
+        tally = list_cases(t, omit, budget, tally);
         left -= 1;
     }
     tally
 }
 
 // The gauge run from its fresh start to its end, or to a refusal.
-fn list_gauges(t: Table, budget: u64, before: Tally) -> Tally {
-    let start = runs::start_gauges(t);
+fn list_gauges(t: Table, omit: bool, budget: u64, before: Tally) -> Tally {
+    let start = runs::start_gauges(t, omit);
     let mut run = start.run;
     let mut tally = before;
     let mut calls = u64::MAX;
@@ -115,8 +118,8 @@ fn list_gauges(t: Table, budget: u64, before: Tally) -> Tally {
 }
 
 // The case run likewise.
-fn list_cases(t: Table, budget: u64, before: Tally) -> Tally {
-    let start = runs::start_cases(t);
+fn list_cases(t: Table, omit: bool, budget: u64, before: Tally) -> Tally {
+    let start = runs::start_cases(t, omit);
     let mut run = start.run;
     let mut tally = before;
     let mut calls = u64::MAX;

@@ -1,31 +1,32 @@
 -- The calls of a block, so many from a state on, each with the greatest budget.
 --
--- In order: lists in two parts; so many calls and then more (`calls-more`); one call more (`calls-one`, `after-one`, `text-one`, `end-one`); the
--- state after them is reached (`reached-after`); a call that does not end has a file (`added-some`); some number of calls ends (`calls-end-at`).
+-- In order: lists in two parts; so many calls and then more (`calls-more`); one call more (`calls-one`, `after-one`, `text-one`, `has-one`); the
+-- state after them is reached (`reached-after`); a call that hands something out has a file (`added-some`), so the calls stop (`calls-stop-at`);
+-- those of a run that omits nothing stop at the end alone (`stop-ends`).
 --
 -- Elsewhere: a set handed out is one of the table's (Chains.antt); the block that the calls fill (Fillings.antt).
 use mathlib.Core.Path.{_≡_, refl, sym, ap, _∙_}
+use mathlib.Core.Logic.{_⊎_, inl, inr}
 use mathlib.Core.Bool.{Bool, true, false, _||_}
-use mathlib.Core.List.{List, [], _∷_, _++_, append-assoc, List·Memᴰ, List·Memᴰ·head, List·Memᴰ·tail}
-use Prim.Native.Nat.{ℕ, zero, suc, _+_, _<_}
+use mathlib.Core.List.{List, [], _∷_, _++_, append-assoc}
+use Prim.Native.Nat.{ℕ, zero, suc, _+_, _≤_, _<_}
 use native.Mathlib.Nat.{zero-add, suc-add}
 use native.Mathlib.Omega.{arith}
-use lib.ListN.{length, replicate, length-append, length-replicate}
+use lib.ListN.{length, length-append}
 use Rattle.table.specs.declared.Table.{Table}
 use Rattle.table.specs.Tables.{Legal, tableRows}
-use Rattle.table.proofs.Legality.{length-rows}
-use Rattle.rules.specs.Sequences.{All}
 use Rattle.rules.specs.Machine.{State}
 use Rattle.rules.specs.Calls.{Reply, refused, spent, handed, end, Call, mostBudget, answered, handouts}
-use Rattle.rules.proofs.Calls.{ahead, call-law, answered-append}
+use Rattle.rules.proofs.Calls.{answered-append}
 use Rattle.rules.proofs.Reports.{call-only18}
-use Rattle.rules.proofs.Ends.{Enough, Ended, end-from}
 use Rattle.lists.specs.Lists.{gaugeSide}
 use Rattle.lists.specs.Picks.{candidates}
-use Rattle.lists.specs.OnTable.{handOut, ReachedOn, callOn}
-use Rattle.lists.proofs.CandidateTree.{candidate-tree, reached-fits}
+use Rattle.lists.specs.OnTable.{handOut, ReachedOn}
+use Rattle.lists.proofs.CandidateTree.{reached-fits}
+use Rattle.runs.specs.Calling.{callOf}
+use Rattle.runs.proofs.Demands.{fits-next}
 use Rattle.writer.specs.Writing.{writeFile}
-use Rattle.blocks.specs.Filling.{pairTable, files, calls, after, text, isEnd, hasEnd}
+use Rattle.blocks.specs.Filling.{pairTable, files, calls, after, text, isEnd, isNone, has, Stops}
 use Rattle.blocks.proofs.Chains.{never-spent}
 
 -- ---- lists in two parts
@@ -37,98 +38,121 @@ pub handouts-append : (cs ds : List Call) → handouts (cs ++ ds) ≡ handouts c
 handouts-append [] ds = refl
 handouts-append (c ∷ cs) ds = ap (answered (c .answer)) (handouts-append cs ds) ∙ sym (answered-append (c .answer) (handouts cs) (handouts ds))
 
-pub hasEnd-append : (cs ds : List Call) → hasEnd (cs ++ ds) ≡ (hasEnd cs || hasEnd ds)
-hasEnd-append [] ds = refl
-hasEnd-append (c ∷ cs) ds = ap (λ (b : Bool). isEnd (c .answer) || b) (hasEnd-append cs ds) ∙ or-assoc (isEnd (c .answer)) (hasEnd cs) (hasEnd ds)
+pub has-append : (q : Reply → Bool) (cs ds : List Call) → has q (cs ++ ds) ≡ (has q cs || has q ds)
+has-append q [] ds = refl
+has-append q (c ∷ cs) ds = ap (λ (b : Bool). q (c .answer) || b) (has-append q cs ds) ∙ or-assoc (q (c .answer)) (has q cs) (has q ds)
   where
     or-assoc : (a b d : Bool) → (a || (b || d)) ≡ ((a || b) || d)
     or-assoc true b d = refl
     or-assoc false b d = refl
 
-module _ (t : Table) where
-  abbrev next : State → State
-  next s = callOn (gaugeSide t) mostBudget s .next
-
-  -- ---- n calls, and m more
-  pub calls-more : (n m : ℕ) (s : State) → calls t (n + m) s ≡ calls t n s ++ calls t m (after t n s)
-  calls-more zero m s = ap (λ (k : ℕ). calls t k s) (zero-add m)
-  calls-more (suc n) m s =
-      ap (λ (k : ℕ). calls t k s) (suc-add n m) ∙ ap (λ (cs : List Call). callOn (gaugeSide t) mostBudget s ∷ cs) (calls-more n m (next s))
-
-  -- ---- one call more
-  calls-one : (n : ℕ) (s : State) → calls t (suc n) s ≡ calls t n s ++ (callOn (gaugeSide t) mostBudget (after t n s) ∷ [])
-  calls-one zero s = refl
-  calls-one (suc n) s = ap (λ (cs : List Call). callOn (gaugeSide t) mostBudget s ∷ cs) (calls-one n (next s))
-
-  pub after-one : (n : ℕ) (s : State) → after t (suc n) s ≡ callOn (gaugeSide t) mostBudget (after t n s) .next
-  after-one zero s = refl
-  after-one (suc n) s = after-one n (next s)
-
-  pub text-one : (n : ℕ) (s : State) → text t (suc n) s ≡ text t n s ++ files t (answered (callOn (gaugeSide t) mostBudget (after t n s) .answer) [])
-  text-one n s =
-      let c : Call = callOn (gaugeSide t) mostBudget (after t n s) in
-      ap (λ (cs : List Call). files t (handouts cs)) (calls-one n s) ∙ ap (files t) (handouts-append (calls t n s) (c ∷ []))
-      ∙ files-append t (handouts (calls t n s)) (answered (c .answer) [])
-
-  pub end-one : (n : ℕ) (s : State) → hasEnd (calls t n s) ≡ false → hasEnd (calls t (suc n) s) ≡ isEnd (callOn (gaugeSide t) mostBudget (after t n s) .answer)
-  end-one n s e =
-      let c : Call = callOn (gaugeSide t) mostBudget (after t n s) in
-      ap hasEnd (calls-one n s) ∙ hasEnd-append (calls t n s) (c ∷ []) ∙ ap (λ (b : Bool). b || hasEnd (c ∷ [])) e ∙ or-false (isEnd (c .answer))
-    where
-      or-false : (a : Bool) → (a || false) ≡ a
-      or-false true = refl
-      or-false false = refl
-
-  -- ---- the state after them
-  pub reached-after : (n : ℕ) (s : State) → ReachedOn (gaugeSide t) s → ReachedOn (gaugeSide t) (after t n s)
-  reached-after zero s h = h
-  reached-after (suc n) s h =
-      reached-after n (next s)
-      (reached-fits (gaugeSide t) (next s) .1
-      (call-law (candidates (tableRows t)) (handOut (gaugeSide t)) (length (tableRows t)) (candidate-tree (tableRows t)) mostBudget s
-      (reached-fits (gaugeSide t) s .0 h) .fits))
+-- a call that hands something out is no end
+pub none-ends : (cs : List Call) → has isNone cs ≡ false → has isEnd cs ≡ false
+none-ends [] e = refl
+none-ends (c ∷ cs) e = go (c .answer) e (none-ends cs)
+  where
+    go : (a : Reply) → (isNone a || has isNone cs) ≡ false → (has isNone cs ≡ false → has isEnd cs ≡ false) → (isEnd a || has isEnd cs) ≡ false
+    go (refused n) e more = let z : _≡_ {A = ℕ} 0 1 = cc in absurd (omega arith)
+    go spent e more = let z : _≡_ {A = ℕ} 0 1 = cc in absurd (omega arith)
+    go (handed x) e more = more e
+    go end e more = let z : _≡_ {A = ℕ} 0 1 = cc in absurd (omega arith)
 
 -- no file is empty
 file-pos : (t : Table) → 0 < length (writeFile t)
 unfolding writeFile
 file-pos t = simp length-append (omega arith)
 
-module _ (t : Table) (l : Legal t) (s : State) (reached : ReachedOn (gaugeSide t) s) where
-  -- a call of the greatest budget that does not end hands a set out, and its file has a byte
-  pub added-some : isEnd (callOn (gaugeSide t) mostBudget s .answer) ≡ false → 0 < length (files t (answered (callOn (gaugeSide t) mostBudget s .answer) []))
-  added-some e =
-      go (callOn (gaugeSide t) mostBudget s .answer) (never-spent t l s reached)
-      (call-only18 (candidates (tableRows t)) (handOut (gaugeSide t)) mostBudget s .else (omega arith)) e
+-- a call that hands a set out has a file, and that has a byte
+pub added-some : (t : Table) (a : Reply) → isNone a ≡ false → 0 < length (files t (answered a []))
+added-some t (refused n) e = let q : _≡_ {A = ℕ} 0 1 = cc in absurd (omega arith)
+added-some t spent e = let q : _≡_ {A = ℕ} 0 1 = cc in absurd (omega arith)
+added-some t (handed x) e = omega (arith, length-append (writeFile (pairTable t x)) [], file-pos (pairTable t x))
+added-some t end e = let q : _≡_ {A = ℕ} 0 1 = cc in absurd (omega arith)
+
+module _ (t : Table) (omit : Bool) where
+  abbrev made : State → Call
+  made s = callOf t (gaugeSide t) omit mostBudget s
+
+  abbrev next : State → State
+  next s = made s .next
+
+  -- ---- n calls, and m more
+  pub calls-more : (n m : ℕ) (s : State) → calls t omit (n + m) s ≡ calls t omit n s ++ calls t omit m (after t omit n s)
+  calls-more zero m s = ap (λ (k : ℕ). calls t omit k s) (zero-add m)
+  calls-more (suc n) m s = ap (λ (k : ℕ). calls t omit k s) (suc-add n m) ∙ ap (λ (cs : List Call). made s ∷ cs) (calls-more n m (next s))
+
+  -- ---- one call more
+  calls-one : (n : ℕ) (s : State) → calls t omit (suc n) s ≡ calls t omit n s ++ (made (after t omit n s) ∷ [])
+  calls-one zero s = refl
+  calls-one (suc n) s = ap (λ (cs : List Call). made s ∷ cs) (calls-one n (next s))
+
+  pub after-one : (n : ℕ) (s : State) → after t omit (suc n) s ≡ made (after t omit n s) .next
+  after-one zero s = refl
+  after-one (suc n) s = after-one n (next s)
+
+  pub text-one : (n : ℕ) (s : State) → text t omit (suc n) s ≡ text t omit n s ++ files t (answered (made (after t omit n s) .answer) [])
+  text-one n s =
+      let c : Call = made (after t omit n s) in
+      ap (λ (cs : List Call). files t (handouts cs)) (calls-one n s) ∙ ap (files t) (handouts-append (calls t omit n s) (c ∷ []))
+      ∙ files-append t (handouts (calls t omit n s)) (answered (c .answer) [])
+
+  pub has-one : (q : Reply → Bool) (n : ℕ) (s : State) → has q (calls t omit n s) ≡ false
+      → has q (calls t omit (suc n) s) ≡ q (made (after t omit n s) .answer)
+  has-one q n s e =
+      let c : Call = made (after t omit n s) in
+      ap (has q) (calls-one n s) ∙ has-append q (calls t omit n s) (c ∷ []) ∙ ap (λ (b : Bool). b || has q (c ∷ [])) e ∙ or-false (q (c .answer))
     where
-      go : (a : Reply) → (a ≡ spent → ⊥) → ((n : ℕ) → a ≡ refused n → ⊥) → isEnd a ≡ false → 0 < length (files t (answered a []))
-      go (refused n) x r e = absurd (r n refl)
-      go spent x r e = absurd (x refl)
-      go (handed x) y r e = omega (arith, length-append (writeFile (pairTable t x)) [], file-pos (pairTable t x))
-      go end x r e = let q : _≡_ {A = ℕ} 0 1 = cc in absurd (omega arith)
+      or-false : (a : Bool) → (a || false) ≡ a
+      or-false true = refl
+      or-false false = refl
 
-  -- some number of calls ends
-  pub calls-end-at : (n : ℕ) × (hasEnd (calls t n s) ≡ true)
-  calls-end-at = (many, ended (calls t many s) (found .1) (found .2))
+  -- ---- the state after them
+  pub reached-after : (n : ℕ) (s : State) → ReachedOn (gaugeSide t) s → ReachedOn (gaugeSide t) (after t omit n s)
+  reached-after zero s h = h
+  reached-after (suc n) s h =
+      reached-after n (next s) (reached-fits (gaugeSide t) (next s) .1 (fits-next t (gaugeSide t) omit mostBudget s (reached-fits (gaugeSide t) s .0 h)))
+
+  -- ---- calls that all hand something out have a file each, so they stop
+  grows : (n : ℕ) (s : State) → (has isNone (calls t omit n s) ≡ true) ⊎ (n ≤ length (text t omit n s))
+  grows zero s = inr (omega arith)
+  grows (suc n) s = go (grows n s) (has isNone (calls t omit n s)) refl (isNone (made (after t omit n s) .answer)) refl
     where
-      many : ℕ
-      many = suc (length (ahead (candidates (tableRows t)) (handOut (gaugeSide t)) (length (tableRows t)) s))
+      go : (has isNone (calls t omit n s) ≡ true) ⊎ (n ≤ length (text t omit n s)) → (b : Bool) → has isNone (calls t omit n s) ≡ b
+          → (d : Bool) → isNone (made (after t omit n s) .answer) ≡ d
+          → (has isNone (calls t omit (suc n) s) ≡ true) ⊎ (suc n ≤ length (text t omit (suc n) s))
+      go h true e d f =
+          inl (ap (has isNone) (calls-one n s) ∙ has-append isNone (calls t omit n s) (made (after t omit n s) ∷ [])
+          ∙ ap (λ (b : Bool). b || has isNone (made (after t omit n s) ∷ [])) e)
+      go h false e true f = inl (has-one isNone n s e ∙ f)
+      go (inl h) false e false f = let q : _≡_ {A = ℕ} 0 1 = cc in absurd (omega arith)
+      go (inr h) false e false f =
+          inr (omega (
+            arith,
+            h,
+            added-some t (made (after t omit n s) .answer) f,
+            length-append (text t omit n s) (files t (answered (made (after t omit n s) .answer) [])),
+            ap length (text-one n s),
+          ))
 
-      enough : Enough (length (tableRows t)) mostBudget
-      enough = record { low = omega (arith, length-rows t l, l .gauges-high); high = omega arith }
+  pub calls-stop-at : (room : ℕ) (s : State) → Stops t omit s room room
+  calls-stop-at room s = go (grows room s)
+    where
+      go : (has isNone (calls t omit room s) ≡ true) ⊎ (room ≤ length (text t omit room s)) → Stops t omit s room room
+      go (inl h) = inl h
+      go (inr h) = inr (omega arith)
 
-      all : (n : ℕ) → All (Enough (length (tableRows t))) (replicate n mostBudget)
-      all zero = tt
-      all (suc n) = (enough, all n)
-
-      found : Ended (calls t many s)
-      found =
-          end-from (candidates (tableRows t)) (handOut (gaugeSide t)) (length (tableRows t)) (candidate-tree (tableRows t)) (replicate many mostBudget) s
-          (reached-fits (gaugeSide t) s .0 reached) (all many) (omega (arith, length-replicate {A = ℕ} many mostBudget))
-
-      or-true : (a : Bool) → (a || true) ≡ true
-      or-true true = refl
-      or-true false = refl
-
-      ended : {c : Call} (cs : List Call) → List·Memᴰ c cs → c .answer ≡ end → hasEnd cs ≡ true
-      ended (d ∷ cs) (List·Memᴰ·head q) e = rw (← q, e) refl
-      ended (d ∷ cs) (List·Memᴰ·tail m) e = rw (ended cs m e) (or-true (isEnd (d .answer)))
+-- ---- a run that omits nothing
+pub stop-ends : (t : Table) → Legal t → (n : ℕ) (s : State) → ReachedOn (gaugeSide t) s → has isNone (calls t false n s) ≡ true
+    → has isEnd (calls t false n s) ≡ true
+stop-ends t l zero s h e = e
+stop-ends t l (suc n) s h e =
+    go (made t false s .answer) (never-spent t l s h) (call-only18 (candidates (tableRows t)) (handOut (gaugeSide t)) mostBudget s .else (omega arith)) e
+    (stop-ends t l n (next t false s) (reached-after t false 1 s h))
+  where
+    go : (a : Reply) → (a ≡ spent → ⊥) → ((k : ℕ) → a ≡ refused k → ⊥) → (isNone a || has isNone (calls t false n (next t false s))) ≡ true
+        → (has isNone (calls t false n (next t false s)) ≡ true → has isEnd (calls t false n (next t false s)) ≡ true)
+        → (isEnd a || has isEnd (calls t false n (next t false s))) ≡ true
+    go (refused k) x r e more = absurd (r k refl)
+    go spent x r e more = absurd (x refl)
+    go (handed y) x r e more = more e
+    go end x r e more = refl

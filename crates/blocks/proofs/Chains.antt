@@ -1,5 +1,6 @@
 -- A set that a call hands out is a set of pairs of the table, so the table of its pairs is legal, and its file has room where the longest has.
 use mathlib.Core.Path.{_≡_, sym, _∙_, subst}
+use mathlib.Core.Bool.{Bool}
 use mathlib.Core.List.{List, [], _∷_}
 use Prim.Native.Nat.{ℕ, _^_, _≤_, _<_}
 use native.Mathlib.Omega.{arith}
@@ -14,16 +15,17 @@ use Rattle.table.specs.Tables.{Legal, tableRows}
 use Rattle.table.proofs.Padding.{pad-length, pad-getD}
 use Rattle.table.proofs.Places.{row-past, within-sub}
 use Rattle.table.proofs.Legality.{length-rows, row-tableRows}
-use Rattle.rules.specs.Machine.{State, Given, nothing, hands, ends}
+use Rattle.rules.specs.Machine.{State, Move, Given, nothing, hands, ends}
 use Rattle.rules.specs.Calls.{spent, handed, Call, mostBudget}
-use Rattle.rules.specs.Reports.{says, lastOf}
+use Rattle.rules.specs.Reports.{says, lastBy}
 use Rattle.rules.proofs.Calls.{Paid, cost, cost-lap, cost-pos, call-law}
-use Rattle.rules.proofs.Reports.{calls-whole, calls-spent}
+use Rattle.rules.proofs.Reports.{all-whole, calls-spent}
 use Rattle.lists.specs.Lists.{gaugeSide}
 use Rattle.lists.specs.Picks.{candidates}
 use Rattle.lists.specs.OnTable.{handOut, callOn, ReachedOn}
 use Rattle.lists.proofs.CandidateTree.{candidate-tree, reached-fits}
 use Rattle.lists.proofs.ChainRows.{chainOf-within}
+use Rattle.runs.specs.Calling.{movesOf, callOf}
 use Rattle.blocks.specs.Filling.{pairTable}
 
 below : (a b n : ℕ) → n ≤ 64 → a ⊆ b → b < 2 ^ n → a < 2 ^ n
@@ -53,13 +55,15 @@ says-handed out nothing x e = let z : _≡_ {A = ℕ} 0 1 = cc in absurd (omega 
 says-handed out (hands p) x e = (p, cc)
 says-handed out ends x e = let z : _≡_ {A = ℕ} 0 1 = cc in absurd (omega arith)
 
-pub handed-within : (t : Table) (s : State) (x : List ℕ) → callOn (gaugeSide t) mostBudget s .answer ≡ handed x → Within (tableRows t) x
-handed-within t s x e =
-    let w = calls-whole (candidates (tableRows t)) (handOut (gaugeSide t)) (mostBudget ∷ []) s .0 (omega arith) in
-    let p = says-handed (handOut (gaugeSide t)) (lastOf (candidates (tableRows t)) (callOn (gaugeSide t) mostBudget s .moves) s) x (sym (w .last) ∙ e) in
+pub handed-within : (t : Table) (omit : Bool) (s : State) (x : List ℕ) → callOf t (gaugeSide t) omit mostBudget s .answer ≡ handed x
+    → Within (tableRows t) x
+handed-within t omit s x e =
+    let mv : State → Move = movesOf t (gaugeSide t) omit in
+    let w = all-whole mv (handOut (gaugeSide t)) (mostBudget ∷ []) s .0 (omega arith) in
+    let p = says-handed (handOut (gaugeSide t)) (lastBy mv (callOf t (gaugeSide t) omit mostBudget s .moves) s) x (sym (w .last) ∙ e) in
     subst (Within (tableRows t)) (p .1) (chainOf-within (tableRows t) (p .0))
 
--- the greatest budget is never spent
+-- a run that omits nothing is never spent by the greatest budget
 pub never-spent : (t : Table) → Legal t → (s : State) → ReachedOn (gaugeSide t) s → callOn (gaugeSide t) mostBudget s .answer ≡ spent → ⊥
 never-spent t l s r e =
     let kids : List ℕ → List ℕ = candidates (tableRows t) in

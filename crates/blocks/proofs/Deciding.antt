@@ -15,9 +15,8 @@ use lib.ListN.{length, take, drop, length-map}
 use lib.Seq.{take-at}
 use Rattle.table.specs.declared.Table.{Table}
 use Rattle.refusals.specs.declared.Verdict.{Verdict}
-use Rattle.table.specs.Tables.{Legal, tableRefusal, tableRows}
+use Rattle.table.specs.Tables.{tableRefusal, tableRows}
 use Rattle.refusals.proofs.Answering.{verdict-injective}
-use Rattle.table.proofs.Legality.{legal-of}
 use Rattle.rules.specs.Machine.{Phase, Down, Handed, Back, Ended, State, at}
 use Rattle.rules.specs.private.Fitting.{ValidFrom, Fits}
 use Rattle.lists.specs.Lists.{gaugeSide}
@@ -32,8 +31,8 @@ use Rattle.runs.proofs.Answered.{paused-state}
 use Rattle.writer.specs.Writing.{writeFile}
 use Rattle.writer.proofs.Sizes.{fullTable, full-length}
 use Rattle.blocks.specs.declared.Block.{Block}
-use Rattle.blocks.specs.Filling.{longest, Filling, filling, calls, after, text, hasEnd, Untouched, Stops, Fills, Filled}
-use Rattle.blocks.proofs.Calls.{calls-end-at}
+use Rattle.blocks.specs.Filling.{longest, Filling, filling, calls, after, text, isEnd, isNone, has, Untouched, Stops, Fills, Filled}
+use Rattle.blocks.proofs.Calls.{calls-stop-at}
 use Rattle.blocks.proofs.Fillings.{refusing}
 
 -- ---- the state of a value
@@ -62,9 +61,9 @@ places : (p : List ℕ) → map (λ k. k - 1) (map suc p) ≡ p
 places [] = refl
 places (x ∷ p) = ap₂ (λ (y : ℕ) (q : List ℕ). y ∷ q) (suc-sub x) (places p)
 
-state-paused : (t : Table) (s : State) → stateOf (paused t s) ≡ s
+state-paused : (t : Table) (omit : Bool) (s : State) → stateOf (paused t omit s) ≡ s
 unfolding stateOf
-state-paused t s =
+state-paused t omit s =
     ap₂ at (ap (map (λ k. k - 1)) (take-at (map suc (s .picks)) _ (length (s .picks)) (length-map (s .picks) suc)) ∙ places (s .picks))
     (place-numbered (s .phase))
 
@@ -118,17 +117,18 @@ paused-decided v =
     (fits (candidates (tableRows (v .table))) (stateOf v .picks) (stateOf v .phase))
   where
     w : Value
-    w = paused (v .table) (stateOf v)
+    w = paused (v .table) (v .omit) (stateOf v)
 
     Same : Type 0
     Same = ((v .picks ≡ w .picks) × (v .count ≡ w .count)) × (v .phase ≡ w .phase)
 
     same : (p q : List ℕ) (n m : ℕ) (f g : Phase) → p ≡ q → n ≡ m → f ≡ g
-        → _≡_ {A = Value} (record { table = v .table; picks = p; count = n; phase = f }) (record { table = v .table; picks = q; count = m; phase = g })
+        → _≡_ {A = Value} (record { table = v .table; picks = p; count = n; phase = f; omit = v .omit })
+        (record { table = v .table; picks = q; count = m; phase = g; omit = v .omit })
     same p q n m f g a b c = rw (a, b, c)
 
     its : (s : State) → PausedAt gaugeSide v s → stateOf v ≡ s
-    its s p = ap stateOf (p .stands) ∙ state-paused (v .table) s
+    its s p = ap stateOf (p .stands) ∙ state-paused (v .table) (v .omit) s
 
     go : Dec Same → Dec (Fits (candidates (tableRows (v .table))) (stateOf v .picks) (stateOf v .phase))
         → ((s : State) × PausedAt gaugeSide v s) ⊎ ((s : State) → PausedAt gaugeSide v s → ⊥)
@@ -142,13 +142,13 @@ paused-decided v =
         )
     go (no e) f =
         inr (λ s p.
-        let d : v ≡ w = p .stands ∙ ap (paused (v .table)) (sym (its s p)) in
+        let d : v ≡ w = p .stands ∙ ap (paused (v .table) (v .omit)) (sym (its s p)) in
         e ((ap (λ (x : Value). x .picks) d, ap (λ (x : Value). x .count) d), ap (λ (x : Value). x .phase) d))
     go (yes e) (no f) =
         inr (λ s p. f (reached-fits (gaugeSide (v .table)) (stateOf v) .0 (subst (ReachedOn (gaugeSide (v .table))) (sym (its s p)) (p .reached))))
 
 -- ---- the calls of a block
-module _ (t : Table) (s : State) (before : List ℕ) where
+module _ (t : Table) (omit : Bool) (s : State) (before : List ℕ) where
   filling-same : (f g : Filling) → f .refusal ≡ g .refusal → f .value ≡ g .value → f .used ≡ g .used → f .over ≡ g .over → f ≡ g
   filling-same f g a b c d = go (f .refusal) (g .refusal) (f .value) (g .value) (f .used) (g .used) (f .over) (g .over) a b c d
     where
@@ -156,11 +156,11 @@ module _ (t : Table) (s : State) (before : List ℕ) where
           → _≡_ {A = Filling} (record { refusal = n; value = v; used = i; over = o }) (record { refusal = m; value = w; used = j; over = p })
       go n m v w i j o p a b c d = rw (a, b, c, d)
 
-  fills-unique : (f g : Filling) (x y : List ℕ) → Fills t s before f x → Fills t s before g y → (f ≡ g) × (x ≡ y)
+  fills-unique : (f g : Filling) (x y : List ℕ) → Fills t omit s before f x → Fills t omit s before g y → (f ≡ g) × (x ≡ y)
   fills-unique f g x y a b = (
-    filling-same f g (a .accepted ∙ sym (b .accepted)) (a .value ∙ ap (λ (n : ℕ). paused t (after t n s)) same ∙ sym (b .value)) used
-        (a .over ∙ ap (λ (n : ℕ). hasEnd (calls t n s)) same ∙ sym (b .over)),
-    a .bytes ∙ ap₂ (λ (n k : ℕ). text t n s ++ drop k before) same used ∙ sym (b .bytes),
+    filling-same f g (a .accepted ∙ sym (b .accepted)) (a .value ∙ ap (λ (n : ℕ). paused t omit (after t omit n s)) same ∙ sym (b .value)) used
+        (a .over ∙ ap (λ (n : ℕ). has isEnd (calls t omit n s)) same ∙ sym (b .over)),
+    a .bytes ∙ ap₂ (λ (n k : ℕ). text t omit n s ++ drop k before) same used ∙ sym (b .bytes),
   )
     where
       go : Dec (a .count < b .count) → Dec (b .count < a .count) → a .count ≡ b .count
@@ -172,45 +172,48 @@ module _ (t : Table) (s : State) (before : List ℕ) where
       same = go (decLt (a .count) (b .count)) (decLt (b .count) (a .count))
 
       used : f .used ≡ g .used
-      used = a .used ∙ ap (λ (n : ℕ). length (text t n s)) same ∙ sym (b .used)
+      used = a .used ∙ ap (λ (n : ℕ). length (text t omit n s)) same ∙ sym (b .used)
 
-  isStop : (n : ℕ) → Dec (Stops t s (length before) n)
-  isStop n = go (Bool-discrete (hasEnd (calls t n s)) true) (decLt (length before) (length (text t n s) + longest))
+  isStop : (n : ℕ) → Dec (Stops t omit s (length before) n)
+  isStop n = go (Bool-discrete (has isNone (calls t omit n s)) true) (decLt (length before) (length (text t omit n s) + longest))
     where
-      neither : ¬ (hasEnd (calls t n s) ≡ true) → ¬ (length before < length (text t n s) + longest) → ¬ Stops t s (length before) n
+      neither : ¬ (has isNone (calls t omit n s) ≡ true) → ¬ (length before < length (text t omit n s) + longest) → ¬ Stops t omit s (length before) n
       neither e l (inl h) = e h
       neither e l (inr h) = l h
 
-      go : Dec (hasEnd (calls t n s) ≡ true) → Dec (length before < length (text t n s) + longest) → Dec (Stops t s (length before) n)
+      go : Dec (has isNone (calls t omit n s) ≡ true) → Dec (length before < length (text t omit n s) + longest) → Dec (Stops t omit s (length before) n)
       go (yes e) d = yes (inl e)
       go (no e) (yes l) = yes (inr l)
       go (no e) (no l) = no (neither e l)
 
   -- the least number from k on at which they stop
-  least : (fuel k : ℕ) → ((j : ℕ) → j < k → ¬ Stops t s (length before) j) → Stops t s (length before) (k + fuel)
-      → (n : ℕ) × Stops t s (length before) n × ((j : ℕ) → j < n → ¬ Stops t s (length before) j)
-  least zero k low h = (k, subst (Stops t s (length before)) (add-zero k) h, low)
+  least : (fuel k : ℕ) → ((j : ℕ) → j < k → ¬ Stops t omit s (length before) j) → Stops t omit s (length before) (k + fuel)
+      → (n : ℕ) × Stops t omit s (length before) n × ((j : ℕ) → j < n → ¬ Stops t omit s (length before) j)
+  least zero k low h = (k, subst (Stops t omit s (length before)) (add-zero k) h, low)
   least (suc fuel) k low h = go (isStop k) (least fuel (suc k))
     where
-      lower : ¬ Stops t s (length before) k → (j : ℕ) → j < suc k → Dec (j ≡ k) → ¬ Stops t s (length before) j
-      lower n j l (yes e) = subst (λ (i : ℕ). ¬ Stops t s (length before) i) (sym e) n
+      lower : ¬ Stops t omit s (length before) k → (j : ℕ) → j < suc k → Dec (j ≡ k) → ¬ Stops t omit s (length before) j
+      lower n j l (yes e) = subst (λ (i : ℕ). ¬ Stops t omit s (length before) i) (sym e) n
       lower n j l (no e) = low j (omega arith)
 
-      go : Dec (Stops t s (length before) k)
-          → (((j : ℕ) → j < suc k → ¬ Stops t s (length before) j) → Stops t s (length before) (suc k + fuel)
-          → (n : ℕ) × Stops t s (length before) n × ((j : ℕ) → j < n → ¬ Stops t s (length before) j))
-          → (n : ℕ) × Stops t s (length before) n × ((j : ℕ) → j < n → ¬ Stops t s (length before) j)
+      go : Dec (Stops t omit s (length before) k)
+          → (((j : ℕ) → j < suc k → ¬ Stops t omit s (length before) j) → Stops t omit s (length before) (suc k + fuel)
+          → (n : ℕ) × Stops t omit s (length before) n × ((j : ℕ) → j < n → ¬ Stops t omit s (length before) j))
+          → (n : ℕ) × Stops t omit s (length before) n × ((j : ℕ) → j < n → ¬ Stops t omit s (length before) j)
       go (yes z) more = (k, z, low)
-      go (no z) more = more (λ j l. lower z j l (ℕ-discrete j k)) (let e : k + suc fuel ≡ suc k + fuel = omega arith in subst (Stops t s (length before)) e h)
+      go (no z) more =
+          let e : k + suc fuel ≡ suc k + fuel = omega arith in
+          more (λ j l. lower z j l (ℕ-discrete j k)) (subst (Stops t omit s (length before)) e h)
 
-  fills-exist : Legal t → ReachedOn (gaugeSide t) s → (f : Filling) × (now : List ℕ) × Fills t s before f now
-  fills-exist l h =
-      let e = calls-end-at t l s h in
-      let at : e .0 ≡ 0 + e .0 = omega arith in
-      let (n, z, low) = least (e .0) 0 (λ j k. absurd (omega arith)) (inl (subst (λ (k : ℕ). hasEnd (calls t k s) ≡ true) at (e .1))) in
-      let f : Filling = record { refusal = 0; value = paused t (after t n s); used = length (text t n s); over = hasEnd (calls t n s) } in (
+  fills-exist : (f : Filling) × (now : List ℕ) × Fills t omit s before f now
+  fills-exist =
+      let at : length before ≡ 0 + length before = omega arith in
+      let (n, z, low) =
+      least (length before) 0 (λ j k. absurd (omega arith)) (subst (Stops t omit s (length before)) at (calls-stop-at t omit (length before) s)) in
+      let f : Filling =
+      record { refusal = 0; value = paused t omit (after t omit n s); used = length (text t omit n s); over = has isEnd (calls t omit n s) } in (
         f,
-        text t n s ++ drop (f .used) before,
+        text t omit n s ++ drop (f .used) before,
         record { accepted = refl; count = n; stops = z; sooner = λ j l. low j (omega arith); used = refl; bytes = refl; value = refl; over = refl },
       )
 
@@ -226,10 +229,10 @@ filled-unique v before f g x y a b = go (ℕ-discrete (tableRefusal (v .table)) 
     go (no z) p l = untouched-unique _ before f g x y (a .table (omega (arith, z))) (b .table (omega (arith, z)))
     go (yes z) (inr n) l = untouched-unique 15 before f g x y (a .value z n) (b .value z n)
     go (yes z) (inl (s, p)) (yes l) = untouched-unique 16 before f g x y (a .short z s p l) (b .short z s p l)
-    go (yes z) (inl (s, p)) (no l) = fills-unique (v .table) s before f g x y (a .fills z s p (omega arith)) (b .fills z s p (omega arith))
+    go (yes z) (inl (s, p)) (no l) = fills-unique (v .table) (v .omit) s before f g x y (a .fills z s p (omega arith)) (b .fills z s p (omega arith))
 
-pub filled-exists : (v : Value) → length (v .table .rows) ≡ 64 → (before : List ℕ) → (f : Filling) × (now : List ℕ) × Filled v before f now
-filled-exists v rows before = go (ℕ-discrete (tableRefusal (v .table)) 0) (paused-decided v) (decLt (length before) longest)
+pub filled-exists : (v : Value) (before : List ℕ) → (f : Filling) × (now : List ℕ) × Filled v before f now
+filled-exists v before = go (ℕ-discrete (tableRefusal (v .table)) 0) (paused-decided v) (decLt (length before) longest)
   where
     untouched : (n : ℕ) → Untouched n before (refusing n) before
     untouched n = record { says = refl; buffer = refl }
@@ -267,14 +270,15 @@ filled-exists v rows before = go (ℕ-discrete (tableRefusal (v .table)) 0) (pau
       },
     )
     go (yes z) (inl (s, p)) (no l) =
-        let (f, now, h) = fills-exist (v .table) s before (legal-of (v .table) rows z) (p .reached) in (
+        let (f, now, h) = fills-exist (v .table) (v .omit) s before in (
           f,
           now,
           record {
             table = λ k. absurd (omega arith);
             value = λ e k. absurd (k s p);
             short = λ e x q k. absurd (omega arith);
-            fills = λ e x q k. subst (λ (y : State). Fills (v .table) y before f now) (paused-state (v .table) s x (sym (p .stands) ∙ q .stands)) h;
+            fills = λ e x q k. subst (λ (y : State). Fills (v .table) (v .omit) y before f now)
+                (paused-state (v .table) (v .omit) s x (sym (p .stands) ∙ q .stands)) h;
           },
         )
 

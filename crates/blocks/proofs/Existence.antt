@@ -3,6 +3,7 @@
 --
 -- Elsewhere: one block for every value and every buffer, `filled-exists` in Deciding.antt.
 use mathlib.Core.Path.{_≡_, refl, sym, ap, subst}
+use mathlib.Core.Bool.{false}
 use mathlib.Core.List.{List, [], _∷_}
 use Prim.Native.Nat.{ℕ, zero, suc, min}
 use native.Mathlib.Omega.{arith}
@@ -21,21 +22,21 @@ use Rattle.blocks.proofs.Deciding.{filled-exists}
 use Rattle.blocks.proofs.Listing.{blocks-listed}
 
 module _ (t : Table) (l : Legal t) where
-  blocks-exist : (n : ℕ) (s : State) → ReachedOn (gaugeSide t) s → (is : List Item) × Blocks (paused t s) is × (length is ≡ n)
+  blocks-exist : (n : ℕ) (s : State) → ReachedOn (gaugeSide t) s → (is : List Item) × Blocks (paused t false s) is × (length is ≡ n)
   blocks-exist zero s h = ([], tt, refl)
   blocks-exist (suc n) s h =
       let before : List ℕ = replicate longest 0 in
-      let (f, now, filled) = filled-exists (paused t s) (l .rows-length) before in
-      let fills : Fills t s before f now =
+      let (f, now, filled) = filled-exists (paused t false s) before in
+      let fills : Fills t false s before f now =
       filled .fills (legal-passes t l) s (record { reached = h; stands = refl }) (omega (arith, length-replicate {A = ℕ} longest 0)) in
-      let (is, blocks, many) = blocks-exist n _ (reached-after t (fills .count) s h) in (
+      let (is, blocks, many) = blocks-exist n _ (reached-after t false (fills .count) s h) in (
         record { before = before; answer = f; now = now } ∷ is,
         (filled, fills .accepted, subst (λ (v : Value). Blocks v is) (sym (fills .value)) blocks),
         ap suc many,
       )
 
   -- so many blocks are the whole list
-  pub whole-list : (xs : List (List ℕ)) → GaugeList t xs → (is : List Item) × Blocks (paused t fresh) is × (output is ≡ files t xs)
+  pub whole-list : (xs : List (List ℕ)) → GaugeList t xs → (is : List Item) × Blocks (paused t false fresh) is × (output is ≡ files t xs)
   whole-list xs g =
       let (is, blocks, many) = blocks-exist (suc (factorial (min (t .gauges) (t .cases)))) fresh (record { count = 0; leads = refl }) in
       let listed : Listed t is = blocks-listed t l is blocks in

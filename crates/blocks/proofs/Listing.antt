@@ -26,9 +26,9 @@ use Rattle.lists.proofs.BothSides.{gauge-fair}
 use Rattle.lists.proofs.Demand.{demand3}
 use Rattle.runs.specs.Paused.{Value, paused}
 use Rattle.runs.specs.Calling.{PausedAt}
-use Rattle.blocks.specs.Filling.{files, longest, Filling, calls, after, text, isEnd, hasEnd, Stops, Fills, Filled, Item, Blocks, leaves, output, isOver}
+use Rattle.blocks.specs.Filling.{files, longest, Filling, calls, after, text, isEnd, has, Stops, Fills, Filled, Item, Blocks, leaves, output, isOver}
 use Rattle.blocks.specs.Filling.{Listed, CarriesList}
-use Rattle.blocks.proofs.Calls.{files-append, handouts-append, hasEnd-append, calls-more, reached-after}
+use Rattle.blocks.proofs.Calls.{files-append, handouts-append, has-append, calls-more, reached-after, stop-ends}
 
 -- ---- a call that answered end
 end-of : (a : Reply) → isEnd a ≡ true → a ≡ end
@@ -37,11 +37,11 @@ end-of spent e = let z : _≡_ {A = ℕ} 0 1 = cc in absurd (omega arith)
 end-of (handed x) e = let z : _≡_ {A = ℕ} 0 1 = cc in absurd (omega arith)
 end-of end e = refl
 
-end-in : (cs : List Call) → hasEnd cs ≡ true → Ended cs
+end-in : (cs : List Call) → has isEnd cs ≡ true → Ended cs
 end-in [] e = let z : _≡_ {A = ℕ} 0 1 = cc in absurd (omega arith)
 end-in (c ∷ cs) e = go (isEnd (c .answer)) refl e (end-in cs)
   where
-    go : (b : Bool) → isEnd (c .answer) ≡ b → (b || hasEnd cs) ≡ true → (hasEnd cs ≡ true → Ended cs) → Ended (c ∷ cs)
+    go : (b : Bool) → isEnd (c .answer) ≡ b → (b || has isEnd cs) ≡ true → (has isEnd cs ≡ true → Ended cs) → Ended (c ∷ cs)
     go true a h more = (c, List·Memᴰ·head refl, end-of (c .answer) a)
     go false a h more = let x = more h in (x .0, List·Memᴰ·tail (x .1), x .2)
 
@@ -50,66 +50,69 @@ files-some : (t : Table) (xs : List (List ℕ)) → 0 < length (files t xs) → 
 files-some t [] h = absurd (omega arith)
 files-some t (x ∷ xs) h = omega arith
 
-module _ (t : Table) (ok : tableRefusal t ≡ 0) (s : State) (h : ReachedOn (gaugeSide t) s) (i : Item) where
+module _ (t : Table) (l : Legal t) (s : State) (h : ReachedOn (gaugeSide t) s) (i : Item) where
   -- a block that is not refused is filled
-  block-fills : Filled (paused t s) (i .before) (i .answer) (i .now) → i .answer .refusal ≡ 0
-      → Fills t s (i .before) (i .answer) (i .now) × (longest ≤ length (i .before))
+  block-fills : Filled (paused t false s) (i .before) (i .answer) (i .now) → i .answer .refusal ≡ 0
+      → Fills t false s (i .before) (i .answer) (i .now) × (longest ≤ length (i .before))
   block-fills f e = go (decLt (length (i .before)) longest)
     where
-      p : PausedAt gaugeSide (paused t s) s
+      p : PausedAt gaugeSide (paused t false s) s
       p = record { reached = h; stands = refl }
 
-      go : Dec (length (i .before) < longest) → Fills t s (i .before) (i .answer) (i .now) × (longest ≤ length (i .before))
-      go (yes l) = absurd (omega (arith, e, ap (λ (x : Filling). x .refusal) (f .short ok s p l .says)))
-      go (no l) = (f .fills ok s p (omega arith), omega arith)
+      go : Dec (length (i .before) < longest) → Fills t false s (i .before) (i .answer) (i .now) × (longest ≤ length (i .before))
+      go (yes k) = absurd (omega (arith, e, ap (λ (x : Filling). x .refusal) (f .short (legal-passes t l) s p k .says)))
+      go (no k) = (f .fills (legal-passes t l) s p (omega arith), omega arith)
 
-  module _ (f : Fills t s (i .before) (i .answer) (i .now)) where
-    block-front : take (i .answer .used) (i .now) ≡ text t (f .count) s
-    block-front = ap (take (i .answer .used)) (f .bytes) ∙ take-at (text t (f .count) s) _ (i .answer .used) (sym (f .used))
+  module _ (f : Fills t false s (i .before) (i .answer) (i .now)) where
+    block-front : take (i .answer .used) (i .now) ≡ text t false (f .count) s
+    block-front = ap (take (i .answer .used)) (f .bytes) ∙ take-at (text t false (f .count) s) _ (i .answer .used) (sym (f .used))
 
     -- it has a file unless it is over, having no room for the longest
-    block-some : longest ≤ length (i .before) → i .answer .over ≡ false → 1 ≤ length (handouts (calls t (f .count) s))
-    block-some l o = files-some t (handouts (calls t (f .count) s)) (go (f .stops))
+    block-some : longest ≤ length (i .before) → i .answer .over ≡ false → 1 ≤ length (handouts (calls t false (f .count) s))
+    block-some k o = files-some t (handouts (calls t false (f .count) s)) (go (f .stops))
       where
-        go : Stops t s (length (i .before)) (f .count) → 0 < length (text t (f .count) s)
-        go (inl e) = let z : _≡_ {A = Bool} false true = sym o ∙ f .over ∙ e in let y : _≡_ {A = ℕ} 0 1 = cc in absurd (omega arith)
+        go : Stops t false s (length (i .before)) (f .count) → 0 < length (text t false (f .count) s)
+        go (inl e) =
+            let z : _≡_ {A = Bool} false true = sym o ∙ f .over ∙ stop-ends t l (f .count) s h e in
+            let y : _≡_ {A = ℕ} 0 1 = cc in absurd (omega arith)
         go (inr e) = omega arith
 
 -- ---- what blocks from the state s on put out
 record PutOut (t : Table) (s : State) (is : List Item) : Type 0 where
   pub count : ℕ
-  pub bytes : output is ≡ text t count s
-  pub over : isOver is ≡ hasEnd (calls t count s)
-  pub many : isOver is ≡ false → length is ≤ length (handouts (calls t count s))
+  pub bytes : output is ≡ text t false count s
+  pub over : isOver is ≡ has isEnd (calls t false count s)
+  pub many : isOver is ≡ false → length is ≤ length (handouts (calls t false count s))
 
 neither : (a b : Bool) → (a || b) ≡ false → (a ≡ false) × (b ≡ false)
 neither true b e = let z : _≡_ {A = ℕ} 0 1 = cc in absurd (omega arith)
 neither false b e = (refl, e)
 
-put-out : (t : Table) → tableRefusal t ≡ 0 → (s : State) → ReachedOn (gaugeSide t) s → (is : List Item) → Blocks (paused t s) is → PutOut t s is
-put-out t ok s h [] b = record { count = 0; bytes = refl; over = refl; many = λ e. omega arith }
-put-out t ok s h (i ∷ is) b =
-    let (f, room) = block-fills t ok s h i (b .0) (b .1) in
+put-out : (t : Table) → Legal t → (s : State) → ReachedOn (gaugeSide t) s → (is : List Item) → Blocks (paused t false s) is → PutOut t s is
+put-out t l s h [] b = record { count = 0; bytes = refl; over = refl; many = λ e. omega arith }
+put-out t l s h (i ∷ is) b =
+    let (f, room) = block-fills t l s h i (b .0) (b .1) in
     let n : ℕ = f .count in
-    let z : State = after t n s in
-    let more = put-out t ok z (reached-after t n s h) is (subst (λ (v : Value). Blocks v is) (f .value) (b .2)) in
+    let z : State = after t false n s in
+    let more = put-out t l z (reached-after t false n s h) is (subst (λ (v : Value). Blocks v is) (f .value) (b .2)) in
     let m : ℕ = more .count in
-    let both : calls t (n + m) s ≡ calls t n s ++ calls t m z = calls-more t n m s in
-    let sets : handouts (calls t (n + m) s) ≡ handouts (calls t n s) ++ handouts (calls t m z) =
-    ap handouts both ∙ handouts-append (calls t n s) (calls t m z) in
+    let both : calls t false (n + m) s ≡ calls t false n s ++ calls t false m z = calls-more t false n m s in
+    let sets : handouts (calls t false (n + m) s) ≡ handouts (calls t false n s) ++ handouts (calls t false m z) =
+    ap handouts both ∙ handouts-append (calls t false n s) (calls t false m z) in
     record {
       count = n + m;
       bytes =
-          ap₂ (λ (x y : List ℕ). x ++ y) (block-front t ok s h i f) (more .bytes)
-          ∙ sym (ap (files t) sets ∙ files-append t (handouts (calls t n s)) (handouts (calls t m z)));
-      over = ap₂ (λ (x y : Bool). x || y) (f .over) (more .over) ∙ sym (ap hasEnd both ∙ hasEnd-append (calls t n s) (calls t m z));
+          ap₂ (λ (x y : List ℕ). x ++ y) (block-front t l s h i f) (more .bytes)
+          ∙ sym (ap (files t) sets ∙ files-append t (handouts (calls t false n s)) (handouts (calls t false m z)));
+      over = ap₂ (λ (x y : Bool). x || y) (f .over) (more .over) ∙ sym (ap (has isEnd) both ∙ has-append isEnd (calls t false n s) (calls t false m z));
       many = λ e.
           let (a, o) = neither (i .answer .over) (isOver is) e in
-          omega (arith, more .many o, block-some t ok s h i f room a, ap length sets, length-append (handouts (calls t n s)) (handouts (calls t m z)));
+          let sum = length-append (handouts (calls t false n s)) (handouts (calls t false m z)) in
+          omega (arith, more .many o, block-some t l s h i f room a, ap length sets, sum);
     }
 
 -- ---- the promises
-pub blocks-listed : (t : Table) → Legal t → (is : List Item) → Blocks (paused t fresh) is → Listed t is
+pub blocks-listed : (t : Table) → Legal t → (is : List Item) → Blocks (paused t false fresh) is → Listed t is
 blocks-listed t l is b = record {
   front = λ xs g. (
     d .front .0,
@@ -123,10 +126,10 @@ blocks-listed t l is b = record {
 }
   where
     o : PutOut t fresh is
-    o = put-out t (legal-passes t l) fresh (record { count = 0; leads = refl }) is b
+    o = put-out t l fresh (record { count = 0; leads = refl }) is b
 
     made : List Call
-    made = calls t (o .count) fresh
+    made = calls t false (o .count) fresh
 
     d : Demand t (gaugeSide t) (replicate (o .count) mostBudget) made
     d = demand3 t l (gaugeSide t) (gauge-fair t l) (replicate (o .count) mostBudget)
@@ -144,4 +147,4 @@ blocks-more v (j ∷ is) i b f e = (b .0, b .1, blocks-more (j .answer .value) i
 pub carries-list : (v : Value) → length (v .table .rows) ≡ 64 → (i : Item) → Filled v (i .before) (i .answer) (i .now) → CarriesList v i
 carries-list v n i f ok e is b d =
     blocks-listed (v .table) (legal-of (v .table) n ok) (is ++ (i ∷ []))
-    (blocks-more (paused (v .table) fresh) is i b (subst (λ (w : Value). Filled w (i .before) (i .answer) (i .now)) (sym d) f) e)
+    (blocks-more (paused (v .table) false fresh) is i b (subst (λ (w : Value). Filled w (i .before) (i .answer) (i .now)) (sym d) f) e)

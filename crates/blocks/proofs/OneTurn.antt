@@ -5,7 +5,7 @@
 --
 -- Elsewhere: turns one after another, Fillings.antt.
 use mathlib.Core.Path.{_≡_, refl, sym, ap, _∙_, subst}
-use mathlib.Core.Bool.{true, false}
+use mathlib.Core.Bool.{Bool, true, false}
 use mathlib.Core.List.{List, [], _++_, append-nil}
 use Prim.Native.Nat.{ℕ, _+_, _-_, _≤_, _<_}
 use native.Mathlib.Decide.{decLt, ℕ-discrete}
@@ -22,41 +22,40 @@ use Rattle.refusals.proofs.Answering.{number-pos}
 use Rattle.table.proofs.Legality.{legal-of, legal-passes}
 use Rattle.rules.specs.Machine.{State}
 use Rattle.rules.specs.Calls.{Reply, refused, spent, handed, end, Call, mostBudget, answered}
-use Rattle.rules.proofs.Reports.{call-only18}
+use Rattle.rules.proofs.Reports.{only18-by}
 use Rattle.lists.specs.Lists.{gaugeSide}
-use Rattle.lists.specs.Picks.{candidates}
-use Rattle.lists.specs.OnTable.{handOut, callOn}
+use Rattle.lists.specs.OnTable.{handOut}
 use Rattle.runs.specs.Paused.{Value, paused}
-use Rattle.runs.specs.Calling.{Step, byRules, told, refusal, PausedAt, Called}
+use Rattle.runs.specs.Calling.{Step, byRules, told, movesOf, callOf, refusal, PausedAt, Called}
 use Rattle.writer.specs.Writing.{writeFile, writeRefusal, writeAnswer, bufferAfter}
 use Rattle.writer.proofs.Sizes.{write-length}
 use Rattle.writer.proofs.Files.{long-enough}
-use Rattle.blocks.specs.Filling.{pairTable, isEnd}
+use Rattle.blocks.specs.Filling.{pairTable, isEnd, isNone}
 use Rattle.blocks.specs.private.Turning.{Checked, placed, Put, Turned}
 use Rattle.blocks.proofs.Chains.{pair-legal, handed-within}
 
 -- ---- what the rules give for a call
-told-answer : (t : Table) (a : Reply) (k : ℕ) (s : State) → byRules t a k s .answer ≡ a
-told-answer t (refused n) k s = refl
-told-answer t spent k s = refl
-told-answer t (handed x) k s = refl
-told-answer t end k s = refl
+told-answer : (t : Table) (omit : Bool) (a : Reply) (k : ℕ) (s : State) → byRules t omit a k s .answer ≡ a
+told-answer t omit (refused n) k s = refl
+told-answer t omit spent k s = refl
+told-answer t omit (handed x) k s = refl
+told-answer t omit end k s = refl
 
 module _ (v : Value) (b : ℕ) (r : Step) (c : Called gaugeSide v b r) (ok : tableRefusal (v .table) ≡ 0) (s : State) (p : PausedAt gaugeSide v s) where
   abbrev made : Call
-  made = callOn (gaugeSide (v .table)) b s
+  made = callOf (v .table) (gaugeSide (v .table)) (v .omit) b s
 
-  by-rules : r ≡ told (v .table) made
+  by-rules : r ≡ told (v .table) (v .omit) made
   by-rules = c .rules ok s p
 
   same-answer : made .answer ≡ r .answer
-  same-answer = sym (ap (λ (x : Step). x .answer) by-rules ∙ told-answer (v .table) (made .answer) (made .moves) (made .next))
+  same-answer = sym (ap (λ (x : Step). x .answer) by-rules ∙ told-answer (v .table) (v .omit) (made .answer) (made .moves) (made .next))
 
-  as-answered : (a : Reply) → r .answer ≡ a → r ≡ byRules (v .table) a (made .moves) (made .next)
-  as-answered a e = by-rules ∙ ap (λ (x : Reply). byRules (v .table) x (made .moves) (made .next)) (same-answer ∙ e)
+  as-answered : (a : Reply) → r .answer ≡ a → r ≡ byRules (v .table) (v .omit) a (made .moves) (made .next)
+  as-answered a e = by-rules ∙ ap (λ (x : Reply). byRules (v .table) (v .omit) x (made .moves) (made .next)) (same-answer ∙ e)
 
   never-refused : b ≤ mostBudget → (n : ℕ) → r .answer ≡ refused n → ⊥
-  never-refused l n e = call-only18 (candidates (gaugeSide (v .table) .rows)) (handOut (gaugeSide (v .table))) b s .else l n (same-answer ∙ e)
+  never-refused l n e = only18-by (movesOf (v .table) (gaugeSide (v .table)) (v .omit)) (handOut (gaugeSide (v .table))) b s .else l n (same-answer ∙ e)
 
 -- ---- the check of a value
 refused-same : (r : Step) (n m : ℕ) → r .answer ≡ refused n → r ≡ refusal m → n ≡ m
@@ -144,42 +143,47 @@ module _ (v : Value) (size : length (v .table .rows) ≡ 64) (r : Step) (called 
   placed-none = ap (λ (k : ℕ). take at before ++ drop k before) (add-zero at) ∙ take-append-drop at before
 
   -- an answer without a set, "spent" or "end"
-  pub turned-none : (a : Reply) → answered a [] ≡ [] → ((k : ℕ) (s : State) → byRules (v .table) a k s .next ≡ paused (v .table) s) → r .answer ≡ a
-      → (w : Value) → w ≡ r .next → Turned v before at w at (isEnd a) before
+  pub turned-none : (a : Reply) → answered a [] ≡ [] → ((k : ℕ) (s : State) → byRules (v .table) (v .omit) a k s .next ≡ paused (v .table) (v .omit) s)
+      → r .answer ≡ a
+      → (w : Value) → w ≡ r .next → Turned v before at w at (isNone a) (isEnd a) before
   turned-none a none kept e w d = record {
     inside = low;
     adds = λ ok s p room.
-        let c : Call = callOn (gaugeSide (v .table)) mostBudget s in
+        let c : Call = callOf (v .table) (gaugeSide (v .table)) (v .omit) mostBudget s in
         let same : c .answer ≡ a = same-answer v mostBudget r called ok s p ∙ e in
         record {
           place = rw (same, none) (sym (add-zero at));
           bytes = rw (same, none) (sym placed-none);
           value = d ∙ ap (λ (x : Step). x .next) (as-answered v mostBudget r called ok s p a e) ∙ kept (c .moves) (c .next);
+          stops = rw same refl;
           ends = rw same refl;
         };
   }
 
-  pub turned-refused : (n : ℕ) → r .answer ≡ refused n → (w : Value) → Turned v before at w at true before
+  pub turned-refused : (n : ℕ) → r .answer ≡ refused n → (w : Value) → Turned v before at w at true true before
   turned-refused n e w = record { inside = low; adds = λ ok s p room. absurd (never-refused v mostBudget r called ok s p (omega arith) n e) }
 
   pub turned-handed : (x : List ℕ) → r .answer ≡ handed x → (w : Value) → w ≡ r .next → (next : ℕ) (now : List ℕ)
-      → Put (record { gauges = r .chain .gauges; cases = v .table .cases; rows = r .chain .rows }) before at next now → Turned v before at w next false now
+      → Put (record { gauges = r .chain .gauges; cases = v .table .cases; rows = r .chain .rows }) before at next now
+      → Turned v before at w next false false now
   turned-handed x e w d next now h = record {
     inside = h .inside;
     adds = λ ok s p room.
         let t : Table = v .table in
-        let a : callOn (gaugeSide t) mostBudget s .answer ≡ handed x = same-answer v mostBudget r called ok s p ∙ e in
-        let told : r ≡ byRules t (handed x) (callOn (gaugeSide t) mostBudget s .moves) (callOn (gaugeSide t) mostBudget s .next) =
+        let c : Call = callOf t (gaugeSide t) (v .omit) mostBudget s in
+        let a : c .answer ≡ handed x = same-answer v mostBudget r called ok s p ∙ e in
+        let told : r ≡ byRules t (v .omit) (handed x) (c .moves) (c .next) =
         as-answered v mostBudget r called ok s p (handed x) e in
         let table : record { gauges = r .chain .gauges; cases = t .cases; rows = r .chain .rows } ≡ pairTable t x =
         ap (λ (y : Step). record { gauges = y .chain .gauges; cases = t .cases; rows = y .chain .rows }) told in
         let put : Put (pairTable t x) before at next now = subst (λ (y : Table). Put y before at next now) table h in
-        let legal : Legal (pairTable t x) = pair-legal t (legal-of t size ok) x (handed-within t s x a) in
+        let legal : Legal (pairTable t x) = pair-legal t (legal-of t size ok) x (handed-within t (v .omit) s x a) in
         let f = put .file (legal-passes (pairTable t x) legal) (omega (arith, write-length (pairTable t x) legal, room)) in
         record {
           place = rw (a, append-nil (writeFile (pairTable t x))) (f .0);
           bytes = rw (a, append-nil (writeFile (pairTable t x))) (f .1);
           value = d ∙ ap (λ (y : Step). y .next) told;
+          stops = rw a refl;
           ends = rw a refl;
         };
   }

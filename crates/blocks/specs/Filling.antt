@@ -17,12 +17,11 @@ use Rattle.table.specs.Tables.{tableRefusal, padded}
 use Rattle.refusals.specs.Answers.{verdict}
 use Rattle.rules.specs.Sequences.{factorial}
 use Rattle.rules.specs.Machine.{State, fresh}
-use Rattle.rules.specs.Calls.{Reply, refused, spent, handed, end, Call, mostBudget, callsFrom, stateAfter, handouts}
+use Rattle.rules.specs.Calls.{Reply, refused, spent, handed, end, Call, mostBudget, callsBy, stateBy, handouts}
 use Rattle.lists.specs.Lists.{gaugeSide, GaugeList}
-use Rattle.lists.specs.Picks.{candidates}
 use Rattle.lists.specs.OnTable.{handOut}
 use Rattle.runs.specs.Paused.{Value, paused, blankValue, gaugeValue}
-use Rattle.runs.specs.Calling.{PausedAt}
+use Rattle.runs.specs.Calling.{movesOf, PausedAt}
 use Rattle.writer.specs.Writing.{writeFile}
 use Rattle.blocks.specs.declared.Block.{Block}
 
@@ -52,48 +51,57 @@ pub record Filling : Type 0 where
 abbrev pub filling : Block → Filling
 filling b = record { refusal = verdict (b .verdict); value = gaugeValue (b .run); used = b .used; over = b .over }
 
--- the first n calls of the gauge run on t, from the state s on, each with the greatest budget, and the state after them
-abbrev pub calls : Table → ℕ → State → List Call
-calls t n s = callsFrom (candidates (gaugeSide t .rows)) (handOut (gaugeSide t)) (replicate n mostBudget) s
+-- the first n calls of the gauge run on t, one that omits or does not, from the state s on, each with the greatest budget, and the state after
+-- them
+abbrev pub calls : Table → Bool → ℕ → State → List Call
+calls t omit n s = callsBy (movesOf t (gaugeSide t) omit) (handOut (gaugeSide t)) (replicate n mostBudget) s
 
-abbrev pub after : Table → ℕ → State → State
-after t n s = stateAfter (candidates (gaugeSide t .rows)) (handOut (gaugeSide t)) (replicate n mostBudget) s
+abbrev pub after : Table → Bool → ℕ → State → State
+after t omit n s = stateBy (movesOf t (gaugeSide t) omit) (handOut (gaugeSide t)) (replicate n mostBudget) s
 
 -- the files of what they hand out
-abbrev pub text : Table → ℕ → State → List ℕ
-text t n s = files t (handouts (calls t n s))
+abbrev pub text : Table → Bool → ℕ → State → List ℕ
+text t omit n s = files t (handouts (calls t omit n s))
 
--- one of them answered end
+-- an answer of end; and one that hands nothing out, which a run that omits nothing gives to the greatest budget at the end alone
 abbrev pub isEnd : Reply → Bool
 isEnd (refused n) = false
 isEnd spent = false
 isEnd (handed x) = false
 isEnd end = true
 
-abbrev pub hasEnd : List Call → Bool
-hasEnd [] = false
-hasEnd (c ∷ cs) = isEnd (c .answer) || hasEnd cs
+abbrev pub isNone : Reply → Bool
+isNone (refused n) = true
+isNone spent = true
+isNone (handed x) = false
+isNone end = true
+
+-- one of the calls answered so
+abbrev pub has : (Reply → Bool) → List Call → Bool
+has q [] = false
+has q (c ∷ cs) = q (c .answer) || has q cs
 
 -- "A refusal yields its number and nothing else": the buffer is as it was
 pub record Untouched (n : ℕ) (before : List ℕ) (f : Filling) (now : List ℕ) : Type 0 where
   pub says : f ≡ record { refusal = n; value = blankValue; used = 0; over = false }
   pub buffer : now ≡ before
 
--- no call follows the first n: one of them answered end, or behind their files the longest file has no room
-abbrev pub Stops : Table → State → ℕ → ℕ → Type 0
-Stops t s room n = (hasEnd (calls t n s) ≡ true) ⊎ (room < length (text t n s) + longest)
+-- no call follows the first n: one of them handed nothing out, or behind their files the longest file has no room
+abbrev pub Stops : Table → Bool → State → ℕ → ℕ → Type 0
+Stops t omit s room n = (has isNone (calls t omit n s) ≡ true) ⊎ (room < length (text t omit n s) + longest)
 
--- the block from the state s on: calls are made until they stop, no sooner and no later. The buffer's front is the files of what they handed out,
--- in turn, and behind it is what was there; the value is that after the calls; over says whether one of them answered end.
-pub record Fills (t : Table) (s : State) (before : List ℕ) (f : Filling) (now : List ℕ) : Type 0 where
+-- the block from the state s on, of a run that omits or does not: calls are made until they stop, no sooner and no later. The buffer's front
+-- is the files of what they handed out, in turn, and behind it is what was there; the value is that after the calls; over says whether one
+-- of them answered end.
+pub record Fills (t : Table) (omit : Bool) (s : State) (before : List ℕ) (f : Filling) (now : List ℕ) : Type 0 where
   pub accepted : f .refusal ≡ 0
   pub count : ℕ
-  pub stops : Stops t s (length before) count
-  pub sooner : (k : ℕ) → k < count → ¬ Stops t s (length before) k
-  pub used : f .used ≡ length (text t count s)
-  pub bytes : now ≡ text t count s ++ drop (f .used) before
-  pub value : f .value ≡ paused t (after t count s)
-  pub over : f .over ≡ hasEnd (calls t count s)
+  pub stops : Stops t omit s (length before) count
+  pub sooner : (k : ℕ) → k < count → ¬ Stops t omit s (length before) k
+  pub used : f .used ≡ length (text t omit count s)
+  pub bytes : now ≡ text t omit count s ++ drop (f .used) before
+  pub value : f .value ≡ paused t omit (after t omit count s)
+  pub over : f .over ≡ has isEnd (calls t omit count s)
 
 -- f is the answer for the value v and the buffer before, and now is the buffer after: 10, 11 and 15 as a run call has them, then 16 for a
 -- buffer shorter than the longest file
@@ -101,7 +109,7 @@ pub record Filled (v : Value) (before : List ℕ) (f : Filling) (now : List ℕ)
   pub table : 0 < tableRefusal (v .table) → Untouched (tableRefusal (v .table)) before f now
   pub value : tableRefusal (v .table) ≡ 0 → ((s : State) → PausedAt gaugeSide v s → ⊥) → Untouched 15 before f now
   pub short : tableRefusal (v .table) ≡ 0 → (s : State) → PausedAt gaugeSide v s → length before < longest → Untouched 16 before f now
-  pub fills : tableRefusal (v .table) ≡ 0 → (s : State) → PausedAt gaugeSide v s → longest ≤ length before → Fills (v .table) s before f now
+  pub fills : tableRefusal (v .table) ≡ 0 → (s : State) → PausedAt gaugeSide v s → longest ≤ length before → Fills (v .table) (v .omit) s before f now
 
 -- ---- blocks one after another
 -- one call of fill: the buffers, any, before and after it, and its answer
@@ -130,8 +138,8 @@ abbrev pub isOver : List Item → Bool
 isOver [] = false
 isOver (i ∷ is) = i .answer .over || isOver is
 
--- what blocks from a fresh start on t put out: the files of a front of the gauge list, and of all of it once a block is over, which one of any
--- (min G L)! + 1 blocks is
+-- what blocks from a fresh start on t, of a run that omits nothing, put out: the files of a front of the gauge list, and of all of it once a
+-- block is over, which one of any (min G L)! + 1 blocks is
 pub record Listed (t : Table) (is : List Item) : Type 0 where
   pub front : (xs : List (List ℕ)) → GaugeList t xs → (rest : List (List ℕ)) × (output is ++ files t rest ≡ files t xs)
   pub complete : (xs : List (List ℕ)) → GaugeList t xs → isOver is ≡ true → output is ≡ files t xs
@@ -141,4 +149,4 @@ pub record Listed (t : Table) (is : List Item) : Type 0 where
 abbrev pub CarriesList : Value → Item → Type 0
 CarriesList v i =
     tableRefusal (v .table) ≡ 0 → i .answer .refusal ≡ 0
-    → (is : List Item) → Blocks (paused (v .table) fresh) is → leaves (paused (v .table) fresh) is ≡ v → Listed (v .table) (is ++ (i ∷ []))
+    → (is : List Item) → Blocks (paused (v .table) false fresh) is → leaves (paused (v .table) false fresh) is ≡ v → Listed (v .table) (is ++ (i ∷ []))

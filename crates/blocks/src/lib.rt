@@ -1,6 +1,7 @@
 // Blocks of files: a lent buffer is filled with the files of the sets that successive calls of the gauge run hand out, as many as have room
-// for sure, and the blocks one after another are the files of the gauge list. No public function has a `requires`; nothing outside the
-// lent buffer is kept.
+// for sure, and the blocks one after another are the files of the gauge list. In each call of the greatest budget a run that omits nothing
+// hands a ladder out or ends; one that omits may be spent, and its block stops there. No public function has a `requires`; nothing outside
+// the lent buffer is kept.
 use refusals::Refusal;
 use refusals::Verdict;
 use runs;
@@ -35,10 +36,11 @@ pub struct Block {
     pub over: bool,
 }
 
-// One turn: the run after it, the place behind what was written, and whether the list ended.
+// One turn: the run after it, the place behind what was written, whether nothing was handed out, and whether the list ended.
 struct Turn {
     run: GaugeRun,
     next: usize,
+    stop: bool,
     over: bool,
 }
 
@@ -73,8 +75,8 @@ fn fill_on(start: GaugeRun, out: &mut [u8]) -> Block
         let turn = list_one(run, out, used);
         let next = turn.run;
         let place = turn.next;
-        if turn.over {
-            return accept(next, place, true);
+        if turn.stop {
+            return accept(next, place, turn.over);
         }
         run = next;
         used = place;
@@ -108,6 +110,7 @@ fn refuse(why: Refusal) -> Block
         picks: GaugePicks([0u8; 64]),
         count: 0,
         phase: Phase::Down,
+        omit: false,
     };
     Block {
         verdict: Verdict::Refused(why),
@@ -132,7 +135,7 @@ fn check_run(run: GaugeRun) -> Verdict
 // One call of the run, and behind the first `at` bytes the file of the ladder that it hands out, if it does.
 fn list_one(run: GaugeRun, out: &mut [u8], at: usize) -> Turn
     requires { ⌜ at ≤ length (now out) ⌝ }
-    ensures { λ r. ⌜ Turned (gaugeValue run) (now (out .entry)) at (gaugeValue (r .run)) (r .next) (r .over) (now (out .exit)) ⌝ }
+    ensures { λ r. ⌜ Turned (gaugeValue run) (now (out .entry)) at (gaugeValue (r .run)) (r .next) (r .stop) (r .over) (now (out .exit)) ⌝ }
 {
     let step = runs::run_gauges(run, BUDGET);
     let outcome = step.outcome;
@@ -146,22 +149,26 @@ fn list_one(run: GaugeRun, out: &mut [u8], at: usize) -> Turn
             Turn {
                 run: next,
                 next: place,
+                stop: false,
                 over: false,
             }
         }
         Outcome::Spent => Turn {
             run: next,
             next: at,
+            stop: true,
             over: false,
         },
         Outcome::End => Turn {
             run: next,
             next: at,
+            stop: true,
             over: true,
         },
         Outcome::Refused(_) => Turn {
             run: next,
             next: at,
+            stop: true,
             over: true,
         },
     }

@@ -1,11 +1,13 @@
 // The library by example: a file is read, its ladders are listed with a budget of moves, a chain is judged and grown, a table is made from
-// rows and listed by cases. Every answer is looked at before its values are used.
+// rows and listed by cases, and one without the ladders that calibration never needs. Every answer is looked at before its values are used.
 use judge::Judgement;
 use libc::STDOUT_FILENO;
 use refusals::Refusal;
 use refusals::Verdict;
 use runs::Outcome;
+use table::Case;
 use table::Chain;
+use table::Gauge;
 use table::Table;
 use writer::Written;
 
@@ -21,16 +23,18 @@ fn main() {
             // Comment line 1, as a part of the bytes read; empty where there is none.
             say(reader::comment(file, 1));
             say(b"\n");
-            list(t);
+            list(t, false);
             grow(t);
             by_cases();
+            needed();
         }
     }
 }
 
-// Lists the ladders of a table: at most 5 moves a call, and each call goes on from the value that the last one returned.
-fn list(t: Table) {
-    let start = runs::start_gauges(t);
+// Lists the ladders of a table, all or only those that hold a deciding pair: at most 5 moves a call, and each call goes on from the value that
+// the last one returned.
+fn list(t: Table, omit: bool) {
+    let start = runs::start_gauges(t, omit);
     let verdict = start.verdict;
     if let Verdict::Refused(why) = verdict {
         refused(why);
@@ -95,7 +99,7 @@ fn by_cases() {
         return;
     }
     let t = made.table;
-    let start = runs::start_cases(t);
+    let start = runs::start_cases(t, false);
     let started = start.verdict;
     if let Verdict::Refused(why) = started {
         refused(why);
@@ -110,6 +114,29 @@ fn by_cases() {
         Outcome::End => say(b"end\n"),
         Outcome::Refused(why) => refused(why),
     }
+}
+
+// Makes the table of the rows 1, 1 2 and 2 3. Its pair 2:1 does not decide: the rivals of 1:1 strictly contain its own. Of its three ladders
+// the second holds no deciding pair, and a run that omits leaves it out.
+fn needed() {
+    let mut rows = [0u64; 64];
+    rows[0] = 0b001;
+    rows[1] = 0b011;
+    rows[2] = 0b110;
+    let made = Table::from_rows(3, 3, rows);
+    let verdict = made.verdict;
+    if let Verdict::Refused(why) = verdict {
+        refused(why);
+        return;
+    }
+    let t = made.table;
+    let judged = essentials::is_essential(t, Gauge(2), Case(1));
+    match judged {
+        Judgement::Yes => say(b"2:1 decides\n"),
+        Judgement::No => say(b"2:1 does not decide\n"),
+        Judgement::Refused(why) => refused(why),
+    }
+    list(t, true);
 }
 
 // Writes a ladder as the file of a table of its own, to the front of a buffer and from there to standard output.

@@ -34,10 +34,10 @@ judged-refused x n e = record {
   no = λ z. absurd (omega (arith, number-pos x));
 }
 
-judged-yes : {P : Type 0} (n : ℕ) → n ≡ 0 → P → Judged n P Yes
+pub judged-yes : {P : Type 0} (n : ℕ) → n ≡ 0 → P → Judged n P Yes
 judged-yes n e p = record { refusal = sym e; yes = λ d. p; no = λ z d. let w : _≡_ {A = ℕ} 0 1 = cc in absurd (omega arith) }
 
-judged-no : {P : Type 0} (n : ℕ) → n ≡ 0 → ¬ P → Judged n P No
+pub judged-no : {P : Type 0} (n : ℕ) → n ≡ 0 → ¬ P → Judged n P No
 judged-no n e p = record { refusal = sym e; yes = λ d. let w : _≡_ {A = ℕ} 0 1 = cc in absurd (omega arith); no = λ z d. p }
 
 -- a judge has one answer

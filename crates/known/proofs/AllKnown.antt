@@ -26,7 +26,7 @@ use Rattle.judge.specs.private.RowTests.{nested, nestedWith, allNested}
 use Rattle.judge.proofs.NestedTest.{chain-of-test}
 use Rattle.judge.proofs.KnownChains.{k6-within, k6-no-chain, k7-within, k7-chain, k7-not-maximal}
 use Rattle.rules.specs.Machine.{fresh, Given, nothing, hands, ends, move, after}
-use Rattle.rules.specs.Calls.{call}
+use Rattle.rules.specs.Calls.{callBy}
 use Rattle.rules.proofs.Sequences.{All-of}
 use Rattle.lists.specs.PickSequence.{isIn, score, best, takeFrom, pickSeq}
 use Rattle.lists.specs.Lists.{GaugeList}
@@ -116,7 +116,7 @@ known-tables = record { complete = listed; holds = All-of Claim knownTables (λ 
 
 -- ---- the limits
 pub limits-attained : Attained
-unfolding candidates select candidate rulesOut common isIn isProperSubset isSubset meet allBelow chainOf chainRow tabulate call
+unfolding candidates select candidate rulesOut common isIn isProperSubset isSubset meet allBelow chainOf chainRow tabulate callBy
 limits-attained = record {
   start = refl;
   first = _;

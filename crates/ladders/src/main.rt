@@ -128,7 +128,7 @@ fn refuse(n: u64) -> End {
 // Lists the table's maximal chains. A proved loop has to end, and the number of ladders is bounded only by 64!: the loop counts its blocks
 // down from a number that no run uses up; if it did, that is said.
 fn list(t: Table) -> End {
-    let started = runs::start_gauges(t);
+    let started = runs::start_gauges(t, false);
     let mut run = started.run;
     let mut space = io::large_buffer();
     let mut blocks = u64::MAX;

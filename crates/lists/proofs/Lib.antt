@@ -11,5 +11,6 @@ pub mod CandidateTree
 pub mod Listed
 pub mod Demand
 pub mod BothSides
+pub mod Keeping
 pub mod Growing
 pub mod Replaying

@@ -12,7 +12,7 @@ use Rattle.table.proofs.Places.{row-past}
 use Rattle.lists.specs.Picks.{common, remainder}
 
 module _ (rows : List ℕ) where
-  common-sub : (q : List ℕ) (x : ℕ) → common rows q x ⊆ x
+  pub common-sub : (q : List ℕ) (x : ℕ) → common rows q x ⊆ x
   unfolding common
   common-sub [] x = sub-refl x
   common-sub (g ∷ q) x = sub-trans (common rows q (meet x (row rows g))) (meet x (row rows g)) x (common-sub q (meet x (row rows g))) (meet-left x (row rows g))

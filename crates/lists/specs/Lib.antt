@@ -5,3 +5,4 @@ pub mod Growing
 pub mod Picks
 pub mod OnTable
 pub mod Demand
+pub mod Keeping

@@ -32,6 +32,7 @@ use Rattle.refusals.specs.declared.Refusal.the-variants.{
   BufferTooShort,
   NoSuchComment,
   BudgetTooLarge,
+  PairAbsent,
 }
 use Rattle.refusals.specs.declared.Verdict.{Verdict}
 use Rattle.refusals.specs.declared.Verdict.the-variants.{Accepted, Refused}
@@ -41,7 +42,8 @@ pub named : ℕ → Refusal
 named n =
     getD
     (FileTooLong ∷ NotTheBanner ∷ LineTooLong ∷ SizeFields ∷ SizeRange ∷ PairFields ∷ PairRange ∷ PairRepeated ∷ PairCount
-    ∷ TableShape ∷ TableRows ∷ ChainCount ∷ ChainPairs ∷ NotAChain ∷ NotReached ∷ BufferTooShort ∷ NoSuchComment ∷ BudgetTooLarge ∷ [])
+    ∷ TableShape ∷ TableRows ∷ ChainCount ∷ ChainPairs ∷ NotAChain ∷ NotReached ∷ BufferTooShort ∷ NoSuchComment ∷ BudgetTooLarge
+    ∷ PairAbsent ∷ [])
     (n - 1) FileTooLong
 
 pub named-number : (x : Refusal) → named (number x) ≡ x
@@ -64,6 +66,7 @@ named-number NotReached = refl
 named-number BufferTooShort = refl
 named-number NoSuchComment = refl
 named-number BudgetTooLarge = refl
+named-number PairAbsent = refl
 
 pub number-injective : (x y : Refusal) → number x ≡ number y → x ≡ y
 number-injective x y e = sym (named-number x) ∙ ap named e ∙ named-number y

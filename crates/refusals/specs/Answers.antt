@@ -23,11 +23,12 @@ use Rattle.refusals.specs.declared.Refusal.the-variants.{
   BufferTooShort,
   NoSuchComment,
   BudgetTooLarge,
+  PairAbsent,
 }
 use Rattle.refusals.specs.declared.Verdict.{Verdict}
 use Rattle.refusals.specs.declared.Verdict.the-variants.{Accepted, Refused}
 
--- the number of a refusal in 01, "Refused, by the place of the check"
+-- the number of a refusal in 01, "Refused, by the place of the check", and in 02
 abbrev pub number : Refusal → ℕ
 number FileTooLong = 1
 number NotTheBanner = 2
@@ -47,6 +48,8 @@ number NotReached = 15
 number BufferTooShort = 16
 number NoSuchComment = 17
 number BudgetTooLarge = 18
+-- 02, R-2: "the pair named is not in the table"
+number PairAbsent = 19
 
 -- an answer: 01's number, 0 where nothing is refused, and the value
 pub record Answer (A : Type 0) : Type 0 where

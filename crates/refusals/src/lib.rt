@@ -1,6 +1,6 @@
-// The conditions that 01 refuses, and the number that 01 gives each. A further refusal is one more name here, in the order of its number;
-// one more line in `refusal_number`, in `number` of specs/Answers.antt and in `named` and `named-number` of proofs/Answering.antt; and two
-// in the proof of `refusal_number`. No function has a `requires`.
+// The conditions that 01 and its later requests refuse, and the number that each has there. A further refusal is one more name here, in the
+// order of its number; one more line in `refusal_number`, in `number` of specs/Answers.antt and in `named` and `named-number` of
+// proofs/Answering.antt; and two in the proof of `refusal_number`. No function has a `requires`.
 ghost use mathlib.Core.Path.{_≡_};
 ghost use Rattle.refusals.specs.Answers.{number};
 
@@ -24,6 +24,7 @@ pub enum Refusal {
     BufferTooShort,
     NoSuchComment,
     BudgetTooLarge,
+    PairAbsent,
 }
 
 // Whether a check passed, and if not, which refusal it was.
@@ -32,7 +33,7 @@ pub enum Verdict {
     Refused(Refusal),
 }
 
-// The number of a refusal in 01.
+// The number of a refusal.
 pub fn refusal_number(why: Refusal) -> u64
     ensures { λ r. ⌜ r ≡ number why ⌝ }
 {
@@ -55,5 +56,6 @@ pub fn refusal_number(why: Refusal) -> u64
         Refusal::BufferTooShort => 16,
         Refusal::NoSuchComment => 17,
         Refusal::BudgetTooLarge => 18,
+        Refusal::PairAbsent => 19,
     }
 }

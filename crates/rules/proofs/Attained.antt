@@ -9,7 +9,7 @@ use mathlib.Core.List.{List, [], _∷_}
 use Prim.Native.Nat.{ℕ}
 use Rattle.rules.specs.Sequences.{factorial}
 use Rattle.rules.specs.Machine.{fresh}
-use Rattle.rules.specs.Calls.{Call, result, handed, end, movesUntil, isHandOut, isHandOutOrEnd, handouts, call, calls}
+use Rattle.rules.specs.Calls.{Call, result, handed, end, movesUntil, isHandOut, isHandOutOrEnd, handouts, calls, callBy}
 
 abbrev kids : List ℕ → List ℕ
 kids [] = 0 ∷ 1 ∷ []
@@ -19,7 +19,7 @@ abbrev made : List ℕ → List Call
 made bs = calls kids (λ p. p) bs
 
 start-attained : movesUntil isHandOut (made (1 ∷ 2000000 ∷ 0 ∷ 1 ∷ 1 ∷ [])) ≡ 2
-unfolding call
+unfolding callBy
 start-attained = refl
 
 -- a call that hands out, and those after it
@@ -31,7 +31,7 @@ record After (cs : List Call) (y : List ℕ) (k : ℕ) : Type 0 where
   moves : movesUntil isHandOutOrEnd later ≡ k
 
 gap-attained : After (made (2 ∷ 1 ∷ 2000000 ∷ 0 ∷ 1 ∷ 5 ∷ 1 ∷ [])) (0 ∷ []) 3
-unfolding call
+unfolding callBy
 gap-attained = record { first = _; later = _; parts = refl; out = refl; moves = refl }
 
 -- an end closes the window after a hand-out, and not the window of the start
@@ -42,7 +42,7 @@ end-counts : movesUntil isHandOut (result end 2 fresh ∷ result end 1 fresh ∷
 end-counts = refl
 
 all-handed : handouts (made (2 ∷ 3 ∷ 2 ∷ 1 ∷ [])) ≡ (0 ∷ []) ∷ (1 ∷ []) ∷ []
-unfolding call
+unfolding callBy
 all-handed = refl
 
 factorial-3 : factorial 3 ≡ 6

@@ -18,9 +18,9 @@ use lib.Dec.{ltb}
 use lib.ListN.{length}
 use borrow.Author.Tests.{lt-ltb, le-ltb}
 use Rattle.rules.specs.Machine.{cutLast, Phase, Down, Handed, Back, Ended, State, Given, nothing, hands, ends, at, fresh, takeBack, down, back, above}
-use Rattle.rules.specs.Machine.{step, move}
+use Rattle.rules.specs.Machine.{step, move, Move}
 use Rattle.rules.specs.Calls.{Reply, refused, spent, handed, end, Call, result, mostBudget, answered, handouts, movesUntil, isHandOut, isHandOutOrEnd}
-use Rattle.rules.specs.Calls.{proceed, carry, call, callsFrom, calls, stateAfter}
+use Rattle.rules.specs.Calls.{proceed, carry, call, callsFrom, calls, stateAfter, carryBy, callBy}
 use Rattle.rules.specs.private.Fitting.{Fits}
 use Rattle.rules.proofs.Trees.{by-last, cut-snoc, length-snoc, Tree, leaves, kid-fits}
 use Rattle.rules.proofs.Progress.{rest, listed, move-rest, move-fits}
@@ -32,7 +32,7 @@ Costs (hands p) c d = Unit {0}
 Costs ends c d = Unit {0}
 
 -- a move that ends leads to the end
-abbrev Closes : Given → State → Type 0
+abbrev pub Closes : Given → State → Type 0
 Closes nothing s = Unit {0}
 Closes (hands p) s = Unit {0}
 Closes ends s = s ≡ at [] Ended
@@ -44,7 +44,7 @@ Paid spent k c d = k + c ≤ d
 Paid (handed x) k c d = k ≤ d
 Paid end k c d = k ≤ d
 
-abbrev Closed : Reply → State → Type 0
+abbrev pub Closed : Reply → State → Type 0
 Closed (refused j) s = Unit {0}
 Closed spent s = Unit {0}
 Closed (handed x) s = Unit {0}
@@ -107,7 +107,7 @@ module _ (kids : List ℕ → List ℕ) (n : ℕ) (t : Tree kids n) where
   take-closes : (p : List ℕ) → Closes (takeBack (cutLast p) .given) (takeBack (cutLast p) .next)
   take-closes p = by-last (λ (p : List ℕ). Closes (takeBack (cutLast p) .given) (takeBack (cutLast p) .next)) refl (λ p g _. rw (cut-snoc p g) tt) p
 
-  move-closes : (p : List ℕ) (f : Phase) → Fits kids p f → Closes (step kids p f .given) (step kids p f .next)
+  pub move-closes : (p : List ℕ) (f : Phase) → Fits kids p f → Closes (step kids p f .given) (step kids p f .next)
   move-closes p Down v = go (kids p)
     where
       go : (k : List ℕ) → Closes (down p (head? k) .given) (down p (head? k) .next)
@@ -130,14 +130,21 @@ module _ (kids : List ℕ → List ℕ) (n : ℕ) (t : Tree kids n) where
   }
 
 -- ---- one call
+module _ (mv : State → Move) (out : List ℕ → List ℕ) where
+  pub above-by : (b : ℕ) (s : State) → mostBudget < b → callBy mv out b s ≡ result (refused 18) 0 s
+  unfolding callBy
+  above-by b s l = rw (lt-ltb mostBudget b l)
+
+  pub within-by : (b : ℕ) (s : State) → b ≤ mostBudget → callBy mv out b s ≡ carryBy mv out b s
+  unfolding callBy
+  within-by b s l = rw (le-ltb mostBudget b l)
+
 module _ (kids : List ℕ → List ℕ) (out : List ℕ → List ℕ) where
   pub call-above : (b : ℕ) (s : State) → mostBudget < b → call kids out b s ≡ result (refused 18) 0 s
-  unfolding call
-  call-above b s l = rw (lt-ltb mostBudget b l)
+  call-above = above-by (move kids) out
 
   pub call-within : (b : ℕ) (s : State) → b ≤ mostBudget → call kids out b s ≡ carry kids out b s
-  unfolding call
-  call-within b s l = rw (le-ltb mostBudget b l)
+  call-within = within-by (move kids) out
 
   module _ (n : ℕ) where
     -- the sets still to be handed out
@@ -171,7 +178,7 @@ module _ (kids : List ℕ → List ℕ) (out : List ℕ → List ℕ) where
       go none on = tt
 
   call-down : (b : ℕ) (p : List ℕ) → StaysDown (call kids out b (at p Down) .answer) (call kids out b (at p Down) .next)
-  unfolding call
+  unfolding callBy
   call-down b p = go (ltb mostBudget b)
     where
       answers : Bool → Call
@@ -212,7 +219,7 @@ module _ (kids : List ℕ → List ℕ) (out : List ℕ → List ℕ) (n : ℕ) 
       go more ends s′ l = record { fits = l .fits; keeps = ap (map out) (l .keeps); paid = omega (arith, cost-pos n (s .picks) (s .phase)); closed = l .closes }
 
   pub call-law : (b : ℕ) (s : State) → Fits kids (s .picks) (s .phase) → CallLaw kids out n s (call kids out b s)
-  unfolding call
+  unfolding callBy
   call-law b s h = go (ltb mostBudget b)
     where
       go : (x : Bool) → CallLaw kids out n s (cond x (result (refused 18) 0 s) (carry kids out b s))
@@ -236,7 +243,7 @@ module _ (kids : List ℕ → List ℕ) (out : List ℕ → List ℕ) (n : ℕ) 
   calls-front bs = (ahead kids out n (stateAfter kids out bs fresh), calls-keep bs fresh tt ∙ ahead-fresh)
 
   stays-ended : (bs : List ℕ) → stateAfter kids out bs (at [] Ended) ≡ at [] Ended
-  unfolding call
+  unfolding callBy
   stays-ended [] = refl
   stays-ended (b ∷ bs) = rw (again (ltb mostBudget b) b) (stays-ended bs)
     where

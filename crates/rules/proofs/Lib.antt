@@ -7,4 +7,6 @@ pub mod Reach
 pub mod Calls
 pub mod Reports
 pub mod Ends
+pub mod Kept
+pub mod Keeping
 pub mod Attained

@@ -1,15 +1,17 @@
--- Calls of a run with a budget, and lists of them (01, "A run call has a budget .." and the paragraph on demand 3): `kids` as in
--- Machine.antt, and `out p` is the set that is handed out for the picks p. A call's record has its answer, its moves, and the state that
--- the next call gets.
+-- Calls of a run with a budget, and lists of them (01, "A run call has a budget .." and the paragraph on demand 3): `mv` is the rule for a
+-- move, `move kids` of Machine.antt for rules 1 to 5, and `out p` is the set that is handed out for the picks p. A call's record has its
+-- answer, its moves, and the state that the next call gets.
 --
--- In order: an answer and a call; one call; a list of calls; what is read off a list: its hand-outs, and the moves up to a hand-out or an end.
+-- In order: an answer and a call; one call and a list of calls by any rule for moves, then by rules 1 to 5; what is read off a list: its
+-- hand-outs, and the moves up to a hand-out or an end.
 --
--- Elsewhere: what a call says of its moves, Reports.antt; the calls of a table's run, crate `lists`.
+-- Elsewhere: what a call says of its moves, Reports.antt; the run that hands over the kept sets alone, Keeping.antt; the calls of a table's
+-- run, crate `lists`.
 use mathlib.Core.Bool.{Bool, true, false, cond}
 use mathlib.Core.List.{List, [], _∷_}
 use Prim.Native.Nat.{ℕ, zero, suc, _+_}
 use lib.Dec.{ltb}
-use Rattle.rules.specs.Machine.{State, fresh, Given, nothing, hands, ends, move}
+use Rattle.rules.specs.Machine.{State, fresh, Given, nothing, hands, ends, Move, move}
 
 pub data Reply : Type 0 where
   refused : ℕ → Reply
@@ -29,34 +31,51 @@ result a k s = record { answer = a; moves = k; next = s }
 abbrev pub mostBudget : ℕ
 mostBudget = 1000000
 
-module _ (kids : List ℕ → List ℕ) (out : List ℕ → List ℕ) where
+module _ (mv : State → Move) (out : List ℕ → List ℕ) where
   -- a first move that gave g and led to s, and after it, where nothing was given, what `more` answers
-  abbrev pub proceed : (State → Call) → Given → State → Call
-  proceed more nothing s = result (more s .answer) (suc (more s .moves)) (more s .next)
-  proceed more (hands p) s = result (handed (out p)) 1 s
-  proceed more ends s = result end 1 s
+  abbrev pub proceedBy : (State → Call) → Given → State → Call
+  proceedBy more nothing s = result (more s .answer) (suc (more s .moves)) (more s .next)
+  proceedBy more (hands p) s = result (handed (out p)) 1 s
+  proceedBy more ends s = result end 1 s
 
   -- up to b moves: "It stops after the first hand-out or end, and reports the moves made and the next paused value"
-  abbrev pub carry : ℕ → State → Call
-  carry zero s = result spent 0 s
-  carry (suc b) s = proceed (carry b) (move kids s .given) (move kids s .next)
+  abbrev pub carryBy : ℕ → State → Call
+  carryBy zero s = result spent 0 s
+  carryBy (suc b) s = proceedBy (carryBy b) (mv s .given) (mv s .next)
 
   -- one call; "18 above 1,000,000", which makes no move and leaves the state as it is
-  unfoldable pub call : ℕ → State → Call
-  call b s = cond (ltb mostBudget b) (result (refused 18) 0 s) (carry b s)
+  unfoldable pub callBy : ℕ → State → Call
+  callBy b s = cond (ltb mostBudget b) (result (refused 18) 0 s) (carryBy b s)
 
   -- "Each call gets the paused value that the last unrefused call returned, or the fresh one where there is none": calls from s on
+  abbrev pub callsBy : List ℕ → State → List Call
+  callsBy [] s = []
+  callsBy (b ∷ bs) s = callBy b s ∷ callsBy bs (callBy b s .next)
+
+  -- the state after calls from s on
+  abbrev pub stateBy : List ℕ → State → State
+  stateBy [] s = s
+  stateBy (b ∷ bs) s = stateBy bs (callBy b s .next)
+
+-- the same by rules 1 to 5
+module _ (kids : List ℕ → List ℕ) (out : List ℕ → List ℕ) where
+  abbrev pub proceed : (State → Call) → Given → State → Call
+  proceed more g s = proceedBy (move kids) out more g s
+
+  abbrev pub carry : ℕ → State → Call
+  carry b s = carryBy (move kids) out b s
+
+  abbrev pub call : ℕ → State → Call
+  call b s = callBy (move kids) out b s
+
   abbrev pub callsFrom : List ℕ → State → List Call
-  callsFrom [] s = []
-  callsFrom (b ∷ bs) s = call b s ∷ callsFrom bs (call b s .next)
+  callsFrom bs s = callsBy (move kids) out bs s
 
   abbrev pub calls : List ℕ → List Call
   calls bs = callsFrom bs fresh
 
-  -- the state after calls from s on
   abbrev pub stateAfter : List ℕ → State → State
-  stateAfter [] s = s
-  stateAfter (b ∷ bs) s = stateAfter bs (call b s .next)
+  stateAfter bs s = stateBy (move kids) out bs s
 
 -- ---- what is read off a list of calls
 -- what the answers hand out, in turn

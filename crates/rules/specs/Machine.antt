@@ -80,6 +80,11 @@ abbrev pub above : ℕ → List ℕ → List ℕ
 above g [] = []
 above g (x ∷ xs) = cond (ltb g x) (x ∷ above g xs) (above g xs)
 
+-- the state after k moves, each as mv says
+abbrev pub afterBy : (State → Move) → ℕ → State → State
+afterBy mv zero s = s
+afterBy mv (suc k) s = afterBy mv k (mv s .next)
+
 module _ (kids : List ℕ → List ℕ) where
   -- rules 1 to 5; "3. Handed: take back the last pick"; "5. Ended: end again"
   abbrev pub step : List ℕ → Phase → Move
@@ -93,8 +98,7 @@ module _ (kids : List ℕ → List ℕ) where
 
   -- the state after k moves
   abbrev pub after : ℕ → State → State
-  after zero s = s
-  after (suc k) s = after k (move s .next)
+  after k s = afterBy move k s
 
   -- some number of moves, 0 included, leads from a fresh start to s
   pub record Reached (s : State) : Type 0 where

@@ -7,7 +7,7 @@ use native.Mathlib.Omega.{arith}
 use lib.ListN.{length, take}
 use Rattle.table.specs.Tables.{noRows, padded}
 use Rattle.refusals.specs.declared.Refusal.the-variants.{NotReached, BudgetTooLarge}
-use Rattle.rules.specs.Machine.{Phase, State, at}
+use Rattle.rules.specs.Machine.{Phase, State, Move, at}
 use Rattle.rules.specs.Calls.{mostBudget}
 use Rattle.lists.specs.OnTable.{chainOf}
 use Rattle.search.specs.Finding.{within}
@@ -24,10 +24,10 @@ use Rattle.runs.proofs.Holding.{stands-unique, state-is, holds-own}
 use Rattle.runs.proofs.Checking.{Front, stands-filled, stands-picked, made-front, no-phase, legal-of}
 
 -- ---- 15
-module _ (n : ℕ) (rows k : List ℕ) (count : ℕ) (f : Phase) (b : ℕ) (z : Sized n rows) (size : length k ≡ 64)
+module _ (mv : State → Move) (n : ℕ) (rows k : List ℕ) (count : ℕ) (f : Phase) (b : ℕ) (z : Sized n rows) (size : length k ≡ 64)
     (c′ k′ : List ℕ) (o : Report) (e : o ≡ refusedReport NotReached) where
   abbrev Carried : Type 0
-  Carried = CarriesOn (take n rows) k count f b c′ k′ o
+  Carried = CarriesOn mv (take n rows) k count f b c′ k′ o
 
   unreached : ((s : State) → StandsFor (take n rows) k count f s → ⊥) → Carried
   unreached h = record {
@@ -77,8 +77,8 @@ module _ (n : ℕ) (rows k : List ℕ) (count : ℕ) (m : Mode) (b : ℕ) (s : R
   legal = legal-of n rows k count f (h .sized) (h .places) u (s .left) front (h .full) (h .phase)
 
   -- ---- 18
-  pub budget-fails : (c′ k′ : List ℕ) (o : Report) → o ≡ refusedReport BudgetTooLarge → mostBudget < b → CarriesOn r k count f b c′ k′ o
-  budget-fails c′ k′ o e l = record {
+  pub budget-fails : (mv : State → Move) (c′ k′ : List ℕ) (o : Report) → o ≡ refusedReport BudgetTooLarge → mostBudget < b → CarriesOn mv r k count f b c′ k′ o
+  budget-fails mv c′ k′ o e l = record {
     value = λ none. absurd (none from legal);
     large = λ x y w. ap (λ (q : Report). q .outcome) e;
     moves = λ x y w. absurd (omega arith);
@@ -107,14 +107,15 @@ module _ (n : ℕ) (rows k : List ℕ) (count : ℕ) (m : Mode) (b : ℕ) (s : R
     pub may-advance : Holds n rows c k spot
     may-advance = holds-own standing
 
-    pub went-on : (c′ k′ : List ℕ) (o : Report) → b ≤ mostBudget → Advanced n rows c′ k′ b (stateOf k spot) o → CarriesOn r k count f b c′ k′ o
-    went-on c′ k′ o l w = record {
+    pub went-on : (mv : State → Move) (c′ k′ : List ℕ) (o : Report) → b ≤ mostBudget → Advanced mv n rows c′ k′ b (stateOf k spot) o
+        → CarriesOn mv r k count f b c′ k′ o
+    went-on mv c′ k′ o l w = record {
       value = λ none. absurd (none from legal);
       large = λ x y g. absurd (omega arith);
       moves = λ x y g. record {
         to = stateOf k′ (o .spot);
         comes =
-            subst (λ (q : State). ComesOut r b q (o .outcome) (o .moves) (stateOf k′ (o .spot)))
+            subst (λ (q : State). ComesOut mv b q (o .outcome) (o .moves) (stateOf k′ (o .spot)))
             (state-is standing ∙ stands-unique r k count f from x legal y) (w .comes);
         chained = w .holds .chained;
         stands = record { picked = w .holds .picked; counted = w .holds .counted; phased = w .holds .phased; fits = w .holds .fits };

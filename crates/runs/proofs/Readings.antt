@@ -1,10 +1,12 @@
 -- The contracts leave one answer: no two steps are what `Called` says of one value and budget (`called-unique`), and no two structs of the code
 -- read alike. For `Called` two steps that are not different are equal, since each field of a step is decided.
 use mathlib.Core.Path.{_≡_, refl, sym, ap, ap₂, _∙_}
+use mathlib.Core.Bool.{Bool, true, false, cond}
 use mathlib.Core.List.{List, [], _∷_, List-discrete}
 use Prim.Native.Nat.{ℕ}
 use native.Mathlib.Decide.{ℕ-discrete}
 use native.Mathlib.Omega.{arith}
+use lib.Dec.{eqb}
 use lib.ListN.{getD}
 use Rattle.table.specs.Tables.{chainRows, tableRefusal}
 use Rattle.refusals.specs.Answers.{Answer as Reading}
@@ -75,14 +77,25 @@ phase-of Handed = refl
 phase-of (Back g) = refl
 phase-of Ended = refl
 
+flag : Bool → ℕ
+flag b = cond b 1 0
+
+flagOf : ℕ → Bool
+flagOf k = eqb k 1
+
+flag-of : (b : Bool) → flagOf (flag b) ≡ b
+unfolding flagOf flag
+flag-of true = refl
+flag-of false = refl
+
 -- ---- records, field by field
 table-same : (g h c d : ℕ) (r q : List ℕ) → g ≡ h → c ≡ d → r ≡ q
     → _≡_ {A = Table} (record { gauges = g; cases = c; rows = r }) (record { gauges = h; cases = d; rows = q })
 table-same g h c d r q a b e = rw (a, b, e)
 
-value-same : (t u : Table) (p q : List ℕ) (n m : ℕ) (f e : Phase) → t ≡ u → p ≡ q → n ≡ m → f ≡ e
-    → _≡_ {A = Value} (record { table = t; picks = p; count = n; phase = f }) (record { table = u; picks = q; count = m; phase = e })
-value-same t u p q n m f e a b c d = rw (a, b, c, d)
+value-same : (t u : Table) (p q : List ℕ) (n m : ℕ) (f e : Phase) (o z : Bool) → t ≡ u → p ≡ q → n ≡ m → f ≡ e → o ≡ z
+    → _≡_ {A = Value} (record { table = t; picks = p; count = n; phase = f; omit = o }) (record { table = u; picks = q; count = m; phase = e; omit = z })
+value-same t u p q n m f e o z a b c d h = rw (a, b, c, d, h)
 
 step-same : (a b : Reply) (k l : ℕ) (c d : Chain) (v w : Value) → a ≡ b → k ≡ l → c ≡ d → v ≡ w
     → _≡_ {A = Step} (record { answer = a; moves = k; chain = c; next = v }) (record { answer = b; moves = l; chain = d; next = w })
@@ -96,11 +109,13 @@ step-settled r q n =
     (number (λ x. x .moves))
     (ap₂ (λ (g : ℕ) (rows : List ℕ). record { gauges = g; rows = rows }) (number (λ x. x .chain .gauges)) (list (λ x. x .chain .rows)))
     (value-same (r .next .table) (q .next .table) (r .next .picks) (q .next .picks) (r .next .count) (q .next .count) (r .next .phase) (q .next .phase)
+    (r .next .omit) (q .next .omit)
     (table-same (r .next .table .gauges) (q .next .table .gauges) (r .next .table .cases) (q .next .table .cases) (r .next .table .rows) (q .next .table .rows)
     (number (λ x. x .next .table .gauges)) (number (λ x. x .next .table .cases)) (list (λ x. x .next .table .rows)))
     (list (λ x. x .next .picks))
     (number (λ x. x .next .count))
-    (sym (phase-of (r .next .phase)) ∙ ap₂ phaseOf (number (λ x. stage (x .next .phase))) (number (λ x. from (x .next .phase))) ∙ phase-of (q .next .phase)))
+    (sym (phase-of (r .next .phase)) ∙ ap₂ phaseOf (number (λ x. stage (x .next .phase))) (number (λ x. from (x .next .phase))) ∙ phase-of (q .next .phase))
+    (sym (flag-of (r .next .omit)) ∙ ap flagOf (number (λ x. flag (x .next .omit))) ∙ flag-of (q .next .omit)))
   where
     settle : {A : Type 0} (f : Step → A) → Dec (f r ≡ f q) → f r ≡ f q
     settle f (yes e) = e
@@ -153,10 +168,10 @@ gauge-phase-of (gaugeBack g) = refl
 gauge-phase-of gaugeEnded = refl
 
 abbrev gaugeRunOf : Value → GaugeRun
-gaugeRunOf v = record { table = v .table; picks = record { 0 = v .picks }; count = v .count; phase = gaugePhaseOf (v .phase) }
+gaugeRunOf v = record { table = v .table; picks = record { 0 = v .picks }; count = v .count; phase = gaugePhaseOf (v .phase); omit = v .omit }
 
 gauge-run-of : (p : GaugeRun) → gaugeRunOf (gaugeValue p) ≡ p
-gauge-run-of p = ap (λ (f : GaugePhase). record { table = p .table; picks = p .picks; count = p .count; phase = f }) (gauge-phase-of (p .phase))
+gauge-run-of p = ap (λ (f : GaugePhase). record { table = p .table; picks = p .picks; count = p .count; phase = f; omit = p .omit }) (gauge-phase-of (p .phase))
 
 pub gauge-value-injective : (p q : GaugeRun) → gaugeValue p ≡ gaugeValue q → p ≡ q
 gauge-value-injective = injective gaugeValue gaugeRunOf gauge-run-of
@@ -187,10 +202,10 @@ case-phase-of (caseBack c) = refl
 case-phase-of caseEnded = refl
 
 abbrev caseRunOf : Value → CaseRun
-caseRunOf v = record { table = v .table; picks = record { 0 = v .picks }; count = v .count; phase = casePhaseOf (v .phase) }
+caseRunOf v = record { table = v .table; picks = record { 0 = v .picks }; count = v .count; phase = casePhaseOf (v .phase); omit = v .omit }
 
 case-run-of : (p : CaseRun) → caseRunOf (caseValue p) ≡ p
-case-run-of p = ap (λ (f : CasePhase). record { table = p .table; picks = p .picks; count = p .count; phase = f }) (case-phase-of (p .phase))
+case-run-of p = ap (λ (f : CasePhase). record { table = p .table; picks = p .picks; count = p .count; phase = f; omit = p .omit }) (case-phase-of (p .phase))
 
 pub case-value-injective : (p q : CaseRun) → caseValue p ≡ caseValue q → p ≡ q
 case-value-injective = injective caseValue caseRunOf case-run-of

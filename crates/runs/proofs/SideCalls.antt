@@ -1,9 +1,11 @@
 -- A run call of either side, put together from what the core reports: which refusal, or the moves with the chain by gauge rows and the next
--- value (`call-answer`), and the three answers of the functions above the core. Each promises demand 3 beside (`promise`).
+-- value (`call-answer`), and the three answers of the functions above the core. Each promises demand 3, or what is promised of the runs that
+-- omit, beside (`promise`).
 use mathlib.Core.Path.{_≡_, refl, sym, ap, _∙_, subst}
-use mathlib.Core.List.{List, [], _∷_}
+use mathlib.Core.Bool.{Bool}
+use mathlib.Core.List.{List, [], _∷_, map}
 use mathlib.Core.Logic.{⊎-elim}
-use Prim.Native.Nat.{ℕ, _≤_}
+use Prim.Native.Nat.{ℕ, suc, _≤_}
 use native.Mathlib.Decide.{decLe}
 use native.Mathlib.Omega.{arith}
 use lib.ListN.{length, take}
@@ -13,15 +15,15 @@ use Rattle.table.specs.Tables.{Legal, chainRows, blankChain, tableRefusal, padd
 use Rattle.table.specs.declared.Table.{Table}
 use Rattle.table.specs.declared.Chain.{Chain}
 use Rattle.refusals.specs.declared.Refusal.{Refusal}
-use Rattle.rules.specs.Machine.{Phase, State}
+use Rattle.rules.specs.Machine.{Phase, State, Move}
 use Rattle.rules.specs.Calls.{handed, mostBudget}
-use Rattle.rules.proofs.Calls.{call-above, call-within}
+use Rattle.rules.proofs.Calls.{above-by, within-by}
 use Rattle.lists.specs.Lists.{Side}
-use Rattle.lists.specs.Picks.{candidates}
-use Rattle.lists.specs.OnTable.{chainOf, handOut, callOn}
+use Rattle.lists.specs.OnTable.{chainOf, handOut}
 use Rattle.lists.proofs.BothSides.{Fair}
-use Rattle.runs.specs.Paused.{Value, paused}
-use Rattle.runs.specs.Calling.{Step, outcome, refusal, byRules, told, Called, CarriesDemand}
+use Rattle.runs.specs.Paused.{Value, numbered, paused}
+use Rattle.runs.specs.Calling.{Step, outcome, refusal, byRules, told, movesOf, callOf, Called, CarriesDemand}
+use Rattle.runs.specs.Omitting.{CarriesOmits}
 use Rattle.runs.specs.private.Working.{modePhase, StandsFor, Went, CarriesOn, nextOf, stepBy}
 use Rattle.runs.specs.declared.Outcome.{Outcome}
 use Rattle.runs.specs.declared.Outcome.the-variants.{HandedOut, Spent, End, Refused}
@@ -30,8 +32,8 @@ use Rattle.runs.specs.declared.engine.Report.{Report}
 use Rattle.runs.proofs.Outcome.{the-type}
 use Rattle.runs.proofs.Padding.{take-padded}
 use Rattle.runs.proofs.Answered.{stands-paused, paused-stands}
-use Rattle.runs.proofs.Sides.{Works, Ladder}
-use Rattle.runs.proofs.Demands.{carries-demand}
+use Rattle.runs.proofs.Sides.{Ladder}
+use Rattle.runs.proofs.Demands.{carries-demand, carries-omits}
 
 -- the variant of an outcome, and that it is one of some
 abbrev pub tag : Outcome → ℕ
@@ -41,65 +43,67 @@ abbrev pub OneOf : List ℕ → ℕ → Type 0
 OneOf ks k = types.Run.OneOf ks k
 
 -- the report of moves as the public answer
-by-moves : (t : Table) (o : Report) (k rows x : List ℕ) (y : State) (oc : Outcome) → (oc ≡ HandedOut → (rows ≡ padded x) × (length x ≡ t .gauges))
-    → nextOf t o k ≡ paused t y
-    → stepBy t o k rows oc ≡ byRules t (outcome oc x) (o .moves) y
-by-moves t o k rows x y HandedOut e w = let (a, n) = e refl in rw (a, w, take-padded x (t .gauges) (sym n))
-by-moves t o k rows x y Spent e w = rw w
-by-moves t o k rows x y End e w = rw w
-by-moves t o k rows x y (Refused why) e w = refl
+by-moves : (t : Table) (omit : Bool) (o : Report) (k rows x : List ℕ) (y : State) (oc : Outcome)
+    → (oc ≡ HandedOut → (rows ≡ padded x) × (length x ≡ t .gauges))
+    → nextOf t omit o k ≡ paused t omit y
+    → stepBy t omit o k rows oc ≡ byRules t omit (outcome oc x) (o .moves) y
+by-moves t omit o k rows x y HandedOut e w = let (a, n) = e refl in rw (a, w, take-padded x (t .gauges) (sym n))
+by-moves t omit o k rows x y Spent e w = rw w
+by-moves t omit o k rows x y End e w = rw w
+by-moves t omit o k rows x y (Refused why) e w = refl
 
--- a call on the value v of a legal table, where the core worked on the array R, and left the chain c′ and the picks k′
-pub record Worked (side : Table → Side) (v : Value) (b n : ℕ) (R : List ℕ) (m : Mode) (c′ k′ : List ℕ) (o : Report) : Type 0 where
+-- a call on the value v of a legal table, where the core left the chain c′ and the picks k′
+pub record Worked (side : Table → Side) (v : Value) (b : ℕ) (m : Mode) (c′ k′ : List ℕ) (o : Report) : Type 0 where
   pub passed : tableRefusal (v .table) ≡ 0
-  pub works : Works (v .table) (side (v .table)) n R
   pub mode-is : modePhase m ≡ v .phase
-  pub carried : CarriesOn (take n R) (v .picks) (v .count) (modePhase m) b c′ k′ o
+  pub carried : CarriesOn (movesOf (v .table) (side (v .table)) (v .omit)) (side (v .table) .rows) (v .picks) (v .count) (modePhase m) b c′ k′ o
 
-module _ (side : Table → Side) (v : Value) (b n : ℕ) (R : List ℕ) (m : Mode) (c′ k′ : List ℕ) (o : Report) (h : Worked side v b n R m c′ k′ o) where
+module _ (side : Table → Side) (v : Value) (b : ℕ) (m : Mode) (c′ k′ : List ℕ) (o : Report) (h : Worked side v b m c′ k′ o) where
   abbrev t : Table
   t = v .table
 
-  carries : CarriesOn (side t .rows) (v .picks) (v .count) (v .phase) b c′ k′ o
-  carries =
-      subst (λ (f : Phase). CarriesOn (side t .rows) (v .picks) (v .count) f b c′ k′ o) (h .mode-is)
-      (subst (λ (r : List ℕ). CarriesOn r (v .picks) (v .count) (modePhase m) b c′ k′ o) (h .works .rows-are) (h .carried))
+  abbrev mv : State → Move
+  mv = movesOf t (side t) (v .omit)
+
+  carries : CarriesOn mv (side t .rows) (v .picks) (v .count) (v .phase) b c′ k′ o
+  carries = subst (λ (f : Phase). CarriesOn mv (side t .rows) (v .picks) (v .count) f b c′ k′ o) (h .mode-is) (h .carried)
 
   -- what the core reports, whichever it is, is the answer of the call
   call-answer : (rows : List ℕ) → (o .outcome ≡ HandedOut → (p : List ℕ) → c′ ≡ padded (chainOf (side t .rows) p) → Ladder t (side t) p rows)
-      → (r : Step) → r ≡ stepBy t o k′ rows (o .outcome) → Called side v b r
+      → (r : Step) → r ≡ stepBy t (v .omit) o k′ rows (o .outcome) → Called side v b r
   call-answer rows chain r e = record {
     table = λ l. absurd (omega (arith, h .passed));
-    value = λ z none. e ∙ ap (stepBy t o k′ rows) (carries .value (λ s l. none s (stands-paused side v s l)));
+    value = λ z none. e ∙ ap (stepBy t (v .omit) o k′ rows) (carries .value (λ s l. none s (stands-paused side v s l)));
     rules = λ z s p. by-rules s (paused-stands side v s p) (decLe b mostBudget);
   }
     where
-      by-rules : (s : State) → StandsFor (side t .rows) (v .picks) (v .count) (v .phase) s → Dec (b ≤ mostBudget) → r ≡ told t (callOn (side t) b s)
+      by-rules : (s : State) → StandsFor (side t .rows) (v .picks) (v .count) (v .phase) s → Dec (b ≤ mostBudget)
+          → r ≡ told t (v .omit) (callOf t (side t) (v .omit) b s)
       by-rules s l (no y) =
-          e ∙ ap (stepBy t o k′ rows) (carries .large s l (omega arith))
-          ∙ sym (ap (told t) (call-above (candidates (side t .rows)) (handOut (side t)) b s (omega arith)))
+          e ∙ ap (stepBy t (v .omit) o k′ rows) (carries .large s l (omega arith))
+          ∙ sym (ap (told t (v .omit)) (above-by mv (handOut (side t)) b s (omega arith)))
       by-rules s l (yes y) =
-          let w : Went (side t .rows) b s c′ k′ o = carries .moves s l y in
+          let w : Went mv (side t .rows) b s c′ k′ o = carries .moves s l y in
           e
-          ∙ by-moves t o k′ rows (handOut (side t) (w .to .picks)) (w .to) (o .outcome)
+          ∙ by-moves t (v .omit) o k′ rows (handOut (side t) (w .to .picks)) (w .to) (o .outcome)
           (λ d. let a = chain d (w .to .picks) (w .chained) in (a .rows-are, a .size))
           (value-of (w .to) (w .stands))
-          ∙ sym (ap (told t) (call-within (candidates (side t .rows)) (handOut (side t)) b s y ∙ w .comes (handOut (side t))))
+          ∙ sym (ap (told t (v .omit)) (within-by mv (handOut (side t)) b s y ∙ w .comes (handOut (side t))))
         where
-          value-of : (y : State) → StandsFor (side t .rows) k′ (o .spot .count) (modePhase (o .spot .mode)) y → nextOf t o k′ ≡ paused t y
+          value-of : (y : State) → StandsFor (side t .rows) k′ (o .spot .count) (modePhase (o .spot .mode)) y → nextOf t (v .omit) o k′ ≡ paused t (v .omit) y
           value-of y g = same (o .spot .count) (modePhase (o .spot .mode)) k′ (g .picked) (g .counted) (g .phased)
             where
-              same : (c : ℕ) (f : Phase) (k : List ℕ) → k ≡ paused t y .picks → c ≡ paused t y .count → f ≡ paused t y .phase
-                  → record { table = t; picks = k; count = c; phase = f } ≡ paused t y
+              same : (c : ℕ) (f : Phase) (k : List ℕ) → k ≡ padded (map suc (y .picks)) → c ≡ length (y .picks) → f ≡ numbered (y .phase)
+                  → record { table = t; picks = k; count = c; phase = f; omit = v .omit } ≡ paused t (v .omit) y
               same c f k a d g = rw (a, d, g)
 
   -- ---- the answers
   pub call-refused : (why : Refusal) → o .outcome ≡ Refused why → (r : Step) → r ≡ refusal (number why) → Called side v b r
-  call-refused why e r d = call-answer [] (λ x. let z : _≡_ {A = ℕ} 0 1 = cc in absurd (omega arith)) r (d ∙ sym (ap (stepBy t o k′ []) e))
+  call-refused why e r d = call-answer [] (λ x. let z : _≡_ {A = ℕ} 0 1 = cc in absurd (omega arith)) r (d ∙ sym (ap (stepBy t (v .omit) o k′ []) e))
 
   module _ (f : Phase) (ef : f ≡ modePhase (o .spot .mode)) where
     abbrev next : Value
-    next = record { table = t; picks = k′; count = o .spot .count; phase = f }
+    next = record { table = t; picks = k′; count = o .spot .count; phase = f; omit = v .omit }
 
     pub call-handed : (rows : List ℕ) → o .outcome ≡ HandedOut → ((p : List ℕ) → c′ ≡ padded (chainOf (side t .rows) p) → Ladder t (side t) p rows)
         → Called side v b (record {
@@ -116,7 +120,7 @@ module _ (side : Table → Side) (v : Value) (b n : ℕ) (R : List ℕ) (m : Mod
           chain = record { gauges = t .gauges; rows = rows };
           next = next;
         })
-        (rw ef (sym (ap (stepBy t o k′ rows) e)))
+        (rw ef (sym (ap (stepBy t (v .omit) o k′ rows) e)))
 
     pub call-other : (c : Chain) → c ≡ blankChain → OneOf (0 ∷ 1 ∷ 2 ∷ []) (tag (o .outcome)) → OneOf (1 ∷ 2 ∷ 3 ∷ []) (tag (o .outcome))
         → Called side v b (record { answer = outcome (o .outcome) (chainRows c); moves = o .moves; chain = c; next = next })
@@ -128,14 +132,14 @@ module _ (side : Table → Side) (v : Value) (b n : ℕ) (R : List ℕ) (m : Mod
         not-handed k = ⊎-elim (λ i. omega arith) (λ j. ⊎-elim (λ i. omega arith) (λ i. omega arith) j) k
 
         as-step : (oc : Outcome) → OneOf (0 ∷ 1 ∷ 2 ∷ []) (tag oc) → OneOf (1 ∷ 2 ∷ 3 ∷ []) (tag oc)
-            → _≡_ {A = Step} (record { answer = outcome oc (chainRows c); moves = o .moves; chain = c; next = next }) (stepBy t o k′ [] oc)
+            → _≡_ {A = Step} (record { answer = outcome oc (chainRows c); moves = o .moves; chain = c; next = next }) (stepBy t (v .omit) o k′ [] oc)
         as-step HandedOut a d = absurd (not-handed d)
         as-step Spent a d = rw (ec, ef)
         as-step End a d = rw (ec, ef)
         as-step (Refused why) a d = ⊎-elim (λ i. absurd (omega arith)) (λ j. ⊎-elim (λ i. absurd (omega arith)) (λ i. absurd (omega arith)) j) a
 
--- an answer that is what `Called` says carries demand 3 on
+-- an answer that is what `Called` says carries demand 3 on, and what is promised of the runs that omit
 pub promise : (side : Table → Side) (v : Value) (b : ℕ) (r : Step) → (tableRefusal (v .table) ≡ 0 → Legal (v .table) × Fair (v .table) (side (v .table)))
     → Called side v b r
-    → Called side v b r × CarriesDemand side v b r
-promise side v b r f h = (h, carries-demand side v b r f h)
+    → Called side v b r × (CarriesDemand side v b r × CarriesOmits side v b r)
+promise side v b r f h = (h, (carries-demand side v b r f h, carries-omits side v b r f h))

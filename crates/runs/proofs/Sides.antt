@@ -6,7 +6,7 @@ use Prim.Native.Nat.{ℕ, _^_, _≤_, _<_, min}
 use native.Mathlib.Decide.{decLt}
 use native.Mathlib.Omega.{arith}
 use lib.Dec.{not-T}
-use lib.ListN.{length, getD, take}
+use lib.ListN.{length, getD}
 use lib.Seq.{getD-take}
 use lib.Pow.{pow-mono}
 use native.Mathlib.Nat.{min-eq-left}
@@ -31,7 +31,7 @@ use Rattle.lists.specs.OnTable.{chainOf, handOut}
 use Rattle.lists.proofs.ChainRows.{length-chainOf}
 use Rattle.turn.specs.Places.{places}
 use Rattle.turn.proofs.Columns.{places-padded}
-use Rattle.runs.specs.private.Working.{Sized}
+use Rattle.runs.specs.private.Working.{Sized, Works}
 
 -- a legal table's rows are sized
 legal-sized : (t : Table) → Legal t → Sized (t .gauges) (t .rows)
@@ -67,11 +67,6 @@ transpose-padded g x h cs =
         row-past (transpose 64 (padded x)) k (omega (arith, length-transpose 64 (padded x)))
         ∙ sym (row-past (transpose g x) k (omega (arith, length-transpose g x)))
 
--- ---- a side as the core has it: the first n of the rows in the array R
-pub record Works (t : Table) (s : Side) (n : ℕ) (R : List ℕ) : Type 0 where
-  pub sized : Sized n R
-  pub rows-are : take n R ≡ s .rows
-
 -- the ladder of the picks p stands in the array `rows` by gauge rows
 pub record Ladder (t : Table) (s : Side) (p rows : List ℕ) : Type 0 where
   pub rows-are : rows ≡ padded (handOut s p)
@@ -79,7 +74,7 @@ pub record Ladder (t : Table) (s : Side) (p rows : List ℕ) : Type 0 where
 
 module _ (t : Table) (l : Legal t) where
   -- ---- the gauge side
-  pub gauge-works : Works t (gaugeSide t) (t .gauges) (t .rows)
+  pub gauge-works : Works (gaugeSide t) (t .gauges) (t .rows)
   gauge-works = record { sized = legal-sized t l; rows-are = refl }
 
   pub gauge-chain : (p rows : List ℕ) → rows ≡ padded (chainOf (tableRows t) p) → Ladder t (gaugeSide t) p rows
@@ -93,7 +88,7 @@ module _ (t : Table) (l : Legal t) where
       go i (yes y) = sym (getD-take (t .gauges) (t .rows) i 0 y)
       go i (no y) = l .rows-rest i (omega arith) ∙ sym (row-past (tableRows t) i (omega (arith, length-rows t l)))
 
-  pub case-works : (R : List ℕ) → R ≡ padded (transpose (min (t .cases) 64) (places (t .gauges) (t .rows))) → Works t (caseSide t) (t .cases) R
+  pub case-works : (R : List ℕ) → R ≡ padded (transpose (min (t .cases) 64) (places (t .gauges) (t .rows))) → Works (caseSide t) (t .cases) R
   case-works R e = rw exchanged (record { sized = legal-sized (transposeTable t) (exchanged-legal t l); rows-are = rows-exchanged t l })
     where
       exchanged : R ≡ transpose 64 (t .rows)

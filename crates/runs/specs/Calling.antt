@@ -1,19 +1,26 @@
 -- Run calls (01, "A run call has a budget ..", refusals 10, 11, 15 and 18) and demand 3 for them. A call's answer, of either side, reads as a
--- `Step`; `Called` says what it is for every paused value and budget; `Calls` says it of a list of calls, each from the value that the
--- last unrefused call returned; and `KeepsDemand`, which each fresh start promises, is demand 3 of crate `lists` for every such list. Each run
--- call promises it too (`CarriesDemand`), and the fresh starts promise that the two runs share one set (`SharesSet`).
+-- `Step`; `Called` says what it is for every paused value and budget, of a run that omits (02, R-2) or does not; `Calls` says it of a list of
+-- calls, each from the value that the last unrefused call returned; and `KeepsDemand`, which each fresh start of a run that omits nothing
+-- promises, is demand 3 of crate `lists` for every such list. Each run call promises it too (`CarriesDemand`), and the fresh starts promise
+-- that the two runs share one set (`SharesSet`).
+--
+-- Elsewhere: what is promised of the runs that omit, Omitting.antt.
 use mathlib.Core.Path.{_≡_}
+use mathlib.Core.Bool.{Bool, true, false}
 use mathlib.Core.List.{List, [], _∷_, _++_, map, List·Memᴰ}
 use Prim.Native.Nat.{ℕ, _<_}
 use Rattle.table.specs.Tables.{blankChain, chainRows, tableRefusal, padded}
 use Rattle.refusals.specs.Answers.{number}
 use Rattle.table.specs.declared.Table.{Table}
 use Rattle.table.specs.declared.Chain.{Chain}
-use Rattle.rules.specs.Machine.{State, fresh}
-use Rattle.rules.specs.Calls.{Reply, refused, spent, handed, end, Call, answered}
+use Rattle.rules.specs.Machine.{State, fresh, Move, move}
+use Rattle.rules.specs.Calls.{Reply, refused, spent, handed, end, Call, callBy, answered}
 use Rattle.lists.specs.Lists.{Side, gaugeSide, caseSide}
-use Rattle.lists.specs.OnTable.{ReachedOn, callOn, leftOn}
+use Rattle.lists.specs.Picks.{candidates}
+use Rattle.lists.specs.OnTable.{ReachedOn, handOut, leftOn}
+use Rattle.lists.specs.Keeping.{moveOn}
 use Rattle.lists.specs.Demand.{Demand, OneSet}
+use Rattle.conflicts.specs.Omitting.{keepsOf}
 use Rattle.runs.specs.Paused.{Value, paused, blankValue, gaugeValue, caseValue}
 use Rattle.runs.specs.declared.Outcome.{Outcome}
 use Rattle.runs.specs.declared.Outcome.the-variants.{HandedOut, Spent, End, Refused}
@@ -46,27 +53,40 @@ caseStep r = record { answer = outcome (r .outcome) (chainRows (r .chain)); move
 abbrev pub refusal : ℕ → Step
 refusal n = record { answer = refused n; moves = 0; chain = blankChain; next = blankValue }
 
--- what the rules give for a call on the table t: the chain stands by gauge rows where one is handed out, and is blank elsewhere
-abbrev pub byRules : Table → Reply → ℕ → State → Step
-byRules t (refused n) k s = refusal n
-byRules t spent k s = record { answer = spent; moves = k; chain = blankChain; next = paused t s }
-byRules t (handed x) k s = record { answer = handed x; moves = k; chain = record { gauges = t .gauges; rows = padded x }; next = paused t s }
-byRules t end k s = record { answer = end; moves = k; chain = blankChain; next = paused t s }
+-- what the rules give for a call on the table t: the chain stands by gauge rows where one is handed out, and is blank elsewhere; the next
+-- value omits where the last one did
+abbrev pub byRules : Table → Bool → Reply → ℕ → State → Step
+byRules t omit (refused n) k s = refusal n
+byRules t omit spent k s = record { answer = spent; moves = k; chain = blankChain; next = paused t omit s }
+byRules t omit (handed x) k s =
+    record { answer = handed x; moves = k; chain = record { gauges = t .gauges; rows = padded x }; next = paused t omit s }
+byRules t omit end k s = record { answer = end; moves = k; chain = blankChain; next = paused t omit s }
 
-abbrev pub told : Table → Call → Step
-told t c = byRules t (c .answer) (c .moves) (c .next)
+abbrev pub told : Table → Bool → Call → Step
+told t omit c = byRules t omit (c .answer) (c .moves) (c .next)
 
--- v is the paused value of the state s, and some number of moves from a fresh start leads to s
+-- the moves of a run on the side s of the table t: rules 1 to 5; of a run that omits the same ones, which give nothing at a set that holds no
+-- essential pair
+abbrev pub movesOf : Table → Side → Bool → State → Move
+movesOf t s false x = move (candidates (s .rows)) x
+movesOf t s true x = moveOn s (keepsOf t) x
+
+-- one call of the run with the budget b from the state x: `callOn` of a run that omits nothing, else `callKeeping`
+abbrev pub callOf : Table → Side → Bool → ℕ → State → Call
+callOf t s omit b x = callBy (movesOf t s omit) (handOut s) b x
+
+-- v is the paused value of the state s, and some number of moves from a fresh start leads to s; nothing is asked of whether it omits
 pub record PausedAt (side : Table → Side) (v : Value) (s : State) : Type 0 where
   pub reached : ReachedOn (side (v .table)) s
-  pub stands : v ≡ paused (v .table) s
+  pub stands : v ≡ paused (v .table) (v .omit) s
 
 -- r is the answer of a call on the side of v's table, with the budget b: 10 and 11 for the table; then 15 for "a value that no number of
--- moves, 0 included, from a fresh start on its table leads to"; then, with 18 in it, what rules 1 to 5 give
+-- moves, 0 included, from a fresh start on its table leads to"; then, with 18 in it, what the rules give
 pub record Called (side : Table → Side) (v : Value) (b : ℕ) (r : Step) : Type 0 where
   pub table : 0 < tableRefusal (v .table) → r ≡ refusal (tableRefusal (v .table))
   pub value : tableRefusal (v .table) ≡ 0 → ((s : State) → PausedAt side v s → ⊥) → r ≡ refusal 15
-  pub rules : tableRefusal (v .table) ≡ 0 → (s : State) → PausedAt side v s → r ≡ told (v .table) (callOn (side (v .table)) b s)
+  pub rules : tableRefusal (v .table) ≡ 0 → (s : State) → PausedAt side v s
+      → r ≡ told (v .table) (v .omit) (callOf (v .table) (side (v .table)) (v .omit) b s)
 
 -- ---- a list of calls
 -- the value that the next call gets: a refused call changes nothing
@@ -87,13 +107,14 @@ abbrev pub left : Value → List Step → Value
 left v [] = v
 left v (r ∷ rs) = left (kept (r .answer) v (r .next)) rs
 
+-- ---- demand 3, of the runs that omit nothing
 -- demand 3 of a list of calls on the side of the table t from the value v, with budgets bs and answers rs
 pub record RunDemand (side : Table → Side) (t : Table) (v : Value) (bs : List ℕ) (rs : List Step) : Type 0 where
   pub calls : List Call
-  pub answers : rs ≡ map (told t) calls
+  pub answers : rs ≡ map (told t false) calls
   pub demand : Demand t (side t) bs calls
   -- "and after the list the value last returned"
-  pub last : left v rs ≡ paused t (leftOn (side t) bs)
+  pub last : left v rs ≡ paused t false (leftOn (side t) bs)
 
 -- every list of calls from v, the value of a fresh start on the table t, which 10 and 11 do not refuse
 abbrev pub KeepsDemand : (Table → Side) → Table → Value → Type 0
@@ -102,8 +123,9 @@ KeepsDemand side t v = tableRefusal t ≡ 0 → (bs : List ℕ) (rs : List Step)
 -- every list of calls from a fresh start that leaves v, with the call added that has the budget b and the answer r
 abbrev pub CarriesDemand : (Table → Side) → Value → ℕ → Step → Type 0
 CarriesDemand side v b r =
-    tableRefusal (v .table) ≡ 0 → (bs : List ℕ) (rs : List Step) → Calls side (paused (v .table) fresh) bs rs → left (paused (v .table) fresh) rs ≡ v
-    → RunDemand side (v .table) (paused (v .table) fresh) (bs ++ (b ∷ [])) (rs ++ (r ∷ []))
+    tableRefusal (v .table) ≡ 0 → (bs : List ℕ) (rs : List Step) → Calls side (paused (v .table) false fresh) bs rs
+    → left (paused (v .table) false fresh) rs ≡ v
+    → RunDemand side (v .table) (paused (v .table) false fresh) (bs ++ (b ∷ [])) (rs ++ (r ∷ []))
 
 -- ---- the two runs
 -- the sets that the answers hand out, in turn

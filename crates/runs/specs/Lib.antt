@@ -1,4 +1,5 @@
 -- What a reader must believe of paused values and run calls; `Working` is for the core's private steps alone.
 pub mod Paused
 pub mod Calling
+pub mod Omitting
 pub mod private

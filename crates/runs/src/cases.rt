@@ -3,6 +3,8 @@
 use crate::Outcome;
 use crate::engine;
 use crate::engine::Mode;
+use crate::engine::Report;
+use essentials;
 use refusals::Refusal;
 use refusals::Verdict;
 use table;
@@ -11,13 +13,16 @@ use table::Chain;
 use table::Table;
 use turn;
 ghost use mathlib.Core.Path.{_≡_};
-ghost use Rattle.table.specs.Tables.{tableRefusal};
+ghost use mathlib.Core.Bool.{true, false};
+ghost use lib.ListN.{length};
+ghost use Rattle.table.specs.Tables.{tableRefusal, Legal, noRows};
 ghost use Rattle.refusals.specs.Answers.{answer, number};
 ghost use Rattle.rules.specs.Machine.{fresh};
 ghost use Rattle.lists.specs.Lists.{caseSide};
 ghost use Rattle.runs.specs.Paused.{casePhase, caseValue, caseStarted, paused, blankValue};
-ghost use Rattle.runs.specs.Calling.{Called, caseStep, refusal, KeepsDemand, CarriesDemand, SharesSet};
-ghost use Rattle.runs.specs.private.Working.{modePhase};
+ghost use Rattle.runs.specs.Calling.{Called, caseStep, refusal, movesOf, KeepsDemand, CarriesDemand, SharesSet};
+ghost use Rattle.runs.specs.Omitting.{KeepsOmits, CarriesOmits};
+ghost use Rattle.runs.specs.private.Working.{tableOf, modePhase, Works, CarriesOn};
 
 // The phase of a case run (01: "Down, Handed, Back from gauge g, or Ended").
 pub enum CasePhase {
@@ -30,12 +35,14 @@ pub enum CasePhase {
 // The cases picked so far, by number, in the order of the picks; zeros behind them.
 pub struct CasePicks(pub [u8; 64]);
 
-// A paused case run: its table, as it was given and not exchanged, the picks and how many, and the phase.
+// A paused case run: its table, as it was given and not exchanged, the picks and how many, the phase, and whether it omits the ladders that
+// hold no essential pair.
 pub struct CaseRun {
     pub table: Table,
     pub picks: CasePicks,
     pub count: u64,
     pub phase: CasePhase,
+    pub omit: bool,
 }
 
 // The answer of a case run call: the moves made, the maximal chain where one is handed out, by gauge rows, and the next paused value.
@@ -52,30 +59,33 @@ pub struct CaseStart {
     pub run: CaseRun,
 }
 
-// A fresh case run of `t`: 10 and 11 are refused. Every list of run calls from it keeps demand 3, and shares its set with the gauge run.
-pub fn start_cases(t: Table) -> CaseStart
-    ensures { λ r. ⌜ caseStarted r ≡ answer (tableRefusal t) (paused t fresh) blankValue ⌝ }
-    ensures demand { λ r. ⌜ KeepsDemand caseSide t (caseValue (r .run)) ⌝ }
-    ensures shared { λ r. ⌜ SharesSet t (paused t fresh) (caseValue (r .run)) ⌝ }
+// A fresh case run of `t`: 10 and 11 are refused. Every list of run calls from it keeps demand 3, and shares its set with the gauge run; from
+// one that omits, every list of run calls hands out a front of the ladders that hold an essential pair, and all of them by its end.
+pub fn start_cases(t: Table, omit: bool) -> CaseStart
+    ensures { λ r. ⌜ caseStarted r ≡ answer (tableRefusal t) (paused t omit fresh) blankValue ⌝ }
+    ensures demand { λ r. ⌜ (omit ≡ false → KeepsDemand caseSide t (caseValue (r .run))) ⌝ }
+    ensures shared { λ r. ⌜ (omit ≡ false → SharesSet t (paused t false fresh) (caseValue (r .run))) ⌝ }
+    ensures omits { λ r. ⌜ (omit ≡ true → KeepsOmits caseSide t (caseValue (r .run))) ⌝ }
 {
     let checked = table::check_table(t);
     if let Verdict::Refused(why) = checked {
         return CaseStart {
             verdict: Verdict::Refused(why),
-            run: case_run(engine::blank_table()),
+            run: case_run(engine::blank_table(), false),
         };
     }
     CaseStart {
         verdict: Verdict::Accepted,
-        run: case_run(t),
+        run: case_run(t, omit),
     }
 }
 
 // A call of the case run with a budget of moves, on any paused value: 10, 11, 15 and 18 are refused. Added to the calls that led to the
-// value, it keeps demand 3.
+// value, it keeps demand 3, or what is promised of a run that omits.
 pub fn run_cases(p: CaseRun, budget: u64) -> CaseStep
     ensures { λ r. ⌜ Called caseSide (caseValue p) budget (caseStep r) ⌝ }
     ensures demand { λ r. ⌜ CarriesDemand caseSide (caseValue p) budget (caseStep r) ⌝ }
+    ensures omits { λ r. ⌜ CarriesOmits caseSide (caseValue p) budget (caseStep r) ⌝ }
 {
     let t = p.table;
     let checked = table::check_table(t);
@@ -90,8 +100,18 @@ pub fn run_cases(p: CaseRun, budget: u64) -> CaseStep
     let count = p.count;
     let phase = p.phase;
     let mode = case_mode(phase);
-    let n = t.cases as usize;
-    let report = engine::call(&rows, n, &mut chain, &mut picks, count, mode, budget);
+    let report = call_cases(
+        &given,
+        t.gauges,
+        t.cases,
+        p.omit,
+        &rows,
+        &mut chain,
+        &mut picks,
+        count,
+        mode,
+        budget,
+    );
     let outcome = report.outcome;
     if let Outcome::Refused(why) = outcome {
         return case_refusal(why);
@@ -103,6 +123,7 @@ pub fn run_cases(p: CaseRun, budget: u64) -> CaseStep
         picks: CasePicks(picks),
         count: spot.count as u64,
         phase: case_phase(after),
+        omit: p.omit,
     };
     if let Outcome::HandedOut = outcome {
         let turned = turn::turned(&chain, t.cases as usize, t.gauges as usize);
@@ -125,15 +146,50 @@ pub fn run_cases(p: CaseRun, budget: u64) -> CaseStep
     }
 }
 
+// The core's call, on the table with the rows `given`. The essential pairs are looked for only where the run omits; else the core looks at
+// none, and gets any rows. The table comes by reference and is put together only where it is needed: a run that omits nothing copies none.
+fn call_cases(
+    given: &[u64; 64],
+    gauges: u64,
+    cases: u64,
+    omit: bool,
+    rows: &[u64; 64],
+    chain: &mut [u64; 64],
+    picks: &mut [u8; 64],
+    count: u64,
+    mode: Mode,
+    budget: u64,
+) -> Report
+    requires { ⌜ (Legal (tableOf gauges cases (now given))) × (Works (caseSide (tableOf gauges cases (now given))) cases (now rows))
+        × (now chain ≡ noRows) × (length (now picks) ≡ 64) ⌝ }
+    ensures { λ r. ⌜ CarriesOn (movesOf (tableOf gauges cases (now (given .entry))) (caseSide (tableOf gauges cases (now (given .entry)))) omit)
+        (caseSide (tableOf gauges cases (now (given .entry))) .rows) (now (picks .entry)) count (modePhase mode) budget (now (chain .exit))
+        (now (picks .exit)) r ⌝ }
+{
+    let n = cases as usize;
+    if omit {
+        let t = Table {
+            gauges: gauges,
+            cases: cases,
+            rows: *given,
+        };
+        let found = essentials::essential_rows(t);
+        let wanted = turn::turned(&found, gauges as usize, n);
+        return engine::call(rows, n, true, &wanted, chain, picks, count, mode, budget);
+    }
+    engine::call(rows, n, false, rows, chain, picks, count, mode, budget)
+}
+
 // The fresh value on a table.
-fn case_run(table: Table) -> CaseRun
-    ensures { λ r. ⌜ caseValue r ≡ paused table fresh ⌝ }
+fn case_run(table: Table, omit: bool) -> CaseRun
+    ensures { λ r. ⌜ caseValue r ≡ paused table omit fresh ⌝ }
 {
     CaseRun {
         table: table,
         picks: CasePicks([0u8; 64]),
         count: 0,
         phase: CasePhase::Down,
+        omit: omit,
     }
 }
 
@@ -145,7 +201,7 @@ fn case_refusal(why: Refusal) -> CaseStep
         outcome: Outcome::Refused(why),
         moves: 0,
         chain: none,
-        next: case_run(engine::blank_table()),
+        next: case_run(engine::blank_table(), false),
     }
 }
 

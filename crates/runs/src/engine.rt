@@ -1,6 +1,7 @@
 // The core of both runs, on plain numbers: `rows` are the side's rows, of which the first `n` are the table's. A spot is a state of rules 1
 // to 5 with the set of the unpicked gauges; two arrays go along with it: the chain of the picks, which is also where the left cases are
-// found again when a pick is taken back, and the picks by number. A side's call is `call`.
+// found again when a pick is taken back, and the picks by number. A side's call is `call`; where it omits, `wanted` has the pairs of which a
+// chain must hold one to be handed over, by the side's rows, and else it is not looked at.
 use crate::Outcome;
 use refusals::Refusal;
 use replay;
@@ -9,7 +10,7 @@ use sets;
 use table::Chain;
 use table::Table;
 ghost use mathlib.Core.Path.{_≡_};
-ghost use Prim.Native.Nat.{_+_, _<_};
+ghost use Prim.Native.Nat.{_+_, _≤_, _<_};
 ghost use lib.ListN.{length, take, set, getD};
 ghost use lib.Bits.{bitAnd};
 ghost use Rattle.table.specs.Tables.{noRows, padded, blankTable, blankChain};
@@ -19,6 +20,7 @@ ghost use Rattle.search.specs.Finding.{within};
 ghost use Rattle.sets.specs.First.{Without};
 ghost use Rattle.runs.specs.private.Working.{Sized, Holds, Laying, stateOf, placesOf, modePhase, spotDown, movedFrom, Stepped, TakesBack, NumberAt};
 ghost use Rattle.runs.specs.private.Working.{leftAfter, Advanced, Decides, filled as filledPlaces, PhaseIn, CarriesOn, refusedReport};
+ghost use Rattle.runs.specs.private.Working.{moveBy, apart as apartRows, handsOver};
 
 // "A run call has a budget from 0 to 1,000,000 moves" (01).
 const MOST_BUDGET: u64 = 1_000_000;
@@ -64,6 +66,8 @@ pub struct Report {
 pub fn call(
     rows: &[u64; 64],
     n: usize,
+    omit: bool,
+    wanted: &[u64; 64],
     chain: &mut [u64; 64],
     picks: &mut [u8; 64],
     count: u64,
@@ -71,7 +75,8 @@ pub fn call(
     budget: u64,
 ) -> Report
     requires { ⌜ (Sized n (now rows)) × (now chain ≡ noRows) × (length (now picks) ≡ 64) ⌝ }
-    ensures { λ r. ⌜ CarriesOn (take n (now (rows .entry))) (now (picks .entry)) count (modePhase mode) budget (now (chain .exit)) (now (picks .exit)) r ⌝ }
+    ensures { λ r. ⌜ CarriesOn (moveBy (take n (now (rows .entry))) omit (now (wanted .entry))) (take n (now (rows .entry))) (now (picks .entry)) count
+        (modePhase mode) budget (now (chain .exit)) (now (picks .exit)) r ⌝ }
 {
     if filled(picks) != count {
         return refused(Refusal::NotReached);
@@ -96,7 +101,7 @@ pub fn call(
         left: left,
         mode: mode,
     };
-    advance(rows, n, chain, picks, at, budget)
+    advance(rows, n, omit, wanted, chain, picks, at, budget)
 }
 
 // What stands beside a refusal.
@@ -191,17 +196,20 @@ fn wide(number: u8) -> usize
     number as usize
 }
 
-// Up to `budget` moves: it stops after the first hand-out or end.
+// Up to `budget` moves: it stops after the first hand-out or end. A chain that is omitted does not stop it; its move counts.
 fn advance(
     rows: &[u64; 64],
     n: usize,
+    omit: bool,
+    wanted: &[u64; 64],
     chain: &mut [u64; 64],
     picks: &mut [u8; 64],
     at: Spot,
     budget: u64,
 ) -> Report
     requires { ⌜ (Sized n (now rows)) × (Holds n (now rows) (now chain) (now picks) at) ⌝ }
-    ensures { λ r. ⌜ Advanced n (now (rows .entry)) (now (chain .exit)) (now (picks .exit)) budget (stateOf (now (picks .entry)) at) r ⌝ }
+    ensures { λ r. ⌜ Advanced (moveBy (take n (now (rows .entry))) omit (now (wanted .entry))) n (now (rows .entry)) (now (chain .exit))
+        (now (picks .exit)) budget (stateOf (now (picks .entry)) at) r ⌝ }
 {
     let mut spot = at;
     let mut moves: u64 = 0;
@@ -213,11 +221,15 @@ fn advance(
                 moves += 1;
             }
             Moved::Out(next) => {
-                return Report {
-                    outcome: Outcome::HandedOut,
-                    moves: moves + 1,
-                    spot: next,
-                };
+                if hands_over(omit, n, wanted, chain) {
+                    return Report {
+                        outcome: Outcome::HandedOut,
+                        moves: moves + 1,
+                        spot: next,
+                    };
+                }
+                spot = next;
+                moves += 1; // omitted, and counted
             }
             Moved::Over(next) => {
                 return Report {
@@ -233,6 +245,32 @@ fn advance(
         moves: moves,
         spot: spot,
     }
+}
+
+// Whether a chain is handed over: by a run that omits, where it holds a pair that is wanted.
+fn hands_over(omit: bool, n: usize, wanted: &[u64; 64], chain: &[u64; 64]) -> bool
+    requires { ⌜ n ≤ 64 ⌝ }
+    ensures { λ r. ⌜ r ≡ handsOver omit n (now (wanted .entry)) (now (chain .entry)) ⌝ }
+{
+    if omit {
+        return !apart(n, wanted, chain);
+    }
+    true
+}
+
+// Whether no row of the chain has a case of the same row that is wanted.
+fn apart(n: usize, wanted: &[u64; 64], chain: &[u64; 64]) -> bool
+    requires { ⌜ n ≤ 64 ⌝ }
+    ensures { λ r. ⌜ r ≡ apartRows n (now (wanted .entry)) (now (chain .entry)) ⌝ }
+{
+    let mut i: usize = 0;
+    while i < n {
+        if chain[i] & wanted[i] != 0 {
+            return false;
+        }
+        i += 1;
+    }
+    true
 }
 
 // One move by rules 1 to 5.

@@ -3,6 +3,8 @@
 use crate::Outcome;
 use crate::engine;
 use crate::engine::Mode;
+use crate::engine::Report;
+use essentials;
 use refusals::Refusal;
 use refusals::Verdict;
 use table;
@@ -10,13 +12,16 @@ use table::Chain;
 use table::Gauge;
 use table::Table;
 ghost use mathlib.Core.Path.{_≡_};
-ghost use Rattle.table.specs.Tables.{tableRefusal};
+ghost use mathlib.Core.Bool.{true, false};
+ghost use lib.ListN.{length};
+ghost use Rattle.table.specs.Tables.{tableRefusal, Legal, noRows};
 ghost use Rattle.refusals.specs.Answers.{answer, number};
 ghost use Rattle.rules.specs.Machine.{fresh};
 ghost use Rattle.lists.specs.Lists.{gaugeSide};
 ghost use Rattle.runs.specs.Paused.{gaugePhase, gaugeValue, gaugeStarted, paused, blankValue};
-ghost use Rattle.runs.specs.Calling.{Called, gaugeStep, refusal, KeepsDemand, CarriesDemand, SharesSet};
-ghost use Rattle.runs.specs.private.Working.{modePhase};
+ghost use Rattle.runs.specs.Calling.{Called, gaugeStep, refusal, movesOf, KeepsDemand, CarriesDemand, SharesSet};
+ghost use Rattle.runs.specs.Omitting.{KeepsOmits, CarriesOmits};
+ghost use Rattle.runs.specs.private.Working.{tableOf, modePhase, Works, CarriesOn};
 
 // The phase of a gauge run (01: "Down, Handed, Back from gauge g, or Ended").
 pub enum Phase {
@@ -29,12 +34,13 @@ pub enum Phase {
 // The gauges picked so far, by number, in the order of the picks; zeros behind them.
 pub struct GaugePicks(pub [u8; 64]);
 
-// A paused gauge run: its table, the picks and how many, and the phase.
+// A paused gauge run: its table, the picks and how many, the phase, and whether it omits the ladders that hold no essential pair.
 pub struct GaugeRun {
     pub table: Table,
     pub picks: GaugePicks,
     pub count: u64,
     pub phase: Phase,
+    pub omit: bool,
 }
 
 // The answer of a gauge run call: the moves made, the maximal chain where one is handed out, by gauge rows, and the next paused value.
@@ -51,30 +57,33 @@ pub struct GaugeStart {
     pub run: GaugeRun,
 }
 
-// A fresh gauge run of `t`: 10 and 11 are refused. Every list of run calls from it keeps demand 3, and shares its set with the case run.
-pub fn start_gauges(t: Table) -> GaugeStart
-    ensures { λ r. ⌜ gaugeStarted r ≡ answer (tableRefusal t) (paused t fresh) blankValue ⌝ }
-    ensures demand { λ r. ⌜ KeepsDemand gaugeSide t (gaugeValue (r .run)) ⌝ }
-    ensures shared { λ r. ⌜ SharesSet t (gaugeValue (r .run)) (paused t fresh) ⌝ }
+// A fresh gauge run of `t`: 10 and 11 are refused. Every list of run calls from it keeps demand 3, and shares its set with the case run; from
+// one that omits, every list of run calls hands out a front of the ladders that hold an essential pair, and all of them by its end.
+pub fn start_gauges(t: Table, omit: bool) -> GaugeStart
+    ensures { λ r. ⌜ gaugeStarted r ≡ answer (tableRefusal t) (paused t omit fresh) blankValue ⌝ }
+    ensures demand { λ r. ⌜ (omit ≡ false → KeepsDemand gaugeSide t (gaugeValue (r .run))) ⌝ }
+    ensures shared { λ r. ⌜ (omit ≡ false → SharesSet t (gaugeValue (r .run)) (paused t false fresh)) ⌝ }
+    ensures omits { λ r. ⌜ (omit ≡ true → KeepsOmits gaugeSide t (gaugeValue (r .run))) ⌝ }
 {
     let checked = table::check_table(t);
     if let Verdict::Refused(why) = checked {
         return GaugeStart {
             verdict: Verdict::Refused(why),
-            run: gauge_run(engine::blank_table()),
+            run: gauge_run(engine::blank_table(), false),
         };
     }
     GaugeStart {
         verdict: Verdict::Accepted,
-        run: gauge_run(t),
+        run: gauge_run(t, omit),
     }
 }
 
 // A call of the gauge run with a budget of moves, on any paused value: 10, 11, 15 and 18 are refused. Added to the calls that led to the
-// value, it keeps demand 3.
+// value, it keeps demand 3, or what is promised of a run that omits.
 pub fn run_gauges(p: GaugeRun, budget: u64) -> GaugeStep
     ensures { λ r. ⌜ Called gaugeSide (gaugeValue p) budget (gaugeStep r) ⌝ }
     ensures demand { λ r. ⌜ CarriesDemand gaugeSide (gaugeValue p) budget (gaugeStep r) ⌝ }
+    ensures omits { λ r. ⌜ CarriesOmits gaugeSide (gaugeValue p) budget (gaugeStep r) ⌝ }
 {
     let t = p.table;
     let checked = table::check_table(t);
@@ -88,8 +97,17 @@ pub fn run_gauges(p: GaugeRun, budget: u64) -> GaugeStep
     let count = p.count;
     let phase = p.phase;
     let mode = gauge_mode(phase);
-    let n = t.gauges as usize;
-    let report = engine::call(&rows, n, &mut chain, &mut picks, count, mode, budget);
+    let report = call_gauges(
+        t.gauges,
+        t.cases,
+        p.omit,
+        &rows,
+        &mut chain,
+        &mut picks,
+        count,
+        mode,
+        budget,
+    );
     let outcome = report.outcome;
     if let Outcome::Refused(why) = outcome {
         return gauge_refusal(why);
@@ -101,6 +119,7 @@ pub fn run_gauges(p: GaugeRun, budget: u64) -> GaugeStep
         picks: GaugePicks(picks),
         count: spot.count as u64,
         phase: gauge_phase(after),
+        omit: p.omit,
     };
     if let Outcome::HandedOut = outcome {
         return GaugeStep {
@@ -122,15 +141,48 @@ pub fn run_gauges(p: GaugeRun, budget: u64) -> GaugeStep
     }
 }
 
+// The core's call, on the table with these rows. The essential pairs are looked for only where the run omits; else the core looks at none,
+// and gets any rows. The table comes by reference and is put together only where it is needed: a run that omits nothing copies none.
+fn call_gauges(
+    gauges: u64,
+    cases: u64,
+    omit: bool,
+    rows: &[u64; 64],
+    chain: &mut [u64; 64],
+    picks: &mut [u8; 64],
+    count: u64,
+    mode: Mode,
+    budget: u64,
+) -> Report
+    requires { ⌜ (Legal (tableOf gauges cases (now rows))) × (Works (gaugeSide (tableOf gauges cases (now rows))) gauges (now rows))
+        × (now chain ≡ noRows) × (length (now picks) ≡ 64) ⌝ }
+    ensures { λ r. ⌜ CarriesOn (movesOf (tableOf gauges cases (now (rows .entry))) (gaugeSide (tableOf gauges cases (now (rows .entry)))) omit)
+        (gaugeSide (tableOf gauges cases (now (rows .entry))) .rows) (now (picks .entry)) count (modePhase mode) budget (now (chain .exit))
+        (now (picks .exit)) r ⌝ }
+{
+    let n = gauges as usize;
+    if omit {
+        let t = Table {
+            gauges: gauges,
+            cases: cases,
+            rows: *rows,
+        };
+        let wanted = essentials::essential_rows(t);
+        return engine::call(rows, n, true, &wanted, chain, picks, count, mode, budget);
+    }
+    engine::call(rows, n, false, rows, chain, picks, count, mode, budget)
+}
+
 // The fresh value on a table.
-fn gauge_run(table: Table) -> GaugeRun
-    ensures { λ r. ⌜ gaugeValue r ≡ paused table fresh ⌝ }
+fn gauge_run(table: Table, omit: bool) -> GaugeRun
+    ensures { λ r. ⌜ gaugeValue r ≡ paused table omit fresh ⌝ }
 {
     GaugeRun {
         table: table,
         picks: GaugePicks([0u8; 64]),
         count: 0,
         phase: Phase::Down,
+        omit: omit,
     }
 }
 
@@ -142,7 +194,7 @@ fn gauge_refusal(why: Refusal) -> GaugeStep
         outcome: Outcome::Refused(why),
         moves: 0,
         chain: none,
-        next: gauge_run(engine::blank_table()),
+        next: gauge_run(engine::blank_table(), false),
     }
 }
 

@@ -1,7 +1,8 @@
 // Group 1: both runs of a table against the plain lists, call by call, for several lists of budgets, from the fresh start to the first end
-// and once after it.
+// and once after it. The runs that omit likewise, but for the move limits.
 use super::arrays;
 use super::boards;
+use super::essential;
 use super::expect;
 use super::path;
 use super::path::Spot;
@@ -41,6 +42,16 @@ pub fn table(t: Tally) -> Tally {
     let first = tally::same(t, tally::MEMBERS, ours.count, theirs.count);
     let second = tally::same(first, tally::MEMBERS, ours.count, both);
     one_side(one_side(second, plain::GAUGES, ours), plain::CASES, theirs)
+}
+
+// The runs that omit, both sides.
+pub fn omitting(t: Tally) -> Tally {
+    let mut there = t;
+    there.omit = true;
+    there.wanted = essential::pairs(t.pairs);
+    let ours = plain::side_list(plain::GAUGES, t.pairs);
+    let theirs = plain::side_list(plain::CASES, t.pairs);
+    one_side(one_side(there, plain::GAUGES, ours), plain::CASES, theirs)
 }
 
 fn one_side(t: Tally, side: u64, list: List) -> Tally {
@@ -95,7 +106,7 @@ fn one_list(t: Tally, side: u64, sets: &[u64; 64], keys: &[u64; 64], count: u64)
 }
 
 fn begin(t: Tally, side: u64) -> Going {
-    let started = sides::start(side, boards::table_of(t.gauges, t.cases, t.pairs));
+    let started = sides::start(side, boards::table_of(t.gauges, t.cases, t.pairs), t.omit);
     let value = started.value;
     let said = tally::same(
         tally::called(t, 1),
@@ -166,7 +177,7 @@ fn one_call(
         after.tally = expect::refused_call(t, 18, answer);
         return after;
     }
-    let due = path::call(keys, count, spot, budget);
+    let due = path::call(keys, sets, count, t.omit, t.wanted, spot, budget);
     let told = expect::answered(t, spot.moves, due, sets, answer);
     let since = arrays::plus(going.since, answer.moves);
     let next = answer.next;
@@ -185,8 +196,11 @@ fn one_call(
 }
 
 // At most n + 1 moves to the first hand-out, at most 2n + 1 from one to the next or to the first end, or so far; n is the number of picks
-// that a side can make.
+// that a side can make. Not where the run omits: no limit is promised of it.
 fn limit(t: Tally, side: u64, handed: u64, ends: u64, since: u64) -> Tally {
+    if t.omit {
+        return t;
+    }
     if 0 < ends {
         return t;
     }

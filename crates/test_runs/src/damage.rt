@@ -43,7 +43,7 @@ fn one_run(t: Tally, side: u64, flip: u64) -> Tally {
     let mut there = tally::called(t, 1);
     there.pairs = t.pairs ^ flip;
     there.budgets = CHANGES;
-    let started = sides::start(side, own);
+    let started = sides::start(side, own, t.omit);
     let fresh = started.value;
     let mut back = values(there, side, flip, fresh);
     back.pairs = t.pairs;
@@ -119,7 +119,7 @@ fn one_change(
     if path::state_of(spot) != state {
         return expect::refused_call(expect::refused_call(counted, 15, small), 15, large);
     }
-    let due = path::call(keys, count, spot, 3);
+    let due = path::call(keys, sets, count, t.omit, t.wanted, spot, 3);
     expect::refused_call(
         expect::answered(counted, spot.moves, due, sets, small),
         18,

@@ -30,13 +30,15 @@ pub fn a_table(t: Tally, gauges: u64, cases: u64, pairs: u64, table: Table) -> T
 pub fn a_value(t: Tally, state: u64, v: Value) -> Tally {
     let table = v.table;
     let stated = tally::same(t, tally::STATE, state, boards::state_of(v));
-    a_table(stated, t.gauges, t.cases, t.pairs, table)
+    let flagged = tally::holds(stated, tally::OMITS, v.omit == t.omit);
+    a_table(flagged, t.gauges, t.cases, t.pairs, table)
 }
 
 pub fn blank_value(t: Tally, v: Value) -> Tally {
     let table = v.table;
     let stated = tally::same(t, tally::STATE, 0, boards::state_of(v));
-    a_table(stated, 0, 0, 0, table)
+    let flagged = tally::holds(stated, tally::OMITS, !v.omit);
+    a_table(flagged, 0, 0, 0, table)
 }
 
 // An answer that is due where a call begins at a number of moves: what it says, its moves, its chain, and the next value.

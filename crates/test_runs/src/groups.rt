@@ -15,6 +15,8 @@ pub const CHAINS: u64 = 2;
 
 pub const DAMAGE: u64 = 3;
 
+pub const OMITS: u64 = 4;
+
 // How many tables of a larger shape are tried.
 const MANY: u64 = 41;
 
@@ -22,6 +24,9 @@ const MANY: u64 = 41;
 fn one_table(t: Tally, group: u64, all: u64) -> Tally {
     if group == RUNS {
         return calls::table(t);
+    }
+    if group == OMITS {
+        return calls::omitting(t);
     }
     if group == CHAINS {
         return chains::table(t, all);

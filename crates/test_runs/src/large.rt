@@ -85,7 +85,7 @@ fn ladders_of(t: Tally, side: u64, ladders: u64) -> Tally {
 
 // The calls of a run from the fresh start to the first end.
 fn count(t: Tally, side: u64) -> Counting {
-    let started = sides::start(side, boards::table_of(t.gauges, t.cases, t.pairs));
+    let started = sides::start(side, boards::table_of(t.gauges, t.cases, t.pairs), t.omit);
     let value = started.value;
     let named = tally::of_side(tally::called(t, 1), side, 0);
     let mut going = Counting {
@@ -157,7 +157,7 @@ fn one_ladder(t: Tally, side: u64, row: u64, moves: u64) -> Tally {
         rows: [row; 64],
     };
     let named = tally::of_side(tally::about(t, 64, 64, row), side, 1);
-    let started = sides::start(side, table);
+    let started = sides::start(side, table, false);
     let fresh = started.value;
     let begun = tally::same(
         tally::called(named, 1),

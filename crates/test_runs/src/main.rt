@@ -1,12 +1,13 @@
 // The library against a plain lister over all sets of pairs of small tables. Each group writes one line with what it
 // compared; a disagreement shows in its count, and the first of a group is written out before it.
 //
-// `plain` and `path` say what is due, from 01 alone; `sides` is the one file that names the library's types; `tally` counts and compares.
+// `plain`, `path` and `essential` say what is due, from 01 and 02 alone; `sides` is the one file that names the library's types; `tally` counts and compares.
 mod arrays;
 mod boards;
 mod calls;
 mod chains;
 mod damage;
+mod essential;
 mod expect;
 mod groups;
 mod large;
@@ -26,6 +27,7 @@ fn main() {
         b"runs, some larger tables: ",
         groups::larger(tally::fresh(), groups::RUNS),
     );
+    omitting();
     chains_and_growing();
     tally::sum_up(
         b"damaged values: ",
@@ -33,6 +35,11 @@ fn main() {
     );
     refused();
     counts();
+}
+
+fn omitting() {
+    let t = groups::small(tally::fresh(), groups::OMITS);
+    tally::sum_up(b"runs that omit: ", groups::larger(t, groups::OMITS));
 }
 
 fn chains_and_growing() {

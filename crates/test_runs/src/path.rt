@@ -137,17 +137,41 @@ pub fn cut(place: u64) -> u64
     60 - place % 16 * 4
 }
 
-// A call: moves up to the first that gives something, or as many as the budget.
-pub fn call(keys: &[u64; 64], many: u64, s: Spot, budget: u64) -> Spot {
+// A call: moves up to the first that gives something, or as many as the budget. Where the run omits, a set with no pair of `wanted` is not
+// given; `handed` counts it all the same, as its place in the list.
+pub fn call(
+    keys: &[u64; 64],
+    sets: &[u64; 64],
+    many: u64,
+    omit: bool,
+    wanted: u64,
+    s: Spot,
+    budget: u64,
+) -> Spot {
     let mut now = s;
     now.event = SPENT;
     let mut made: u64 = 0;
     while made < budget {
-        now = step(keys, many, now);
+        now = given(step(keys, many, now), sets, omit, wanted);
         if now.event != SPENT {
             return now;
         }
         made += 1;
+    }
+    now
+}
+
+fn given(s: Spot, sets: &[u64; 64], omit: bool, wanted: u64) -> Spot {
+    let mut now = s;
+    if !omit {
+        return now;
+    }
+    if s.event != HANDED_OUT {
+        return now;
+    }
+    let set = arrays::get(sets, std::num::wrapping_sub_u64(s.handed, 1));
+    if set & wanted == 0 {
+        now.event = SPENT;
     }
     now
 }

@@ -125,7 +125,7 @@ fn given(t: Tally, says: u64, table: Table, got: Given) -> Tally {
 
 // A fresh value has the table and the state of no moves; a blank one has that state too.
 fn started(t: Tally, side: u64, says: u64, table: Table) -> Tally {
-    let begun = sides::start(side, table);
+    let begun = sides::start(side, table, false);
     let value = begun.value;
     let own = value.table;
     let got = Given {
@@ -157,6 +157,7 @@ fn value_on(table: Table, count: u64) -> Value {
         picks: [0u8; 64],
         count: count,
         stage: sides::stage_of(path::DOWN, 0),
+        omit: false,
     }
 }
 

@@ -39,6 +39,7 @@ pub struct Value {
     pub picks: [u8; 64],
     pub count: u64,
     pub stage: Stage,
+    pub omit: bool,
 }
 
 // A fresh value, or a refusal.
@@ -67,10 +68,10 @@ pub struct Given {
     pub table: Table,
 }
 
-// A fresh run of a side.
-pub fn start(side: u64, t: Table) -> Started {
+// A fresh run of a side, one that omits or does not.
+pub fn start(side: u64, t: Table, omit: bool) -> Started {
     if side == plain::GAUGES {
-        let begun = runs::start_gauges(t);
+        let begun = runs::start_gauges(t, omit);
         let verdict = begun.verdict;
         let run = begun.run;
         return Started {
@@ -78,7 +79,7 @@ pub fn start(side: u64, t: Table) -> Started {
             value: of_gauges(run),
         };
     }
-    let begun = runs::start_cases(t);
+    let begun = runs::start_cases(t, omit);
     let verdict = begun.verdict;
     let run = begun.run;
     Started {
@@ -104,6 +105,7 @@ fn call_gauges(v: Value, budget: u64) -> Answer {
         picks: GaugePicks(picks),
         count: v.count,
         phase: gauge_phase(stage),
+        omit: v.omit,
     };
     let made = runs::run_gauges(run, budget);
     let outcome = made.outcome;
@@ -126,6 +128,7 @@ fn call_cases(v: Value, budget: u64) -> Answer {
         picks: CasePicks(picks),
         count: v.count,
         phase: case_phase(stage),
+        omit: v.omit,
     };
     let made = runs::run_cases(run, budget);
     let outcome = made.outcome;
@@ -149,6 +152,7 @@ fn of_gauges(run: GaugeRun) -> Value {
         picks: picks,
         count: run.count,
         stage: gauge_stage(phase),
+        omit: run.omit,
     }
 }
 
@@ -162,6 +166,7 @@ fn of_cases(run: CaseRun) -> Value {
         picks: picks,
         count: run.count,
         stage: case_stage(phase),
+        omit: run.omit,
     }
 }
 

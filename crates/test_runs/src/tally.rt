@@ -1,8 +1,8 @@
 // What a group of checks has counted, and the account of its first disagreement: the table, what differed, what was expected and found.
 use super::arrays;
 
-// What a comparison is of, by the place of its name in `say`: the number of chains, the members and the length of a
-// list, what an answer says, moves, a chain, a table, the picks and phase of a value, a move limit, hand-outs, ends, the order of a list.
+// What a comparison is of, by the place of its name in `say`: the number of chains, the members and the length of a list, what an answer
+// says, moves, a chain, a table, the picks and phase of a value, a move limit, hand-outs, ends, the order of a list, whether a value omits.
 pub const CHAINS: u64 = 0;
 
 pub const MEMBERS: u64 = 1;
@@ -27,11 +27,16 @@ pub const ENDS: u64 = 10;
 
 pub const ORDER: u64 = 11;
 
-// The table at hand (its pairs as a board), the side, the list of budgets or for damaged values the change, and the counts.
+pub const OMITS: u64 = 12;
+
+// The table at hand (its pairs as a board), whether its run omits and then its essential pairs, the side, the list of budgets or for damaged
+// values the change, and the counts.
 pub struct Tally {
     pub gauges: u64,
     pub cases: u64,
     pub pairs: u64,
+    pub omit: bool,
+    pub wanted: u64,
     pub side: u64,
     pub budgets: u64,
     pub tables: u64,
@@ -46,6 +51,8 @@ pub fn fresh() -> Tally {
         gauges: 0,
         cases: 0,
         pairs: 0,
+        omit: false,
+        wanted: 0,
         side: 0,
         budgets: 0,
         tables: 0,
@@ -84,6 +91,8 @@ pub fn about(t: Tally, gauges: u64, cases: u64, pairs: u64) -> Tally {
     after.gauges = gauges;
     after.cases = cases;
     after.pairs = pairs;
+    after.omit = false;
+    after.wanted = 0;
     after.side = 0;
     after.budgets = 0;
     after.tables = arrays::plus(t.tables, 1);
@@ -146,15 +155,15 @@ fn report_place(t: Tally) {
     io::write_all(1, b"\n");
 }
 
-// The name of a comparison, of 12 that are 11 bytes each.
+// The name of a comparison, of 13 that are 11 bytes each.
 fn say(what: u64) {
     let names =
-        b"chains    ,members   ,length    ,answer    ,moves     ,chain     ,table     ,state     ,limit     ,hand-outs ,ends      ,order     ,";
+        b"chains    ,members   ,length    ,answer    ,moves     ,chain     ,table     ,state     ,limit     ,hand-outs ,ends      ,order     ,omits     ,";
     say_part(names, what);
 }
 
 fn say_part(names: &[u8], what: u64) {
-    if 11 < what {
+    if 12 < what {
         return;
     }
     let from = (what as usize) * 11;

@@ -5,10 +5,10 @@ use Rattle.bench_runs.proofs.list_gauges.Statement.{statement}
 use Rattle.bench_runs.proofs.list_gauges.Tie as tie
 
 abbrev Inv-loop : tie.InvT-loop
-Inv-loop budget run₀ tally₀ calls₀ run tally calls = Unit {0}
+Inv-loop omit budget run₀ tally₀ calls₀ run tally calls = Unit {0}
 
 abbrev μ-loop : tie.MeasureT-loop
-μ-loop budget run₀ tally₀ calls₀ run tally calls = calls
+μ-loop omit budget run₀ tally₀ calls₀ run tally calls = calls
 
 pub list-gauges-spec : {M : Type 1} → statement M
 list-gauges-spec =

@@ -4,10 +4,10 @@ use Rattle.bench_runs.proofs.repeat_cases.Statement.{statement}
 use Rattle.bench_runs.proofs.repeat_cases.Tie as tie
 
 abbrev Inv-loop : tie.InvT-loop
-Inv-loop t budget repeats tally₀ left₀ tally left = Unit {0}
+Inv-loop t omit budget repeats tally₀ left₀ tally left = Unit {0}
 
 abbrev μ-loop : tie.MeasureT-loop
-μ-loop t budget repeats tally₀ left₀ tally left = left
+μ-loop t omit budget repeats tally₀ left₀ tally left = left
 
 pub repeat-cases-spec : {M : Type 1} → statement M
 repeat-cases-spec =

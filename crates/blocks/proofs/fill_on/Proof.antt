@@ -13,7 +13,7 @@ use Rattle.runs.specs.Paused.{Value, gaugeValue}
 use Rattle.runs.specs.Calling.{PausedAt}
 use Rattle.blocks.specs.Filling.{Filling, longest}
 use Rattle.blocks.specs.private.Turning.{FillsOn}
-use Rattle.blocks.proofs.Fillings.{going, UpToOn, upto-start, turn-on, some-on, full-on, over-on}
+use Rattle.blocks.proofs.Fillings.{going, UpToOn, upto-start, turn-on, some-on, full-on, stop-on, going-on}
 use Rattle.blocks.proofs.fill_on.Statement.{statement}
 use Rattle.blocks.proofs.fill_on.Tie as tie
 
@@ -23,7 +23,7 @@ Lasts v room most used turns = tableRefusal (v .table) ≡ 0 → (s : State) →
 
 abbrev Inv-loop : tie.InvT-loop
 Inv-loop out₀ most run₀ used₀ turns₀ out run used turns =
-    (most ≡ length out₀) × (used ≤ length out) × (length out ≡ length out₀) × UpToOn (gaugeValue run₀) out₀ (going (gaugeValue run) used false) out
+    (most ≡ length out₀) × (used ≤ length out) × (length out ≡ length out₀) × UpToOn (gaugeValue run₀) out₀ false (going (gaugeValue run) used false) out
     × Lasts (gaugeValue run₀) (length out₀) most used turns
 
 abbrev μ-loop : tie.MeasureT-loop
@@ -56,7 +56,7 @@ returns c =
     let l = c .before .before .before in
     let s = l .before .before in
     subst (λ (f : Filling). FillsOn (gaugeValue (s .args .start)) (s .args .out .now) f (l .loop .out)) (sym (c .accept .ensures))
-    (full-on (gaugeValue (s .args .start)) (s .args .out .now) _ (l .loop .out) refl (l .loop .inv .3)
+    (full-on (gaugeValue (s .args .start)) (s .args .out .now) false _ (l .loop .out) refl (l .loop .inv .3)
     (λ ok x p far. omega (arith, far, l .loop .inv .0, c .before .if1 .taken)))
 
 list-one-requires : tie.Need-list-one-requires Inv-loop μ-loop
@@ -67,21 +67,18 @@ room : (k : tie.After-slice-known2 Inv-loop μ-loop) → round k .loop .used + l
 room k = omega (arith, one k .before .before .if1 .left, round k .loop .inv .0, round k .loop .inv .1, round k .loop .inv .2)
 
 turned : (k : tie.After-slice-known2 Inv-loop μ-loop)
-    → UpToOn (gaugeValue (start k .args .start)) (start k .args .out .now)
+    → UpToOn (gaugeValue (start k .args .start)) (start k .args .out .now) (one k .list-one .result .stop)
     (going (gaugeValue (one k .list-one .result .run)) (one k .list-one .result .next) (one k .list-one .result .over)) (one k .list-one .last .1 .0)
 turned k =
     turn-on (gaugeValue (start k .args .start)) (start k .args .out .now) (gaugeValue (round k .loop .run)) (round k .loop .used) (round k .loop .out)
-    (round k .loop .inv .3) _ _ _ _ (one k .list-one .ensures) (round k .loop .inv .2) (room k)
-
-rows-length : (c : tie.Start Inv-loop μ-loop) → length (c .args .start .table .rows) ≡ 64
-rows-length c = search needs
+    (round k .loop .inv .3) _ _ _ _ _ (one k .list-one .ensures) (round k .loop .inv .2) (room k)
 
 some : (k : tie.After-slice-known2 Inv-loop μ-loop) → tableRefusal (start k .args .start .table) ≡ 0
     → (x : State) → PausedAt gaugeSide (gaugeValue (start k .args .start)) x → longest ≤ length (start k .args .out .now)
-    → one k .list-one .result .over ≡ false → round k .loop .used < one k .list-one .result .next
+    → one k .list-one .result .stop ≡ false → round k .loop .used < one k .list-one .result .next
 some k =
     some-on (gaugeValue (start k .args .start)) (start k .args .out .now) (gaugeValue (round k .loop .run)) (round k .loop .used) (round k .loop .out)
-    (round k .loop .inv .3) _ _ _ _ (one k .list-one .ensures) (round k .loop .inv .2) (room k) (rows-length (start k))
+    (round k .loop .inv .3) _ _ _ _ _ (one k .list-one .ensures) (round k .loop .inv .2) (room k)
 
 -- the call left the buffer's length
 long : (k : tie.After-slice-known2 Inv-loop μ-loop) → length (one k .list-one .last .1 .0) ≡ length (round k .loop .out)
@@ -96,10 +93,9 @@ same-length-2 c = let k = c .before .before .before in long k ∙ round k .loop 
 returns-2 : tie.Need-returns-2 Inv-loop μ-loop
 returns-2 c =
     let k = c .before .before .before in
-    let r = one k .list-one .result in
     subst (λ (f : Filling). FillsOn (gaugeValue (start k .args .start)) (start k .args .out .now) f (one k .list-one .last .1 .0))
-    (ap (going (gaugeValue (r .run)) (r .next)) (c .before .if2 .taken) ∙ sym (c .accept2 .ensures))
-    (over-on (gaugeValue (start k .args .start)) (start k .args .out .now) _ _ refl (turned k) (c .before .if2 .taken))
+    (sym (c .accept2 .ensures))
+    (stop-on (gaugeValue (start k .args .start)) (start k .args .out .now) _ _ _ refl (turned k) (c .before .if2 .taken))
 
 sub-turns : tie.Need-sub-turns Inv-loop μ-loop
 sub-turns c = omega arith
@@ -110,13 +106,11 @@ loop-less c = omega arith
 loop-again : tie.Need-loop-again Inv-loop μ-loop
 loop-again c =
     let k = c .before .before in
-    let l = round k .loop in
-    let r = one k .list-one .result in (
+    let l = round k .loop in (
       refl,
       omega (arith, long k, one k .list-one .ensures .inside),
       long k ∙ l .inv .2,
-      subst (λ (f : Filling). UpToOn (gaugeValue (start k .args .start)) (start k .args .out .now) f (one k .list-one .last .1 .0))
-          (ap (going (gaugeValue (r .run)) (r .next)) (c .if2 .left)) (turned k),
+      going-on (gaugeValue (start k .args .start)) (start k .args .out .now) _ _ _ _ _ (turned k) (c .if2 .left),
       λ ok x p far. omega (arith, l .inv .4 ok x p far, some k ok x p far (c .if2 .left), one k .before .before .before .loop-test .taken),
     )
 
@@ -131,7 +125,7 @@ returns-3 c =
     let l = c .before .before in
     let s = l .before .before in
     subst (λ (f : Filling). FillsOn (gaugeValue (s .args .start)) (s .args .out .now) f (l .loop .out)) (sym (c .accept3 .ensures))
-    (full-on (gaugeValue (s .args .start)) (s .args .out .now) _ (l .loop .out) refl (l .loop .inv .3)
+    (full-on (gaugeValue (s .args .start)) (s .args .out .now) false _ (l .loop .out) refl (l .loop .inv .3)
     (λ ok x p far. omega (arith, l .loop .inv .4 ok x p far, l .loop .inv .0, c .before .loop-test .left)))
 
 pub fill-on-spec : {M : Type 1} → statement M

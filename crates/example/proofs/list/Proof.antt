@@ -5,10 +5,10 @@ use Rattle.example.proofs.list.Statement.{statement}
 use Rattle.example.proofs.list.Tie as tie
 
 abbrev Inv-loop : tie.InvT-loop
-Inv-loop t run₀ calls₀ spent end run calls = Unit {0}
+Inv-loop t omit run₀ calls₀ spent end run calls = Unit {0}
 
 abbrev μ-loop : tie.MeasureT-loop
-μ-loop t run₀ calls₀ spent end run calls = calls
+μ-loop t omit run₀ calls₀ spent end run calls = calls
 
 -- The facts of the enums, of the calls and of the arrays lent are found; only the sum that falls is not.
 pub list-spec : {M : Type 1} → statement M

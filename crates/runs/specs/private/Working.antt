@@ -2,17 +2,21 @@
 -- mentions these.
 use mathlib.Core.Path.{_≡_}
 use mathlib.Core.List.{List, map}
-use mathlib.Core.Bool.{Bool, true, false, cond}
+use mathlib.Core.Bool.{Bool, true, false, not, cond}
 use Prim.Native.Nat.{ℕ, zero, suc, _+_, _-_, _^_, _≤_, _<_}
+use lib.Bits.{bitAnd}
 use lib.Dec.{eqb}
 use lib.ListN.{length, take, getD}
 use Rattle.refusals.specs.Answers.{number}
 use Rattle.table.specs.Tables.{noRows, padded, blankChain}
 use Rattle.sets.specs.Sets.{_⊆_, lowest}
+use Rattle.sets.specs.Lists.{allBelow}
 use Rattle.table.specs.Pairs.{row}
 use Rattle.rules.specs.Machine.{Phase, Down, Handed, Back, Ended, State, Move, gives, nothing, hands, ends, move}
-use Rattle.rules.specs.Calls.{spent, handed, end, Call, result, carry, mostBudget}
+use Rattle.rules.specs.Calls.{spent, handed, end, Call, result, carryBy, mostBudget}
+use Rattle.rules.specs.Keeping.{moveKeeping}
 use Rattle.rules.specs.private.Fitting.{Valid, Fits}
+use Rattle.lists.specs.Lists.{Side}
 use Rattle.lists.specs.Picks.{candidates}
 use Rattle.lists.specs.OnTable.{chainOf}
 use Rattle.search.specs.Finding.{candidateIn, within}
@@ -37,6 +41,15 @@ pub record Sized (n : ℕ) (rows : List ℕ) : Type 0 where
   pub size : length rows ≡ 64
   pub inside : (i : ℕ) → row rows i ⊆ lowest 64
   pub rest : (i : ℕ) → n ≤ i → row rows i ≡ 0
+
+-- a table from its parts
+abbrev pub tableOf : ℕ → ℕ → List ℕ → Table
+tableOf gs cs rows = record { gauges = gs; cases = cs; rows = rows }
+
+-- a side as the core has it: the first n of the rows in the array R
+pub record Works (s : Side) (n : ℕ) (R : List ℕ) : Type 0 where
+  pub sized : Sized n R
+  pub rows-are : take n R ≡ s .rows
 
 -- the phase of a spot, by number
 abbrev pub modePhase : Mode → Phase
@@ -104,13 +117,27 @@ NumberAt k count = (count ≤ 64) × (0 < count → (1 ≤ getD k (count - 1) 0)
 unfoldable pub leftAfter : List ℕ → List ℕ → ℕ → ℕ
 leftAfter c k count = cond (eqb count 0) (2 ^ 64 - 1) (getD c (getD k (count - 1) 0 - 1) 0)
 
--- ---- a call's moves
--- b moves from the state x come out as o, in k moves, at the state y, whatever is handed out for the picks there
-abbrev pub ComesOut : List ℕ → ℕ → State → Outcome → ℕ → State → Type 0
-ComesOut r b x o k y = (out : List ℕ → List ℕ) → carry (candidates r) out b x ≡ result (outcome o (out (y .picks))) k y
+-- ---- what a run that omits hands over
+-- none of the first n rows of c has a case of the same row of w
+unfoldable pub apart : ℕ → List ℕ → List ℕ → Bool
+apart n w c = allBelow (λ i. eqb (bitAnd (getD c i 0) (getD w i 0)) 0) n
 
-pub record Advanced (n : ℕ) (rows c k : List ℕ) (b : ℕ) (x : State) (r : Report) : Type 0 where
-  pub comes : ComesOut (take n rows) b x (r .outcome) (r .moves) (stateOf k (r .spot))
+-- whether the set c is handed over: by a run that omits, where it has a pair of w
+unfoldable pub handsOver : Bool → ℕ → List ℕ → List ℕ → Bool
+handsOver omit n w c = cond omit (not (apart n w c)) true
+
+-- the moves of the core on the rows r: rules 1 to 5, and where it omits, nothing is given of a set that has no pair of w
+unfoldable pub moveBy : List ℕ → Bool → List ℕ → State → Move
+moveBy r false w x = move (candidates r) x
+moveBy r true w x = moveKeeping (candidates r) (chainOf r) (handsOver true (length r) w) x
+
+-- ---- a call's moves, by the rule mv
+-- b moves from the state x come out as o, in k moves, at the state y, whatever is handed out for the picks there
+abbrev pub ComesOut : (State → Move) → ℕ → State → Outcome → ℕ → State → Type 0
+ComesOut mv b x o k y = (out : List ℕ → List ℕ) → carryBy mv out b x ≡ result (outcome o (out (y .picks))) k y
+
+pub record Advanced (mv : State → Move) (n : ℕ) (rows c k : List ℕ) (b : ℕ) (x : State) (r : Report) : Type 0 where
+  pub comes : ComesOut mv b x (r .outcome) (r .moves) (stateOf k (r .spot))
   pub holds : Holds n rows c k (r .spot)
 
 -- a call that made m moves before
@@ -118,9 +145,9 @@ abbrev pub later : ℕ → Call → Call
 later m c = result (c .answer) (m + c .moves) (c .next)
 
 -- the first m of b moves from x led to y, and gave nothing
-pub record Ahead (r : List ℕ) (b m : ℕ) (x y : State) : Type 0 where
+pub record Ahead (mv : State → Move) (b m : ℕ) (x y : State) : Type 0 where
   pub most : m ≤ b
-  pub onward : (out : List ℕ → List ℕ) → carry (candidates r) out b x ≡ later m (carry (candidates r) out (b - m) y)
+  pub onward : (out : List ℕ → List ℕ) → carryBy mv out b x ≡ later m (carryBy mv out (b - m) y)
 
 -- ---- checking a value handed in
 -- b decides P
@@ -156,29 +183,29 @@ pub record StandsFor (r k : List ℕ) (count : ℕ) (f : Phase) (s : State) : Ty
   pub fits : Fits (candidates r) (s .picks) (s .phase)
 
 -- b moves from the state x: they come out as the report says, and the arrays and numbers are those of the state that they lead to
-pub record Went (r : List ℕ) (b : ℕ) (x : State) (c′ k′ : List ℕ) (o : Report) : Type 0 where
+pub record Went (mv : State → Move) (r : List ℕ) (b : ℕ) (x : State) (c′ k′ : List ℕ) (o : Report) : Type 0 where
   pub to : State
-  pub comes : ComesOut r b x (o .outcome) (o .moves) to
+  pub comes : ComesOut mv b x (o .outcome) (o .moves) to
   pub chained : c′ ≡ padded (chainOf r (to .picks))
   pub stands : StandsFor r k′ (o .spot .count) (modePhase (o .spot .mode)) to
 
 -- what a call on the value of k, `count` and f comes to: no state is its state; or it is the value of a state, and the budget is too large,
--- or it makes its moves
-pub record CarriesOn (r k : List ℕ) (count : ℕ) (f : Phase) (b : ℕ) (c′ k′ : List ℕ) (o : Report) : Type 0 where
+-- or it makes its moves, by the rule mv
+pub record CarriesOn (mv : State → Move) (r k : List ℕ) (count : ℕ) (f : Phase) (b : ℕ) (c′ k′ : List ℕ) (o : Report) : Type 0 where
   pub value : ((s : State) → StandsFor r k count f s → ⊥) → o .outcome ≡ Refused NotReached
   pub large : (s : State) → StandsFor r k count f s → mostBudget < b → o .outcome ≡ Refused BudgetTooLarge
-  pub moves : (s : State) → StandsFor r k count f s → b ≤ mostBudget → Went r b s c′ k′ o
+  pub moves : (s : State) → StandsFor r k count f s → b ≤ mostBudget → Went mv r b s c′ k′ o
 
 abbrev pub refusedReport : Refusal → Report
 refusedReport why = record { outcome = Refused why; moves = 0; spot = spotDown 0 0 0 }
 
 -- ---- what the functions above the core make of its report, on the table t, with the picks k that it left and the chain by gauge rows
-abbrev pub nextOf : Table → Report → List ℕ → Value
-nextOf t o k = record { table = t; picks = k; count = o .spot .count; phase = modePhase (o .spot .mode) }
+abbrev pub nextOf : Table → Bool → Report → List ℕ → Value
+nextOf t omit o k = record { table = t; picks = k; count = o .spot .count; phase = modePhase (o .spot .mode); omit = omit }
 
-abbrev pub stepBy : Table → Report → List ℕ → List ℕ → Outcome → Step
-stepBy t o k rows HandedOut =
-    record { answer = handed (take (t .gauges) rows); moves = o .moves; chain = record { gauges = t .gauges; rows = rows }; next = nextOf t o k }
-stepBy t o k rows Spent = record { answer = spent; moves = o .moves; chain = blankChain; next = nextOf t o k }
-stepBy t o k rows End = record { answer = end; moves = o .moves; chain = blankChain; next = nextOf t o k }
-stepBy t o k rows (Refused why) = refusal (number why)
+abbrev pub stepBy : Table → Bool → Report → List ℕ → List ℕ → Outcome → Step
+stepBy t omit o k rows HandedOut =
+    record { answer = handed (take (t .gauges) rows); moves = o .moves; chain = record { gauges = t .gauges; rows = rows }; next = nextOf t omit o k }
+stepBy t omit o k rows Spent = record { answer = spent; moves = o .moves; chain = blankChain; next = nextOf t omit o k }
+stepBy t omit o k rows End = record { answer = end; moves = o .moves; chain = blankChain; next = nextOf t omit o k }
+stepBy t omit o k rows (Refused why) = refusal (number why)

@@ -1,20 +1,21 @@
 -- `runs::run_cases` meets its contract: a refused table by its number, and what the core reports at the case side (`call-refused`,
--- `call-handed`, `call-other`); demand 3 goes with each (`promise`).
+-- `call-handed`, `call-other`); demand 3, or what is promised of the runs that omit, goes with each (`promise`).
 use mathlib.Core.Path.{_≡_, refl}
 use mathlib.Core.List.{List}
 use Prim.Native.Nat.{ℕ}
 use borrow.Author.Needs.{needs}
-use lib.ListN.{length, take}
+use lib.ListN.{length}
 use Rattle.table.specs.Tables.{Legal, tableRefusal}
 use Rattle.refusals.proofs.Answering.{number-pos, verdict-refused, verdict-accepted}
 use Rattle.table.proofs.Legality.{legal-of}
 use Rattle.lists.specs.Lists.{caseSide}
 use Rattle.lists.proofs.BothSides.{case-fair}
 use Rattle.runs.specs.Paused.{caseValue}
-use Rattle.runs.specs.Calling.{Step, Called, CarriesDemand}
-use Rattle.runs.specs.private.Working.{modePhase, CarriesOn}
+use Rattle.runs.specs.Calling.{Step, movesOf, Called, CarriesDemand}
+use Rattle.runs.specs.Omitting.{CarriesOmits}
+use Rattle.runs.specs.private.Working.{modePhase, Works, CarriesOn}
 use Rattle.runs.proofs.Answered.{called-refused}
-use Rattle.runs.proofs.Sides.{Works, case-works, case-chain}
+use Rattle.runs.proofs.Sides.{case-works, case-chain}
 use Rattle.runs.proofs.SideCalls.{Worked, call-refused, call-handed, call-other, promise}
 use Rattle.runs.proofs.cases.run_cases.Statement.{statement}
 use Rattle.runs.proofs.cases.run_cases.Tie as tie
@@ -32,10 +33,10 @@ rows c = c .before .before .before
 abbrev told : tie.After-case-mode → tie.After-enum-told
 told c = rows c .before .before .before
 
-abbrev moded : tie.After-call → tie.After-case-mode
-moded c = c .before .before .before .before
+abbrev moded : tie.After-call-cases → tie.After-case-mode
+moded c = c .before .before .before .before .before
 
-abbrev begun : tie.After-case-phase → tie.After-call
+abbrev begun : tie.After-case-phase → tie.After-call-cases
 begun c = c .before .before .before
 
 rows-length : (c : tie.Start) → length (c .args .p .table .rows) ≡ 64
@@ -50,24 +51,26 @@ passed c = verdict-accepted _ _ (c .enum-told .given .1) (checked c .check-table
 legal : (c : tie.After-enum-told) → Legal (start (checked c) .args .p .table)
 legal c = legal-of (start (checked c) .args .p .table) (rows-length (start (checked c))) (passed c)
 
--- an answer that is what `Called` says carries demand 3 on
+-- an answer that is what `Called` says carries the promises on
 answered : (c : tie.Start) (r : Step) → Called caseSide (caseValue (c .args .p)) (c .args .budget) r
-    → Called caseSide (caseValue (c .args .p)) (c .args .budget) r × CarriesDemand caseSide (caseValue (c .args .p)) (c .args .budget) r
+    → Called caseSide (caseValue (c .args .p)) (c .args .budget) r × (CarriesDemand caseSide (caseValue (c .args .p)) (c .args .budget) r
+    × CarriesOmits caseSide (caseValue (c .args .p)) (c .args .budget) r)
 answered c r =
     promise caseSide (caseValue (c .args .p)) (c .args .budget) r (λ ok.
     let l = legal-of (c .args .p .table) (rows-length c) ok in
     (l, case-fair (c .args .p .table) l))
 
 -- the core's rows are the side's
-works : (c : tie.After-case-mode) → (let t = start (checked (told c)) .args .p .table in Works t (caseSide t) (t .cases) (rows c .turned .result))
+works : (c : tie.After-case-mode) → (let t = start (checked (told c)) .args .p .table in Works (caseSide t) (t .cases) (rows c .turned .result))
 works c = case-works _ (legal (told c)) _ (rows c .turned .ensures)
 
--- what the core worked on, and reported
-worked : (c : tie.After-call) {chain picks : List ℕ}
+-- what the core reported
+worked : (c : tie.After-call-cases) {chain picks : List ℕ}
     → (let m = moded c in let p = start (checked (told m)) .args .p in let b = start (checked (told m)) .args .budget in
-    CarriesOn (take (p .table .cases) (rows m .turned .result)) (p .picks .0) (p .count) (modePhase (m .case-mode .result)) b chain picks (c .call .result)
-    → Worked caseSide (caseValue p) b (p .table .cases) (rows m .turned .result) (m .case-mode .result) chain picks (c .call .result))
-worked c h = let m = moded c in record { passed = passed (told m); works = works m; mode-is = m .case-mode .ensures; carried = h }
+    CarriesOn (movesOf (p .table) (caseSide (p .table)) (p .omit)) (caseSide (p .table) .rows) (p .picks .0) (p .count)
+    (modePhase (m .case-mode .result)) b chain picks (c .call-cases .result)
+    → Worked caseSide (caseValue p) b (m .case-mode .result) chain picks (c .call-cases .result))
+worked c h = let m = moded c in record { passed = passed (told m); mode-is = m .case-mode .ensures; carried = h }
 
 check-table-requires : tie.Need-check-table-requires
 check-table-requires c κs = search needs
@@ -94,8 +97,8 @@ turned-requires c κs = search needs
 case-mode-requires : tie.Need-case-mode-requires
 case-mode-requires c κs = search needs
 
-call-requires : tie.Need-call-requires
-call-requires c κs = let m = c .before .before .before in (works m .sized, refl, picks-length (start (checked (told m))))
+call-cases-requires : tie.Need-call-cases-requires
+call-cases-requires c κs = let m = c .before .before .before .before in (legal (told m), works m, refl, picks-length (start (checked (told m))))
 
 enum-known-outcome : tie.Need-enum-known-outcome
 enum-known-outcome c = search needs
@@ -107,7 +110,7 @@ returns-2 : tie.Need-returns-2
 returns-2 c =
     let o = c .before .before in
     let k = o .before .before in
-    answered (start (checked (told (moded k)))) _ (call-refused _ _ _ _ _ _ _ _ _ (worked k (k .call .ensures)) _ (o .outcome .given .1) _
+    answered (start (checked (told (moded k)))) _ (call-refused _ _ _ _ _ _ _ (worked k (k .call-cases .ensures)) _ (o .outcome .given .1) _
     (c .case-refusal2 .ensures))
 
 case-phase-requires : tie.Need-case-phase-requires
@@ -125,7 +128,7 @@ returns-3 c =
     let f = e .before .before in
     let k = begun f in
     answered (start (checked (told (moded k)))) _
-    (call-handed _ _ _ _ _ _ _ _ _ (worked k (k .call .ensures)) _ (f .case-phase .ensures) _ (e .enum-told2 .given .1)
+    (call-handed _ _ _ _ _ _ _ (worked k (k .call-cases .ensures)) _ (f .case-phase .ensures) _ (e .enum-told2 .given .1)
     (λ p d. case-chain _ (legal (told (moded k))) p _ _ d (c .turned2 .ensures)))
 
 blank-chain-requires : tie.Need-blank-chain-requires
@@ -136,7 +139,7 @@ returns-4 c =
     let f = c .before .before in
     let k = begun f in
     answered (start (checked (told (moded k)))) _
-    (call-other _ _ _ _ _ _ _ _ _ (worked k (k .call .ensures)) _ (f .case-phase .ensures) _ (c .blank-chain .ensures) (f .before .before .match2 .keys2)
+    (call-other _ _ _ _ _ _ _ (worked k (k .call-cases .ensures)) _ (f .case-phase .ensures) _ (c .blank-chain .ensures) (f .before .before .match2 .keys2)
     (c .before .match3 .keys2))
 
 pub run-cases-spec : {M : Type 1} → statement M
@@ -150,7 +153,7 @@ run-cases-spec =
     enum-told
     turned-requires
     case-mode-requires
-    call-requires
+    call-cases-requires
     enum-known-outcome
     case-refusal-requires-2
     returns-2

@@ -30,7 +30,7 @@ returns : tie.Need-returns
 returns c =
     let f = c .before .before in
     let s = call f in
-    filled-fails _ _ _ _ _ (s .args .budget) (s .pre .0) (s .pre .2) _ _ _ (c .refused .ensures) _ (f .filled .ensures) (c .before .if1 .taken)
+    filled-fails _ _ _ _ _ _ (s .args .budget) (s .pre .0) (s .pre .2) _ _ _ (c .refused .ensures) _ (f .filled .ensures) (c .before .if1 .taken)
 
 replay-requires : tie.Need-replay-requires
 replay-requires c κs = search needs
@@ -42,7 +42,7 @@ returns-2 : tie.Need-returns-2
 returns-2 c =
     let p = c .before .before .before in
     let s = call (counted p) in
-    replay-fails _ _ _ _ _ (s .args .budget) (s .pre .0) (s .pre .2) _ _ _ (c .refused2 .ensures) _ (p .replay .ensures) (not-true _ (c .before .if2 .taken))
+    replay-fails _ _ _ _ _ _ (s .args .budget) (s .pre .0) (s .pre .2) _ _ _ (c .refused2 .ensures) _ (p .replay .ensures) (not-true _ (c .before .if2 .taken))
 
 phase-fits-requires : tie.Need-phase-fits-requires
 phase-fits-requires c κs = search needs
@@ -54,7 +54,7 @@ returns-3 : tie.Need-returns-3
 returns-3 c =
     let h = c .before .before in
     let s = call (counted (replayed h)) in
-    phase-fails _ _ _ _ _ (s .args .budget) (s .pre .0) (s .pre .2) _ _ _ (c .refused3 .ensures) _ (replayed h .replay .ensures)
+    phase-fails _ _ _ _ _ _ (s .args .budget) (s .pre .0) (s .pre .2) _ _ _ (c .refused3 .ensures) _ (replayed h .replay .ensures)
     (not-false _ (h .before .if2 .left)) _
     (h .phase-fits .ensures) (not-true _ (c .before .if3 .taken))
 
@@ -80,7 +80,7 @@ refused-requires-4 : tie.Need-refused-requires-4
 refused-requires-4 c κs = search needs
 
 returns-4 : tie.Need-returns-4
-returns-4 c = let t = c .before .before in budget-fails _ _ _ _ _ _ _ (passed t) _ _ _ (c .refused4 .ensures) (omega (arith, c .before .if4 .taken))
+returns-4 c = let t = c .before .before in budget-fails _ _ _ _ _ _ _ (passed t) _ _ _ _ (c .refused4 .ensures) (omega (arith, c .before .if4 .taken))
 
 lay-requires : tie.Need-lay-requires
 lay-requires c κs =
@@ -97,7 +97,7 @@ advance-requires c κs =
 returns-5 : tie.Need-returns-5
 returns-5 c =
     let l = c .before .before .before in
-    went-on _ _ _ _ _ _ _ (passed (phased l)) _ (l .lay .ensures) _ _ _ (omega (arith, l .before .before .before .if4 .left)) (c .advance .ensures)
+    went-on _ _ _ _ _ _ _ (passed (phased l)) _ (l .lay .ensures) _ _ _ _ (omega (arith, l .before .before .before .if4 .left)) (c .advance .ensures)
 
 pub call-spec : {M : Type 1} → statement M
 call-spec =

@@ -1,20 +1,21 @@
 -- `runs::run_gauges` meets its contract: a refused table by its number, and what the core reports at the gauge side (`call-refused`,
--- `call-handed`, `call-other`); demand 3 goes with each (`promise`).
+-- `call-handed`, `call-other`); demand 3, or what is promised of the runs that omit, goes with each (`promise`).
 use mathlib.Core.Path.{_≡_, refl}
 use mathlib.Core.List.{List}
 use Prim.Native.Nat.{ℕ}
 use borrow.Author.Needs.{needs}
-use lib.ListN.{length, take}
+use lib.ListN.{length}
 use Rattle.table.specs.Tables.{Legal, tableRefusal}
 use Rattle.refusals.proofs.Answering.{number-pos, verdict-refused, verdict-accepted}
 use Rattle.table.proofs.Legality.{legal-of}
 use Rattle.lists.specs.Lists.{gaugeSide}
 use Rattle.lists.proofs.BothSides.{gauge-fair}
 use Rattle.runs.specs.Paused.{gaugeValue}
-use Rattle.runs.specs.Calling.{Step, Called, CarriesDemand}
-use Rattle.runs.specs.private.Working.{modePhase, CarriesOn}
+use Rattle.runs.specs.Calling.{Step, movesOf, Called, CarriesDemand}
+use Rattle.runs.specs.Omitting.{CarriesOmits}
+use Rattle.runs.specs.private.Working.{modePhase, Works, CarriesOn}
 use Rattle.runs.proofs.Answered.{called-refused}
-use Rattle.runs.proofs.Sides.{Works, gauge-works, gauge-chain}
+use Rattle.runs.proofs.Sides.{gauge-works, gauge-chain}
 use Rattle.runs.proofs.SideCalls.{Worked, call-refused, call-handed, call-other, promise}
 use Rattle.runs.proofs.gauges.run_gauges.Statement.{statement}
 use Rattle.runs.proofs.gauges.run_gauges.Tie as tie
@@ -29,10 +30,10 @@ checked c = c .before .before
 abbrev told : tie.After-gauge-mode → tie.After-enum-told
 told c = c .before .before .before .before
 
-abbrev moded : tie.After-call → tie.After-gauge-mode
+abbrev moded : tie.After-call-gauges → tie.After-gauge-mode
 moded c = c .before .before .before .before
 
-abbrev begun : tie.After-gauge-phase → tie.After-call
+abbrev begun : tie.After-gauge-phase → tie.After-call-gauges
 begun c = c .before .before .before
 
 rows-length : (c : tie.Start) → length (c .args .p .table .rows) ≡ 64
@@ -47,24 +48,26 @@ passed c = verdict-accepted _ _ (c .enum-told .given .1) (checked c .check-table
 legal : (c : tie.After-enum-told) → Legal (start (checked c) .args .p .table)
 legal c = legal-of (start (checked c) .args .p .table) (rows-length (start (checked c))) (passed c)
 
--- an answer that is what `Called` says carries demand 3 on
+-- an answer that is what `Called` says carries the promises on
 answered : (c : tie.Start) (r : Step) → Called gaugeSide (gaugeValue (c .args .p)) (c .args .budget) r
-    → Called gaugeSide (gaugeValue (c .args .p)) (c .args .budget) r × CarriesDemand gaugeSide (gaugeValue (c .args .p)) (c .args .budget) r
+    → Called gaugeSide (gaugeValue (c .args .p)) (c .args .budget) r × (CarriesDemand gaugeSide (gaugeValue (c .args .p)) (c .args .budget) r
+    × CarriesOmits gaugeSide (gaugeValue (c .args .p)) (c .args .budget) r)
 answered c r =
     promise gaugeSide (gaugeValue (c .args .p)) (c .args .budget) r (λ ok.
     let l = legal-of (c .args .p .table) (rows-length c) ok in
     (l, gauge-fair (c .args .p .table) l))
 
 -- the core's rows are the side's
-works : (c : tie.After-gauge-mode) → (let t = start (checked (told c)) .args .p .table in Works t (gaugeSide t) (t .gauges) (t .rows))
+works : (c : tie.After-gauge-mode) → (let t = start (checked (told c)) .args .p .table in Works (gaugeSide t) (t .gauges) (t .rows))
 works c = gauge-works _ (legal (told c))
 
--- what the core worked on, and reported
-worked : (c : tie.After-call) {chain picks : List ℕ}
+-- what the core reported
+worked : (c : tie.After-call-gauges) {chain picks : List ℕ}
     → (let m = moded c in let p = start (checked (told m)) .args .p in let b = start (checked (told m)) .args .budget in
-    CarriesOn (take (p .table .gauges) (p .table .rows)) (p .picks .0) (p .count) (modePhase (m .gauge-mode .result)) b chain picks (c .call .result)
-    → Worked gaugeSide (gaugeValue p) b (p .table .gauges) (p .table .rows) (m .gauge-mode .result) chain picks (c .call .result))
-worked c h = let m = moded c in record { passed = passed (told m); works = works m; mode-is = m .gauge-mode .ensures; carried = h }
+    CarriesOn (movesOf (p .table) (gaugeSide (p .table)) (p .omit)) (gaugeSide (p .table) .rows) (p .picks .0) (p .count)
+    (modePhase (m .gauge-mode .result)) b chain picks (c .call-gauges .result)
+    → Worked gaugeSide (gaugeValue p) b (m .gauge-mode .result) chain picks (c .call-gauges .result))
+worked c h = let m = moded c in record { passed = passed (told m); mode-is = m .gauge-mode .ensures; carried = h }
 
 check-table-requires : tie.Need-check-table-requires
 check-table-requires c κs = search needs
@@ -88,8 +91,8 @@ enum-told c = search needs
 gauge-mode-requires : tie.Need-gauge-mode-requires
 gauge-mode-requires c κs = search needs
 
-call-requires : tie.Need-call-requires
-call-requires c κs = let m = c .before .before .before in (works m .sized, refl, picks-length (start (checked (told m))))
+call-gauges-requires : tie.Need-call-gauges-requires
+call-gauges-requires c κs = let m = c .before .before .before in (legal (told m), works m, refl, picks-length (start (checked (told m))))
 
 enum-known-outcome : tie.Need-enum-known-outcome
 enum-known-outcome c = search needs
@@ -101,7 +104,7 @@ returns-2 : tie.Need-returns-2
 returns-2 c =
     let o = c .before .before in
     let k = o .before .before in
-    answered (start (checked (told (moded k)))) _ (call-refused _ _ _ _ _ _ _ _ _ (worked k (k .call .ensures)) _ (o .outcome .given .1) _
+    answered (start (checked (told (moded k)))) _ (call-refused _ _ _ _ _ _ _ (worked k (k .call-gauges .ensures)) _ (o .outcome .given .1) _
     (c .gauge-refusal2 .ensures))
 
 gauge-phase-requires : tie.Need-gauge-phase-requires
@@ -116,7 +119,7 @@ returns-3 c =
     let f = e .before .before in
     let k = begun f in
     answered (start (checked (told (moded k)))) _
-    (call-handed _ _ _ _ _ _ _ _ _ (worked k (k .call .ensures)) _ (f .gauge-phase .ensures) _ (e .enum-told2 .given .1)
+    (call-handed _ _ _ _ _ _ _ (worked k (k .call-gauges .ensures)) _ (f .gauge-phase .ensures) _ (e .enum-told2 .given .1)
     (λ p d. gauge-chain _ (legal (told (moded k))) p _ d))
 
 blank-chain-requires : tie.Need-blank-chain-requires
@@ -127,7 +130,7 @@ returns-4 c =
     let f = c .before .before in
     let k = begun f in
     answered (start (checked (told (moded k)))) _
-    (call-other _ _ _ _ _ _ _ _ _ (worked k (k .call .ensures)) _ (f .gauge-phase .ensures) _ (c .blank-chain .ensures) (f .before .before .match2 .keys2)
+    (call-other _ _ _ _ _ _ _ (worked k (k .call-gauges .ensures)) _ (f .gauge-phase .ensures) _ (c .blank-chain .ensures) (f .before .before .match2 .keys2)
     (c .before .match3 .keys2))
 
 pub run-gauges-spec : {M : Type 1} → statement M
@@ -140,7 +143,7 @@ run-gauges-spec =
     returns
     enum-told
     gauge-mode-requires
-    call-requires
+    call-gauges-requires
     enum-known-outcome
     gauge-refusal-requires-2
     returns-2

@@ -1,5 +1,7 @@
--- `runs::start_gauges` meets its contract: the answer is that of the check; demand 3 and the shared set are `run-demand` and `shares-set`.
-use mathlib.Core.Path.{_≡_, refl}
+-- `runs::start_gauges` meets its contract: the answer is that of the check; demand 3, the shared set and what is promised of the runs that
+-- omit are `run-demand`, `shares-set` and `run-omits`.
+use mathlib.Core.Path.{_≡_, refl, ap, _∙_}
+use mathlib.Core.Bool.{Bool, true, false}
 use native.Mathlib.Omega.{arith}
 use borrow.Author.Needs.{needs}
 use lib.ListN.{length}
@@ -11,24 +13,32 @@ use Rattle.lists.specs.Lists.{gaugeSide}
 use Rattle.lists.proofs.BothSides.{gauge-fair}
 use Rattle.runs.specs.Paused.{Value, paused}
 use Rattle.runs.specs.Calling.{KeepsDemand, SharesSet}
+use Rattle.runs.specs.Omitting.{KeepsOmits}
 use Rattle.runs.proofs.Answered.{start-refused, start-given}
-use Rattle.runs.proofs.Demands.{run-demand, shares-set}
+use Rattle.runs.proofs.Demands.{run-demand, shares-set, run-omits}
 use Rattle.runs.proofs.gauges.start_gauges.Statement.{statement}
 use Rattle.runs.proofs.gauges.start_gauges.Tie as tie
 
 rows-length : (c : tie.Start) → length (c .args .t .rows) ≡ 64
 rows-length c = search needs
 
--- demand 3 and the shared set, of the value returned where the table is not refused
-promises : (c : tie.Start) (v : Value) → (tableRefusal (c .args .t) ≡ 0 → v ≡ paused (c .args .t) fresh)
-    → KeepsDemand gaugeSide (c .args .t) v × SharesSet (c .args .t) v (paused (c .args .t) fresh)
+-- the promises, of the value returned where the table is not refused
+promises : (c : tie.Start) (v : Value) → (tableRefusal (c .args .t) ≡ 0 → v ≡ paused (c .args .t) (c .args .omit) fresh)
+    → (c .args .omit ≡ false → KeepsDemand gaugeSide (c .args .t) v) × ((c .args .omit ≡ false → SharesSet (c .args .t) v (paused (c .args .t) false fresh))
+    × (c .args .omit ≡ true → KeepsOmits gaugeSide (c .args .t) v))
 promises c v h = (
-  λ ok. run-demand gaugeSide (c .args .t) (legal ok) (gauge-fair (c .args .t) (legal ok)) v (h ok),
-  λ ok. shares-set (c .args .t) (legal ok) v (paused (c .args .t) fresh) (h ok) refl ok,
+  λ e ok. run-demand gaugeSide (c .args .t) (legal ok) (gauge-fair (c .args .t) (legal ok)) v (fresh-as e (h ok)),
+  (
+    λ e ok. shares-set (c .args .t) (legal ok) v (paused (c .args .t) false fresh) (fresh-as e (h ok)) refl ok,
+    λ e ok. run-omits gaugeSide (c .args .t) (legal ok) (gauge-fair (c .args .t) (legal ok)) v (fresh-as e (h ok)),
+  ),
 )
   where
     legal : tableRefusal (c .args .t) ≡ 0 → Legal (c .args .t)
     legal ok = legal-of (c .args .t) (rows-length c) ok
+
+    fresh-as : {b : Bool} → c .args .omit ≡ b → v ≡ paused (c .args .t) (c .args .omit) fresh → v ≡ paused (c .args .t) b fresh
+    fresh-as e d = d ∙ ap (λ (x : Bool). paused (c .args .t) x fresh) e
 
 check-table-requires : tie.Need-check-table-requires
 check-table-requires c κs = search needs
@@ -48,7 +58,7 @@ returns c =
     let t = k .before .before in
     let e = verdict-refused _ _ _ (k .checked .given .1) (t .check-table .ensures) in
     let n = number-pos (k .checked .given .0 .0) in (
-      start-refused (k .checked .given .0 .0) _ _ _ _ e (c .before .blank-table .ensures) (c .gauge-run .ensures),
+      start-refused (k .checked .given .0 .0) _ _ _ _ _ e (c .before .blank-table .ensures) (c .gauge-run .ensures),
       promises (t .before) _
           (λ ok. absurd (omega (arith, n, e))),
     )
@@ -63,7 +73,7 @@ returns-2 : tie.Need-returns-2
 returns-2 c =
     let e = c .before in
     let t = e .before .before in (
-      start-given _ _ _ (verdict-accepted _ _ (e .enum-told .given .1) (t .check-table .ensures)) (c .gauge-run2 .ensures),
+      start-given _ _ _ _ (verdict-accepted _ _ (e .enum-told .given .1) (t .check-table .ensures)) (c .gauge-run2 .ensures),
       promises (t .before) _
           (λ ok. c .gauge-run2 .ensures),
     )

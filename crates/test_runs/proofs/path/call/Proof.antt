@@ -4,8 +4,23 @@ use native.Mathlib.Omega.{arith}
 use Rattle.test_runs.proofs.path.call.Statement.{statement}
 use Rattle.test_runs.proofs.path.call.Tie as tie
 
+abbrev Inv-loop : tie.InvT-loop
+Inv-loop keys sets many omit wanted budget now₀ made₀ now made = Unit {0}
+
+abbrev μ-loop : tie.MeasureT-loop
+μ-loop keys sets many omit wanted budget now₀ made₀ now made = budget - made
+
 pub call-spec : {M : Type 1} → statement M
 call-spec =
     tie.close
-    (tie.spec (λ keys many budget now₀ made₀ now made. Unit {0}) (λ keys many budget now₀ made₀ now made. budget - made) (λ c. tt)
-    (λ c κs. tt) (λ c. tt) (λ c. omega arith) (λ c. omega arith) (λ c. tt) (λ c. tt))
+    (tie.spec
+    Inv-loop
+    μ-loop
+    (λ c. tt)
+    (λ c κs. tt)
+    (λ c κs. tt)
+    (λ c. tt)
+    (λ c. omega arith)
+    (λ c. omega arith)
+    (λ c. tt)
+    (λ c. tt))
