@@ -1,5 +1,7 @@
 // The library by example: a file is read, its ladders are listed with a budget of moves, a chain is judged and grown, a table is made from
-// rows and listed by cases, and one without the ladders that calibration never needs. Every answer is looked at before its values are used.
+// rows and listed by cases, one without the ladders that calibration never needs, and one is counted. Every answer is looked at before its
+// values are used.
+use count::Count;
 use judge::Judgement;
 use libc::STDOUT_FILENO;
 use refusals::Refusal;
@@ -23,11 +25,27 @@ fn main() {
             // Comment line 1, as a part of the bytes read; empty where there is none.
             say(reader::comment(file, 1));
             say(b"\n");
+            count_them(t);
             list(t, false);
             grow(t);
             by_cases();
             needed();
         }
+    }
+}
+
+// Says how many ladders a table has before they are listed: one call for each pick sequence that the run can come to, at most 1,000 here.
+fn count_them(t: Table) {
+    let counted = count::count_ladders(t, 1_000);
+    match counted {
+        Count::Counted(tally) => {
+            io::print_decimal(STDOUT_FILENO, tally.ladders);
+            say(b" ladders, ");
+            io::print_decimal(STDOUT_FILENO, tally.calls);
+            say(b" calls\n");
+        }
+        Count::Spent(_) => say(b"too many to say\n"),
+        Count::Refused(why) => refused(why),
     }
 }
 

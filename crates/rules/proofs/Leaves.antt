@@ -15,10 +15,10 @@ use Rattle.rules.proofs.Sequences.{Ascending, All-map, All-append, All-
 use Rattle.rules.proofs.Trees.{each, branch, Tree, leaves, length-snoc, valid-snoc, kid-fits}
 
 -- q begins with p
-abbrev Under : List ℕ → List ℕ → Type 0
+abbrev pub Under : List ℕ → List ℕ → Type 0
 Under p q = (s : List ℕ) × (q ≡ p ++ s)
 
-each-all : (P : List ℕ → Type 0) (f : List ℕ → List (List ℕ)) (p l : List ℕ) → ((g : ℕ) → List·Memᴰ g l → All P (f (p ++ (g ∷ [])))) → All P (each f p l)
+pub each-all : (P : List ℕ → Type 0) (f : List ℕ → List (List ℕ)) (p l : List ℕ) → ((g : ℕ) → List·Memᴰ g l → All P (f (p ++ (g ∷ [])))) → All P (each f p l)
 each-all P f p [] h = tt
 each-all P f p (g ∷ gs) h = All-append P (f (p ++ (g ∷ []))) (each f p gs) (h g (List·Memᴰ·head refl)) (each-all P f p gs (λ x m. h x (List·Memᴰ·tail m)))
 
@@ -27,7 +27,7 @@ branch-all : (P : List ℕ → Type 0) (f : List ℕ → List (List ℕ)) (p k :
 branch-all P f p [] z h = (z refl, tt)
 branch-all P f p (g ∷ gs) z h = each-all P f p (g ∷ gs) h
 
-each-sorted : (f : List ℕ → List (List ℕ)) (p l : List ℕ) → Ascending l → ((g : ℕ) → All (Under (p ++ (g ∷ []))) (f (p ++ (g ∷ []))))
+pub each-sorted : (f : List ℕ → List (List ℕ)) (p l : List ℕ) → Ascending l → ((g : ℕ) → All (Under (p ++ (g ∷ []))) (f (p ++ (g ∷ []))))
     → ((g : ℕ) → List·Memᴰ g l → Sorted Before (f (p ++ (g ∷ [])))) → Sorted Before (each f p l)
 each-sorted f p [] a u h = tt
 each-sorted f p (g ∷ gs) a u h =
@@ -56,7 +56,7 @@ branch-length : (f : List ℕ → List (List ℕ)) (p k : List ℕ) (c d : ℕ) 
 branch-length f p [] c d hc hd hk h = omega (arith, mul-le-mul-right c hd)
 branch-length f p (g ∷ gs) c d hc hd hk h = omega (arith, mul-le-mul-right c hk, each-length f p (g ∷ gs) c h)
 
-each-mem : (f : List ℕ → List (List ℕ)) (p : List ℕ) {g : ℕ} {l : List ℕ} (q : List ℕ) → List·Memᴰ g l → List·Memᴰ q (f (p ++ (g ∷ [])))
+pub each-mem : (f : List ℕ → List (List ℕ)) (p : List ℕ) {g : ℕ} {l : List ℕ} (q : List ℕ) → List·Memᴰ g l → List·Memᴰ q (f (p ++ (g ∷ [])))
     → List·Memᴰ q (each f p l)
 each-mem f p q (List·Memᴰ·head {xs = xs} e) m = Memᴰ·append-left (each f p xs) (rw e at m)
 each-mem f p q (List·Memᴰ·tail {x = x} i) m = Memᴰ·append-right (f (p ++ (x ∷ []))) (each-mem f p q i m)
