@@ -27,7 +27,7 @@ use Rattle.lists.specs.Lists.{gaugeSide}
 use Rattle.lists.specs.OnTable.{handOut}
 use Rattle.runs.specs.Paused.{Value, paused}
 use Rattle.runs.specs.Calling.{Step, byRules, told, movesOf, callOf, refusal, PausedAt, Called}
-use Rattle.writer.specs.Writing.{writeFile, writeRefusal, writeAnswer, bufferAfter}
+use Rattle.writer.specs.Writing.{writeFile, roomRefusal, writeRefusal, writeAnswer, bufferAfter}
 use Rattle.writer.proofs.Sizes.{write-length}
 use Rattle.writer.proofs.Files.{long-enough}
 use Rattle.blocks.specs.Filling.{pairTable, isEnd, isNone}
@@ -77,7 +77,7 @@ checked-passed v r c k = record {
 
 -- ---- a file at a place
 fits-of : (t : Table) (n : ℕ) → writeRefusal t n ≡ 0 → length (writeFile t) ≤ n
-unfolding writeRefusal
+unfolding roomRefusal
 fits-of t n e = go (decLt n (length (writeFile t))) (ℕ-discrete (tableRefusal t) 0)
   where
     go : Dec (n < length (writeFile t)) → Dec (tableRefusal t ≡ 0) → length (writeFile t) ≤ n
@@ -132,7 +132,7 @@ module _ (t : Table) (before : List ℕ) (at : ℕ) (low : at ≤ length before)
       record {
         inside = low;
         file = λ ok room.
-            let x : writeRefusal t (length part) ≡ 0 = long-enough t (length part) ok (omega (arith, part-length, room, low)) in
+            let x : writeRefusal t (length part) ≡ 0 = long-enough (tableRefusal t) (writeFile t) (length part) ok (omega (arith, part-length, room, low)) in
             absurd (omega (arith, z, x, number-pos why));
       }
 

@@ -1,6 +1,6 @@
 -- The kind of a line, as the code tests it: one law for each `return` of the functions that tell the kind, its premises the tests that
--- led there. In order: comment lines; lines ahead of the pairs; pair lines; that a size and a pair that are taken are in range, which
--- `reader` rests on. The banner is in Opening.antt.
+-- led there. In order: comment lines; lines ahead of the entries; entry lines; that a size and an entry that are taken are in range, which
+-- `reader` rests on. The first line is in Opening.antt.
 use Prim.Native.Nat.{ℕ, _≤_, _<_}
 use mathlib.Core.Path.{_≡_, refl, ap, sym, _∙_}
 use mathlib.Core.List.{List, [], _∷_}
@@ -8,18 +8,24 @@ use mathlib.Core.Bool.{Bool, true, false, cond, _&&_}
 use native.Mathlib.Omega.{arith}
 use lib.ListN.{length, getD}
 use lib.Dec.{ltb}
-use borrow.Author.Tests.{ne-eqb, eq-eqb, lt-ltb, le-ltb}
+use lib.IntN.{ℤ, pos, natAbs}
+use borrow.Author.Tests.{ne-eqb, eq-eqb, lt-ltb, le-ltb, lt-leb, le-leb, leb-true}
 use Rattle.text.specs.Fields.{fields}
 use Rattle.table.specs.Tables.{inRange}
 use Rattle.table.proofs.Legality.{range-is}
 use Rattle.table.specs.declared.Gauge.{Gauge}
 use Rattle.table.specs.declared.Case.{Case}
-use Rattle.refusals.specs.declared.Refusal.the-variants.{LineTooLong, SizeFields, SizeRange, PairFields, PairRange}
-use Rattle.kinds.specs.Kinds.{isComment, sizeOf, headLine, pairOf, pairLine}
+use Rattle.refusals.specs.declared.Refusal.the-variants.{LineTooLong, SizeFields, SizeRange, PairFields, PairRange, ReadingRange}
+use Rattle.kinds.specs.Kinds.{isComment, sizeOf, headLine, pairOf, pairFields, fieldsBy, inReach, entryOf, entryLine}
 use Rattle.text.specs.declared.Fields.{Fields}
 use Rattle.text.specs.declared.Fields.the-variants.{Blank, Two, Three, Other}
+use Rattle.entries.specs.Words.{entryFields}
+use Rattle.entries.specs.declared.EntryFields.{EntryFields}
+use Rattle.entries.specs.declared.EntryFields.the-variants.{Blank as noFields, Entry as fieldsOf, Other as otherFields}
+use Rattle.recorded.specs.declared.Kind.{Kind}
+use Rattle.recorded.specs.declared.Kind.the-variants.{Pattern, Integer}
 use Rattle.kinds.specs.declared.HeadLine.the-variants.{Size, Skip as skipHead, Bad as badHead}
-use Rattle.kinds.specs.declared.PairLine.the-variants.{Pair, Skip as skipPair, Bad as badPair}
+use Rattle.kinds.specs.declared.EntryLine.the-variants.{Entry, Skip as skipEntry, Bad as badEntry}
 
 pub comment-empty : (l : List ℕ) → length l ≡ 0 → false ≡ isComment l
 comment-empty [] h = refl
@@ -33,25 +39,20 @@ pub comment-no : (l : List ℕ) → (length l ≡ 0 → ⊥) → (getD l 0 0 ≡
 comment-no [] h e = absurd (h refl)
 comment-no (b ∷ l) h e = sym (ne-eqb b 37 e)
 
--- neither blank nor three fields; neither blank nor two
+-- neither blank nor three fields
 unfoldable pub NoSize : Fields → Type 0
 NoSize Blank = ⊥
 NoSize (Two a b) = Unit {0}
 NoSize (Three a b c) = ⊥
 NoSize Other = Unit {0}
 
-unfoldable pub NoPair : Fields → Type 0
-NoPair Blank = ⊥
-NoPair (Two a b) = ⊥
-NoPair (Three a b c) = Unit {0}
-NoPair Other = Unit {0}
-
 module _ (l : List ℕ) where
   pub head-long : 1024 < length l → badHead LineTooLong ≡ headLine l
   head-long h = rw (lt-ltb 1024 (length l) h)
 
-  pub pair-long : (gs : Gauge) (cs : Case) → 1024 < length l → badPair LineTooLong ≡ pairLine gs cs l
-  pair-long gs cs h = rw (lt-ltb 1024 (length l) h)
+  pub entry-long : (kind : Kind) (gs : Gauge) (cs : Case) → 1024 < length l → badEntry LineTooLong ≡ entryLine kind gs cs l
+  unfolding entryLine
+  entry-long kind gs cs h = rw (lt-ltb 1024 (length l) h)
 
   module _ (h : length l ≤ 1024) where
     pub head-comment : (t : Bool) → t ≡ isComment l → t ≡ true → skipHead ≡ headLine l
@@ -84,32 +85,52 @@ module _ (l : List ℕ) where
         pub head-size : u ≡ true → (v : Bool) → v ≡ inRange 64 c → v ≡ true → Size (record { 0 = g }) (record { 0 = c }) n ≡ headLine l
         head-size k v b m = rw (← a, k, ← b, m) at (ap sizeOf (sym x) ∙ head-fields)
 
-    module _ (gs : Gauge) (cs : Case) (f : Fields) (q : f ≡ fields l) where
-      pair-fields : pairOf gs cs f ≡ pairLine gs cs l
-      pair-fields = rw (le-ltb 1024 (length l) h, ← q)
+    module _ (kind : Kind) (gs : Gauge) (cs : Case) (f : EntryFields) (q : f ≡ fieldsBy kind l) where
+      by-fields : entryOf gs cs f ≡ entryLine kind gs cs l
+      unfolding entryLine
+      by-fields = rw (le-ltb 1024 (length l) h, ← q)
 
-      pub pair-blank : f ≡ Blank → skipPair ≡ pairLine gs cs l
-      pair-blank x = ap (pairOf gs cs) (sym x) ∙ pair-fields
+      pub entry-blank : f ≡ noFields → skipEntry ≡ entryLine kind gs cs l
+      unfolding entryOf
+      entry-blank x = ap (entryOf gs cs) (sym x) ∙ by-fields
 
-      pub pair-none : NoPair f → badPair PairFields ≡ pairLine gs cs l
-      unfolding NoPair
-      pair-none n = go f n ∙ pair-fields
-        where
-          go : (f : Fields) → NoPair f → badPair PairFields ≡ pairOf gs cs f
-          go Blank n = absurd n
-          go (Two a b) n = absurd n
-          go (Three a b c) n = refl
-          go Other n = refl
+      pub entry-none : f ≡ otherFields → badEntry PairFields ≡ entryLine kind gs cs l
+      unfolding entryOf
+      entry-none x = ap (entryOf gs cs) (sym x) ∙ by-fields
 
-      module _ (g c : ℕ) (x : f ≡ Two g c) (u : Bool) (a : u ≡ inRange (gs .0) g) where
-        pub pair-gauge : u ≡ false → badPair PairRange ≡ pairLine gs cs l
-        pair-gauge k = rw (← a, k) at (ap (pairOf gs cs) (sym x) ∙ pair-fields)
+      module _ (g c : ℕ) (v : ℤ) (x : f ≡ fieldsOf g c v) (u : Bool) (a : u ≡ inRange (gs .0) g) where
+        by-entry : entryOf gs cs (fieldsOf g c v) ≡ entryLine kind gs cs l
+        by-entry = ap (entryOf gs cs) (sym x) ∙ by-fields
 
-        pub pair-case : u ≡ true → (v : Bool) → v ≡ inRange (cs .0) c → v ≡ false → badPair PairRange ≡ pairLine gs cs l
-        pair-case k v b m = rw (← a, k, ← b, m) at (ap (pairOf gs cs) (sym x) ∙ pair-fields)
+        pub entry-gauge : u ≡ false → badEntry PairRange ≡ entryLine kind gs cs l
+        unfolding entryOf
+        entry-gauge k = rw (← a, k) at by-entry
 
-        pub pair-pair : u ≡ true → (v : Bool) → v ≡ inRange (cs .0) c → v ≡ true → Pair (record { 0 = g }) (record { 0 = c }) ≡ pairLine gs cs l
-        pair-pair k v b m = rw (← a, k, ← b, m) at (ap (pairOf gs cs) (sym x) ∙ pair-fields)
+        module _ (k : u ≡ true) (w : Bool) (b : w ≡ inRange (cs .0) c) where
+          pub entry-case : w ≡ false → badEntry PairRange ≡ entryLine kind gs cs l
+          unfolding entryOf
+          entry-case m = rw (← a, k, ← b, m) at by-entry
+
+          -- z is what the code handed on of v
+          module _ (m : w ≡ true) (z : ℤ) (s : z ≡ v) (n : ℕ) (d : n ≡ natAbs z) where
+            pub entry-reach : 1000000 < n → badEntry ReadingRange ≡ entryLine kind gs cs l
+            unfolding entryOf
+            entry-reach y = rw (← a, k, ← b, m, lt-leb (natAbs v) 1000000 (omega (arith, d ∙ ap natAbs s))) at by-entry
+
+            pub entry-entry : n ≤ 1000000 → Entry (record { 0 = g }) (record { 0 = c }) z ≡ entryLine kind gs cs l
+            unfolding entryOf
+            entry-entry y =
+                ap (Entry (record { 0 = g }) (record { 0 = c })) s
+                ∙ (rw (← a, k, ← b, m, le-leb (natAbs v) 1000000 (omega (arith, d ∙ ap natAbs s))) at by-entry)
+
+-- the fields by the kind
+pub by-pattern : (l : List ℕ) {kind : Kind} {f : EntryFields} → f ≡ pairFields l → kind ≡ Pattern → f ≡ fieldsBy kind l
+unfolding fieldsBy
+by-pattern l e k = e ∙ rw k
+
+pub by-integer : (l : List ℕ) {kind : Kind} {f : EntryFields} → f ≡ entryFields l → kind ≡ Integer → f ≡ fieldsBy kind l
+unfolding fieldsBy
+by-integer l e k = e ∙ rw k
 
 -- g is in 1..gs, and c in 1..cs
 pub record Bounded (gs : Gauge) (cs : Case) (g : Gauge) (c : Case) : Type 0 where
@@ -121,30 +142,56 @@ pub record Bounded (gs : Gauge) (cs : Case) (g : Gauge) (c : Case) : Type 0 wher
 bounded : {gs g : Gauge} {cs c : Case} {a b : ℕ} → g .0 ≡ a → c .0 ≡ b → (1 ≤ a) × (a ≤ gs .0) → (1 ≤ b) × (b ≤ cs .0) → Bounded gs cs g c
 bounded p q m n = record { gauge-low = omega arith; gauge-high = omega arith; case-low = omega arith; case-high = omega arith }
 
--- a pair that is taken is in range
-pub pair-range : (gs : Gauge) (cs : Case) (l : List ℕ) (g : Gauge) (c : Case) → Pair g c ≡ pairLine gs cs l → Bounded gs cs g c
-pair-range gs cs l g c e = long (ltb 1024 (length l)) e
+-- an entry that is taken is in range, and so is its reading, which is 0 in a file of pairs
+pub record Taken (kind : Kind) (gs : Gauge) (cs : Case) (g : Gauge) (c : Case) (v : ℤ) : Type 0 where
+  pub places : Bounded gs cs g c
+  pub reach : natAbs v ≤ 1000000
+  pub unread : kind ≡ Pattern → v ≡ pos 0
+
+-- the reading of a line of a file of pairs
+pair-unread : (l : List ℕ) (a b : ℕ) (d : ℤ) → pairFields l ≡ fieldsOf a b d → d ≡ pos 0
+pair-unread l a b d e = go (fields l) e
   where
-    pairs : (a b : ℕ) (t u : Bool) → inRange (gs .0) a ≡ t → inRange (cs .0) b ≡ u
-        → Pair g c ≡ cond (t && u) (Pair (record { 0 = a }) (record { 0 = b })) (badPair PairRange) → Bounded gs cs g c
-    pairs a b true true x y z =
+    go : (f : Fields) → pairOf f ≡ fieldsOf a b d → d ≡ pos 0
+    go Blank e = let w : _≡_ {A = ℕ} 0 1 = cc in absurd (omega arith)
+    go (Two g c) e = cc
+    go (Three g c n) e = let w : _≡_ {A = ℕ} 0 1 = cc in absurd (omega arith)
+    go Other e = let w : _≡_ {A = ℕ} 0 1 = cc in absurd (omega arith)
+
+unread : (kind : Kind) (l : List ℕ) (a b : ℕ) (d : ℤ) → fieldsBy kind l ≡ fieldsOf a b d → kind ≡ Pattern → d ≡ pos 0
+unfolding fieldsBy
+unread Pattern l a b d e k = pair-unread l a b d e
+unread Integer l a b d e k = let w : _≡_ {A = ℕ} 0 1 = cc in absurd (omega arith)
+
+pub entry-taken : (kind : Kind) (gs : Gauge) (cs : Case) (l : List ℕ) (g : Gauge) (c : Case) (v : ℤ)
+    → Entry g c v ≡ entryLine kind gs cs l → Taken kind gs cs g c v
+unfolding entryLine entryOf
+entry-taken kind gs cs l g c v e = long (ltb 1024 (length l)) e
+  where
+    inside : (a b : ℕ) (z : ℤ) (t u w : Bool) → inRange (gs .0) a ≡ t → inRange (cs .0) b ≡ u → inReach z ≡ w → (kind ≡ Pattern → z ≡ pos 0)
+        → Entry g c v ≡ cond (t && u) (cond w (Entry (record { 0 = a }) (record { 0 = b }) z) (badEntry ReadingRange)) (badEntry PairRange)
+        → Taken kind gs cs g c v
+    inside a b z true true true x y m n k =
         let p : g ≡ record { 0 = a } = cc in
         let q : c ≡ record { 0 = b } = cc in
-        let m = range-is (gs .0) a x in
-        let n = range-is (cs .0) b y in
-        bounded (ap (λ (x : Gauge). x .0) p) (ap (λ (x : Case). x .0) q) m n
-    pairs a b true false x y z = let w : _≡_ {A = ℕ} 0 1 = cc in absurd (omega arith)
-    pairs a b false u x y z = let w : _≡_ {A = ℕ} 0 1 = cc in absurd (omega arith)
+        let s : v ≡ z = cc in
+        record {
+          places = bounded (ap (λ (x : Gauge). x .0) p) (ap (λ (x : Case). x .0) q) (range-is (gs .0) a x) (range-is (cs .0) b y);
+          reach = omega (arith, leb-true (natAbs z) 1000000 m, ap natAbs s);
+          unread = λ k. s ∙ n k;
+        }
+    inside a b z true true false x y m n k = let w : _≡_ {A = ℕ} 0 1 = cc in absurd (omega arith)
+    inside a b z true false t x y m n k = let w : _≡_ {A = ℕ} 0 1 = cc in absurd (omega arith)
+    inside a b z false u t x y m n k = let w : _≡_ {A = ℕ} 0 1 = cc in absurd (omega arith)
 
-    kinds : (k : Fields) → Pair g c ≡ pairOf gs cs k → Bounded gs cs g c
-    kinds Blank z = let w : _≡_ {A = ℕ} 0 1 = cc in absurd (omega arith)
-    kinds (Two a b) z = pairs a b (inRange (gs .0) a) (inRange (cs .0) b) refl refl z
-    kinds (Three a b d) z = let w : _≡_ {A = ℕ} 0 1 = cc in absurd (omega arith)
-    kinds Other z = let w : _≡_ {A = ℕ} 0 1 = cc in absurd (omega arith)
+    kinds : (f : EntryFields) → fieldsBy kind l ≡ f → Entry g c v ≡ entryOf gs cs f → Taken kind gs cs g c v
+    kinds noFields p z = let w : _≡_ {A = ℕ} 0 1 = cc in absurd (omega arith)
+    kinds (fieldsOf a b d) p z = inside a b d (inRange (gs .0) a) (inRange (cs .0) b) (inReach d) refl refl refl (unread kind l a b d p) z
+    kinds otherFields p z = let w : _≡_ {A = ℕ} 0 1 = cc in absurd (omega arith)
 
-    long : (t : Bool) → Pair g c ≡ cond t (badPair LineTooLong) (pairOf gs cs (fields l)) → Bounded gs cs g c
+    long : (t : Bool) → Entry g c v ≡ cond t (badEntry LineTooLong) (entryOf gs cs (fieldsBy kind l)) → Taken kind gs cs g c v
     long true z = let w : _≡_ {A = ℕ} 0 1 = cc in absurd (omega arith)
-    long false z = kinds (fields l) z
+    long false z = kinds (fieldsBy kind l) refl z
 
 -- a size that is taken is in range
 pub size-range : (l : List ℕ) (g : Gauge) (c : Case) (n : ℕ) → Size g c n ≡ headLine l → Bounded (record { 0 = 64 }) (record { 0 = 64 }) g c

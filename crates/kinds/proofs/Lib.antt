@@ -1,3 +1,3 @@
--- Laws of the kinds of line. For users: `banner-reads` and `banner-only` of `Opening`, the ranges of `KindOf`.
+-- Laws of the kinds of line. For users: the first lines that are read, of `Opening`, and the ranges of `KindOf`.
 pub mod Opening
 pub mod KindOf

@@ -1,22 +1,21 @@
--- The banner: the text that is written is accepted as a first line (`banner-reads`); so is every text that is the banner but for capitals
--- in the words behind the opening (`banner-mixed`), and no other line (`banner-only`). Then the answers of `is_banner`, one law for
--- each of its returns.
+-- The first line. In order: a line of a kind is its banner but for capitals in the words behind the opening (`kind-only`, `kind-mixed`), and
+-- no line is of two kinds; what is read as a first line (`first-mixed`, `first-only`), and that a banner that is written is
+-- (`banner-reads`). Then the answers of `is_of_kind` and of `first_line`, one law for each of their returns.
 use Prim.Native.Nat.{ℕ, _<_}
 use mathlib.Core.Path.{_≡_, refl, sym, ap, ap₂, _∙_}
 use mathlib.Core.List.{List, [], _∷_, _++_, map}
-use mathlib.Core.Bool.{Bool, true, false, _&&_}
+use mathlib.Core.Bool.{Bool, true, false, cond, _&&_}
 use native.Mathlib.Omega.{arith}
-use lib.ListN.{length, take, drop, length-take, take-append-drop}
+use lib.ListN.{length, getD, take, drop, length-take, take-append-drop}
 use lib.Dec.{eqb}
 use borrow.Author.Tests.{eqb-true, eq-eqb}
 use Rattle.text.specs.Bytes.{sameBytes, small}
 use Rattle.text.proofs.Comparing.{same-lengths}
 use Rattle.table.proofs.Legality.{both}
-use Rattle.kinds.specs.Banner.{opening, pattern, isOfKind, isBanner, banner}
-
-pub banner-reads : isBanner banner ≡ true
-unfolding small
-banner-reads = refl
+use Rattle.recorded.specs.declared.Kind.{Kind}
+use Rattle.recorded.specs.declared.Kind.the-variants.{Pattern, Integer}
+use Rattle.kinds.specs.Banner.{opening, pattern, integer, wordsOf, isOfKind, firstLine, bannerOf}
+use Rattle.kinds.specs.declared.FirstLine.the-variants.{Banner, Other}
 
 -- texts that compare as the same are the same
 same-is : (a b : List ℕ) → sameBytes a b ≡ true → a ≡ b
@@ -38,7 +37,7 @@ pub record Mixed (words l : List ℕ) : Type 0 where
   pub whole : l ≡ opening ++ rest
   pub letters : map small rest ≡ words
 
-kind-only : (words l : List ℕ) → isOfKind words l ≡ true → Mixed words l
+pub kind-only : (words l : List ℕ) → isOfKind words l ≡ true → Mixed words l
 kind-only words l e =
     let (p, q) = both (sameBytes (take 14 l) opening) (sameBytes (map small (drop 14 l)) words) e in
     record {
@@ -47,14 +46,62 @@ kind-only words l e =
       letters = same-is (map small (drop 14 l)) words q;
     }
 
-kind-mixed : (words l : List ℕ) → Mixed words l → isOfKind words l ≡ true
+pub kind-mixed : (words l : List ℕ) → Mixed words l → isOfKind words l ≡ true
 kind-mixed words l m = rw (m .whole, m .letters) (same-self words)
 
-pub banner-only : (l : List ℕ) → isBanner l ≡ true → Mixed pattern l
-banner-only l e = kind-only pattern l e
+-- no line is of both kinds
+pub kinds-apart : (l : List ℕ) → isOfKind integer l ≡ true → isOfKind pattern l ≡ false
+kinds-apart l e = go (isOfKind pattern l) refl
+  where
+    go : (t : Bool) → isOfKind pattern l ≡ t → t ≡ false
+    go false p = refl
+    go true p =
+        let q : pattern ≡ integer = sym (behind pattern p) ∙ behind integer e in
+        let z : _≡_ {A = ℕ} 112 105 = ap (λ (s : List ℕ). getD s 19 0) q in
+        absurd (omega arith)
+      where
+        behind : (words : List ℕ) → isOfKind words l ≡ true → map small (drop 14 l) ≡ words
+        behind words p = same-is (map small (drop 14 l)) words (both (sameBytes (take 14 l) opening) (sameBytes (map small (drop 14 l)) words) p .1)
 
-pub banner-mixed : (l : List ℕ) → Mixed pattern l → isBanner l ≡ true
-banner-mixed l m = kind-mixed pattern l m
+-- ---- the first line
+-- whether files of a kind are taken: those of pairs always, integer files where they are asked for
+abbrev pub takes : Bool → Kind → Bool
+takes integers Pattern = true
+takes integers Integer = integers
+
+-- an integer file's first line is no banner to a reader that does not take it, and a first line that is no integer banner is the same to both
+pub integer-refused : (l : List ℕ) → isOfKind integer l ≡ true → firstLine false l ≡ Other
+integer-refused l e = rw (kinds-apart l e)
+
+pub first-same : (l : List ℕ) → isOfKind integer l ≡ false → firstLine true l ≡ firstLine false l
+first-same l e = rw e
+
+pub first-mixed : (integers : Bool) (kind : Kind) (l : List ℕ) → takes integers kind ≡ true → Mixed (wordsOf kind) l → firstLine integers l ≡ Banner kind
+first-mixed integers Pattern l t m = rw (kind-mixed pattern l m)
+first-mixed integers Integer l t m =
+    let e = kind-mixed integer l m in
+    rw (kinds-apart l e, t, e)
+
+pub first-only : (integers : Bool) (kind : Kind) (l : List ℕ) → firstLine integers l ≡ Banner kind → (takes integers kind ≡ true) × Mixed (wordsOf kind) l
+first-only integers kind l e = go (isOfKind pattern l) refl integers (isOfKind integer l) refl kind e
+  where
+    go : (t : Bool) → isOfKind pattern l ≡ t → (i u : Bool) → isOfKind integer l ≡ u → (k : Kind)
+        → cond t (Banner Pattern) (cond (i && u) (Banner Integer) Other) ≡ Banner k → (takes i k ≡ true) × Mixed (wordsOf k) l
+    go true p i u q Pattern d = (refl, kind-only pattern l p)
+    go true p i u q Integer d = let z : _≡_ {A = ℕ} 0 1 = cc in absurd (omega arith)
+    go false p true true q Integer d = (refl, kind-only integer l q)
+    go false p true true q Pattern d = let z : _≡_ {A = ℕ} 0 1 = cc in absurd (omega arith)
+    go false p true false q k d = let z : _≡_ {A = ℕ} 0 1 = cc in absurd (omega arith)
+    go false p false u q k d = let z : _≡_ {A = ℕ} 0 1 = cc in absurd (omega arith)
+
+-- what is written is read
+written : (kind : Kind) → map small (wordsOf kind) ≡ wordsOf kind
+unfolding small
+written Pattern = refl
+written Integer = refl
+
+pub banner-reads : (integers : Bool) (kind : Kind) → takes integers kind ≡ true → firstLine integers (bannerOf kind) ≡ Banner kind
+banner-reads integers kind t = first-mixed integers kind (bannerOf kind) t (record { rest = wordsOf kind; whole = refl; letters = written kind })
 
 -- ---- the answers of the code
 pub opening-short : (words l : List ℕ) → length l < 14 → false ≡ isOfKind words l
@@ -67,3 +114,18 @@ module _ (words l : List ℕ) (t : Bool) (e : t ≡ sameBytes (take 14 l) openin
 
   pub opening-words : t ≡ true → (u : Bool) → u ≡ sameBytes (map small (drop 14 l)) words → u ≡ isOfKind words l
   opening-words f u d = ap₂ (λ (a b : Bool). a && b) (sym f ∙ e) d
+
+module _ (integers : Bool) (l : List ℕ) (t : Bool) (e : t ≡ isOfKind pattern l) where
+  pub first-pattern : t ≡ true → Banner Pattern ≡ firstLine integers l
+  first-pattern p = rw (sym e ∙ p)
+
+  module _ (p : t ≡ false) where
+    pub first-unasked : integers ≡ false → Other ≡ firstLine integers l
+    first-unasked i = rw (sym e ∙ p, i)
+
+    module _ (i : integers ≡ true) (u : Bool) (d : u ≡ isOfKind integer l) where
+      pub first-integer : u ≡ true → Banner Integer ≡ firstLine integers l
+      first-integer q = rw (sym e ∙ p, i, sym d ∙ q)
+
+      pub first-other : u ≡ false → Other ≡ firstLine integers l
+      first-other q = rw (sym e ∙ p, i, sym d ∙ q)

@@ -1,13 +1,18 @@
--- The banner (01, "The file"): "Banner, lower case, single spaces: %%MatrixMarket matrix coordinate pattern general". It is the fourteen
--- bytes `%%MatrixMarket` and then the words of a kind of file, each with a space ahead of it. What is read (`isBanner`) may have capitals in
--- the words (02, R-1: "accept any mix of capitals in the four words after `%%MatrixMarket`, which itself keeps its spelling. The writer goes
--- on in lower case"); what is written (`banner`) has none. That a line is read exactly when it is the banner but for capitals in the
--- words is `banner-only` and `banner-mixed` in proofs/Opening.antt. A further kind of file is a further text of words.
+-- The first line of a file (01, "The file"): "Banner, lower case, single spaces: %%MatrixMarket matrix coordinate pattern general". It is the
+-- fourteen bytes `%%MatrixMarket` and then the words of a kind of file, each with a space ahead of it. What is read (`firstLine`) may have
+-- capitals in the words (02, R-1: "accept any mix of capitals in the four words after `%%MatrixMarket`, which itself keeps its spelling.
+-- The writer goes on in lower case"); what is written (`banner`) has none. That a line is read exactly when it is the banner but for capitals
+-- in the words is `kind-only` and `kind-mixed` in proofs/Opening.antt. 02, R-5: "Accept the banner `coordinate integer general`, with case as
+-- in R-1"; "the old one, and pattern files, go on as before". A further kind of file is a further text of words.
 use Prim.Native.Nat.{ℕ}
 use mathlib.Core.List.{List, [], _∷_, _++_, map}
-use mathlib.Core.Bool.{Bool, _&&_}
+use mathlib.Core.Bool.{Bool, cond, _&&_}
 use lib.ListN.{take, drop}
 use Rattle.text.specs.Bytes.{sameBytes, small}
+use Rattle.recorded.specs.declared.Kind.{Kind}
+use Rattle.recorded.specs.declared.Kind.the-variants.{Pattern, Integer}
+use Rattle.kinds.specs.declared.FirstLine.{FirstLine}
+use Rattle.kinds.specs.declared.FirstLine.the-variants.{Banner, Other}
 
 -- `%%MatrixMarket`
 abbrev pub opening : List ℕ
@@ -21,14 +26,30 @@ pattern =
     32 ∷ 112 ∷ 97 ∷ 116 ∷ 116 ∷ 101 ∷ 114 ∷ 110 ∷
     32 ∷ 103 ∷ 101 ∷ 110 ∷ 101 ∷ 114 ∷ 97 ∷ 108 ∷ []
 
+-- the words of a file of readings: ` matrix coordinate integer general`
+abbrev pub integer : List ℕ
+integer =
+    32 ∷ 109 ∷ 97 ∷ 116 ∷ 114 ∷ 105 ∷ 120 ∷
+    32 ∷ 99 ∷ 111 ∷ 111 ∷ 114 ∷ 100 ∷ 105 ∷ 110 ∷ 97 ∷ 116 ∷ 101 ∷
+    32 ∷ 105 ∷ 110 ∷ 116 ∷ 101 ∷ 103 ∷ 101 ∷ 114 ∷
+    32 ∷ 103 ∷ 101 ∷ 110 ∷ 101 ∷ 114 ∷ 97 ∷ 108 ∷ []
+
+-- the words of a kind of file
+abbrev pub wordsOf : Kind → List ℕ
+wordsOf Pattern = pattern
+wordsOf Integer = integer
+
 -- a line of a kind with these words: its first fourteen bytes are the opening, and what stands behind them is, in small letters, the words
 abbrev pub isOfKind : List ℕ → List ℕ → Bool
 isOfKind words l = sameBytes (take 14 l) opening && sameBytes (map small (drop 14 l)) words
 
--- a first line that is accepted
-abbrev pub isBanner : List ℕ → Bool
-isBanner l = isOfKind pattern l
+-- a first line: the banner of a file of pairs, or, where integer files are taken, of a file of readings; any other is refused with 2
+abbrev pub firstLine : Bool → List ℕ → FirstLine
+firstLine integers l = cond (isOfKind pattern l) (Banner Pattern) (cond (integers && isOfKind integer l) (Banner Integer) Other)
 
--- the banner that is written
+-- the banner of a kind that is written
+abbrev pub bannerOf : Kind → List ℕ
+bannerOf kind = opening ++ wordsOf kind
+
 abbrev pub banner : List ℕ
-banner = opening ++ pattern
+banner = bannerOf Pattern

@@ -1,22 +1,28 @@
--- The kinds of line behind the first (01, "The file"): comment lines, the lines ahead of the pairs, the pair lines. The first failing
--- test of a line decides, in the order of 01's table of refusals; a refusal stands here by its name, and `number` of the crate `refusals`
--- gives 01's number. The first line is in Banner.antt. Further fields of a pair line come in here and nowhere else.
+-- The kinds of line behind the first (01, "The file"; 02, R-5): comment lines, the lines ahead of the entries, the entry lines. The first
+-- failing test of a line decides, in the order of 01's table of refusals; a refusal stands here by its name, and `number` of the crate
+-- `refusals` gives 01's number. The first line is in Banner.antt. What an entry line has by the kind of file stands in `fieldsBy` alone.
 use Prim.Native.Nat.{ℕ}
 use mathlib.Core.List.{List, [], _∷_}
 use mathlib.Core.Bool.{Bool, false, cond, _&&_}
 use lib.ListN.{length}
-use lib.Dec.{ltb, eqb}
+use lib.Dec.{ltb, leb, eqb}
+use lib.IntN.{ℤ, pos, natAbs}
 use Rattle.table.specs.Tables.{inRange}
 use Rattle.table.specs.declared.Gauge.{Gauge}
 use Rattle.table.specs.declared.Case.{Case}
-use Rattle.refusals.specs.declared.Refusal.the-variants.{LineTooLong, SizeFields, SizeRange, PairFields, PairRange}
+use Rattle.refusals.specs.declared.Refusal.the-variants.{LineTooLong, SizeFields, SizeRange, PairFields, PairRange, ReadingRange}
 use Rattle.text.specs.Fields.{fields}
 use Rattle.text.specs.declared.Fields.{Fields}
 use Rattle.text.specs.declared.Fields.the-variants.{Blank, Two, Three, Other}
+use Rattle.entries.specs.Words.{entryFields}
+use Rattle.entries.specs.declared.EntryFields.{EntryFields}
+use Rattle.entries.specs.declared.EntryFields.the-variants.{Blank as noFields, Entry as fieldsOf, Other as otherFields}
+use Rattle.recorded.specs.declared.Kind.{Kind}
+use Rattle.recorded.specs.declared.Kind.the-variants.{Pattern, Integer}
 use Rattle.kinds.specs.declared.HeadLine.{HeadLine}
 use Rattle.kinds.specs.declared.HeadLine.the-variants.{Size, Skip as skipHead, Bad as badHead}
-use Rattle.kinds.specs.declared.PairLine.{PairLine}
-use Rattle.kinds.specs.declared.PairLine.the-variants.{Pair, Skip as skipPair, Bad as badPair}
+use Rattle.kinds.specs.declared.EntryLine.{EntryLine}
+use Rattle.kinds.specs.declared.EntryLine.the-variants.{Entry, Skip as skipEntry, Bad as badEntry}
 
 -- "comment lines (first byte `%`)"
 abbrev pub isComment : List ℕ → Bool
@@ -34,18 +40,40 @@ sizeOf (Two a b) = badHead SizeFields
 sizeOf (Three g l n) = cond (inRange 64 g && inRange 64 l) (Size (record { 0 = g }) (record { 0 = l }) n) (badHead SizeRange)
 sizeOf Other = badHead SizeFields
 
--- a line ahead of the pairs: a comment, blank, or the size line `G L N`
+-- a line ahead of the entries: a comment, blank, or the size line `G L N`
 abbrev pub headLine : List ℕ → HeadLine
 headLine l = cond (tooLong l) (badHead LineTooLong) (cond (isComment l) skipHead (sizeOf (fields l)))
 
--- "Pair line: 6 not two fields; then 7 g or c outside 1..G, 1..L"; a blank line is skipped
-abbrev pub pairOf : Gauge → Case → Fields → PairLine
-pairOf gs cs Blank = skipPair
-pairOf gs cs (Two g c) = cond (inRange (gs .0) g && inRange (cs .0) c) (Pair (record { 0 = g }) (record { 0 = c })) (badPair PairRange)
-pairOf gs cs (Three a b c) = badPair PairFields
-pairOf gs cs Other = badPair PairFields
+-- a line of a file of pairs: two fields `g c`, and no reading, which stands here as 0
+abbrev pub pairOf : Fields → EntryFields
+pairOf Blank = noFields
+pairOf (Two g c) = fieldsOf g c (pos 0)
+pairOf (Three a b c) = otherFields
+pairOf Other = otherFields
 
--- a line behind the size line, where gs is the last gauge and cs the last case: blank, or a pair `g c`; "A `%` line after the size line
--- is a malformed pair line"
-abbrev pub pairLine : Gauge → Case → List ℕ → PairLine
-pairLine gs cs l = cond (tooLong l) (badPair LineTooLong) (pairOf gs cs (fields l))
+abbrev pub pairFields : List ℕ → EntryFields
+pairFields l = pairOf (fields l)
+
+-- the fields of an entry line by the kind of file: `g c`, and "lines `g c v`"
+unfoldable pub fieldsBy : Kind → List ℕ → EntryFields
+fieldsBy Pattern l = pairFields l
+fieldsBy Integer l = entryFields l
+
+-- v "in -1,000,000..1,000,000"
+abbrev pub inReach : ℤ → Bool
+inReach v = leb (natAbs v) 1000000
+
+-- "Pair line: 6 not two fields; then 7 g or c outside 1..G, 1..L"; "In such a file 6 means not three fields"; "20: v out of range, after 7
+-- and before 8"; a blank line is skipped
+unfoldable pub entryOf : Gauge → Case → EntryFields → EntryLine
+entryOf gs cs noFields = skipEntry
+entryOf gs cs (fieldsOf g c v) =
+    cond (inRange (gs .0) g && inRange (cs .0) c)
+    (cond (inReach v) (Entry (record { 0 = g }) (record { 0 = c }) v) (badEntry ReadingRange))
+    (badEntry PairRange)
+entryOf gs cs otherFields = badEntry PairFields
+
+-- a line behind the size line, where gs is the last gauge and cs the last case: blank, or an entry; "A `%` line after the size line is a
+-- malformed pair line"
+unfoldable pub entryLine : Kind → Gauge → Case → List ℕ → EntryLine
+entryLine kind gs cs l = cond (tooLong l) (badEntry LineTooLong) (entryOf gs cs (fieldsBy kind l))

@@ -3,13 +3,17 @@
 // and writes block by block as it goes. What stands in the blocks is proved in crate `blocks`; what is read and written is tested, not
 // proved. A read or write that fails is said on standard error, so that a list that was cut short is never taken for a whole one; a reader
 // that went away ends the program quietly. A program of this kind has no exit status: with any argument it says on standard error how it
-// ended in every case, in one line (`say_end`), from which the script `ladders` makes one.
+// ended in every case, in one line (`say_end`), from which the script `ladders` makes one. A second argument is a cutoff (02, R-5): then a
+// file of either kind is taken, and the table is that of the test at the cutoff.
 use libc::EPIPE;
 use libc::STDERR_FILENO;
 use libc::STDIN_FILENO;
 use libc::STDOUT_FILENO;
 use refusals::Verdict;
 use table::Table;
+
+// The greatest cutoff.
+const MOST_CUTOFF: u64 = 1_000_000;
 
 // How a use of the program ended.
 enum End {
@@ -22,7 +26,9 @@ enum End {
 }
 
 fn main() {
-    let asked = 1 < os::arg_count();
+    let words = os::arg_count();
+    let asked = 1 < words;
+    let measured = 2 < words;
     // One byte more than the longest file: a longer input is refused without reading it all.
     let mut file = [0u8; 65537];
     let got = read_input(&mut file);
@@ -31,23 +37,90 @@ fn main() {
         return;
     }
     let n = got.length;
-    let end = answer(&file, n);
+    let end = answer(&file, n, measured);
     say_end(end, asked);
 }
 
 // Answers the first `n` bytes.
-fn answer(file: &[u8], n: usize) -> End {
+fn answer(file: &[u8], n: usize, measured: bool) -> End {
     if file.len() < n {
         return End::Lost;
     }
     let from = 0;
-    let made = reader::read(&file[from..n]);
+    if measured {
+        return answer_test(&file[from..n]);
+    }
+    answer_pairs(&file[from..n])
+}
+
+// Answers a file of pairs.
+fn answer_pairs(file: &[u8]) -> End {
+    let made = reader::read(file);
     let verdict = made.verdict;
     let t = made.table;
     match verdict {
         Verdict::Refused(why) => refuse(refusals::refusal_number(why)),
         Verdict::Accepted => list(t),
     }
+}
+
+// Answers a file of either kind, at the cutoff of the second argument.
+fn answer_test(file: &[u8]) -> End {
+    let got = reader::read_test(file, cutoff());
+    let verdict = got.verdict;
+    let t = got.table;
+    match verdict {
+        Verdict::Refused(why) => refuse(refusals::refusal_number(why)),
+        Verdict::Accepted => list(t),
+    }
+}
+
+// The number that the second argument is in decimal; 0, which is no cutoff, where it is none.
+fn cutoff() -> u64 {
+    let mut space = [0u8; 64];
+    let n = os::arg(2, &mut space);
+    let from = 0;
+    if space.len() < n {
+        return 0;
+    }
+    number(&space[from..n])
+}
+
+// The number of a word of digits; one above the greatest cutoff stays above it, whatever follows.
+fn number(word: &[u8]) -> u64 {
+    let mut n: u64 = 0;
+    let mut i = 0;
+    while i < word.len() {
+        let d = digit(word[i]);
+        if 9 < d {
+            return 0;
+        }
+        n = more(n, d);
+        i += 1;
+    }
+    n
+}
+
+fn more(n: u64, d: u64) -> u64 {
+    if MOST_CUTOFF < n {
+        return n;
+    }
+    if 9 < d {
+        return n;
+    }
+    n * 10 + d
+}
+
+// The value of a digit; 10 where the byte is none.
+fn digit(b: u8) -> u64 {
+    match b {
+        b'0'..=b'9' => wide(b - b'0'),
+        _ => 10,
+    }
+}
+
+fn wide(b: u8) -> u64 {
+    b as u64
 }
 
 // What was read: how many bytes, or that reading failed.

@@ -5,6 +5,8 @@ use mathlib.Core.Path.{_≡_, refl, ap, sym, _∙_}
 use mathlib.Core.List.{List, [], _∷_}
 use mathlib.Core.Bool.{Bool, true, false, cond}
 use native.Mathlib.Omega.{arith}
+use mathlib.Core.Option.{none as noNumber}
+use lib.IntN.{ℤ}
 use lib.Dec.{eqb}
 use borrow.Author.Tests.{eqb-true}
 use Rattle.refusals.specs.Answers.{Answer, number}
@@ -12,66 +14,98 @@ use Rattle.refusals.specs.declared.Refusal.{Refusal}
 use Rattle.refusals.specs.declared.Refusal.the-variants.{LineTooLong, PairFields, PairRepeated, PairCount}
 use Rattle.table.specs.declared.Gauge.{Gauge}
 use Rattle.table.specs.declared.Case.{Case}
-use Rattle.table.specs.declared.Table.{Table}
+use Rattle.recorded.specs.declared.Kind.{Kind}
+use Rattle.recorded.specs.declared.Kind.the-variants.{Pattern, Integer}
+use Rattle.recorded.specs.declared.Test.{Test}
 use Rattle.refusals.proofs.Answering.{number-pos}
 use Rattle.text.specs.Lines.{Line}
-use Rattle.text.specs.Fields.{scan, fields}
-use Rattle.text.specs.declared.Fields.the-variants.{Other}
-use Rattle.kinds.specs.Kinds.{isComment, tooLong, pairOf, pairLine}
-use Rattle.reader.specs.Reading.{refusedFile, hasPair, addPair, readPairs}
-use Rattle.kinds.specs.declared.PairLine.{PairLine}
-use Rattle.kinds.specs.declared.PairLine.the-variants.{Pair, Skip as skipPair, Bad as badPair}
+use Rattle.text.specs.Fields.{scan}
+use Rattle.entries.specs.Values.{numberFrom, numberOf}
+use Rattle.entries.specs.Words.{atBreak, grow, words, entryOf, entryFields}
+use Rattle.entries.specs.declared.EntryFields.the-variants.{Other as otherFields}
+use Rattle.kinds.specs.Kinds.{isComment, tooLong, pairFields, fieldsBy, entryOf as lineOf, entryLine}
+use Rattle.reader.specs.Reading.{refusedFile, hasPair, addPair, addReading, readEntries}
+use Rattle.kinds.specs.declared.EntryLine.{EntryLine}
+use Rattle.kinds.specs.declared.EntryLine.the-variants.{Entry, Skip as skipEntry, Bad as badEntry}
 
 -- none of the lines is a comment line
 pub data NoComments : List Line → Type 0 where
   none : NoComments []
   more : {l : Line} {ls : List Line} → isComment (l .text) ≡ false → NoComments ls → NoComments (l ∷ ls)
 
--- a `%` line has no fields
-comment-fields : (l : List ℕ) → isComment l ≡ true → fields l ≡ Other
+-- a `%` line has no fields, whatever the kind of file
+comment-pair : (l : List ℕ) → isComment l ≡ true → pairFields l ≡ otherFields
 unfolding scan
-comment-fields [] e = let z : _≡_ {A = ℕ} 0 1 = cc in absurd (omega arith)
-comment-fields (b ∷ s) e = rw (eqb-true b 37 e)
+comment-pair [] e = let z : _≡_ {A = ℕ} 0 1 = cc in absurd (omega arith)
+comment-pair (b ∷ s) e = rw (eqb-true b 37 e)
 
--- it is a pair line that is refused
-comment-bad : (gs : Gauge) (cs : Case) (l : List ℕ) → isComment l ≡ true → (x : Refusal) × (pairLine gs cs l ≡ badPair x)
-comment-bad gs cs l e = go (tooLong l)
+-- a first word that is no number makes an entry line malformed
+no-gauge : (w : List ℕ) (ws : List (List ℕ)) → numberOf w ≡ noNumber → entryOf (w ∷ ws) ≡ otherFields
+no-gauge w [] e = refl
+no-gauge w (a ∷ []) e = refl
+no-gauge w (a ∷ b ∷ []) e = rw e
+no-gauge w (a ∷ b ∷ c ∷ ws) e = refl
+
+percent-word : (s : List ℕ) (t : Bool) (ws : List (List ℕ)) → entryOf (grow 37 t ws) ≡ otherFields
+unfolding numberFrom
+percent-word s true ws = no-gauge (37 ∷ []) ws refl
+percent-word s false [] = refl
+percent-word s false (w ∷ ws) = no-gauge (37 ∷ w) ws refl
+
+comment-entry : (l : List ℕ) → isComment l ≡ true → entryFields l ≡ otherFields
+unfolding words
+comment-entry [] e = let z : _≡_ {A = ℕ} 0 1 = cc in absurd (omega arith)
+comment-entry (b ∷ s) e = rw (eqb-true b 37 e) (percent-word s (atBreak s) (words s))
+
+comment-fields : (kind : Kind) (l : List ℕ) → isComment l ≡ true → fieldsBy kind l ≡ otherFields
+unfolding fieldsBy
+comment-fields Pattern l e = comment-pair l e
+comment-fields Integer l e = comment-entry l e
+
+-- it is an entry line that is refused
+comment-bad : (kind : Kind) (gs : Gauge) (cs : Case) (l : List ℕ) → isComment l ≡ true → (x : Refusal) × (entryLine kind gs cs l ≡ badEntry x)
+unfolding entryLine lineOf
+comment-bad kind gs cs l e = go (tooLong l)
   where
-    go : (t : Bool) → (x : Refusal) × (cond t (badPair LineTooLong) (pairOf gs cs (fields l)) ≡ badPair x)
+    go : (t : Bool) → (x : Refusal) × (cond t (badEntry LineTooLong) (lineOf gs cs (fieldsBy kind l)) ≡ badEntry x)
     go true = (LineTooLong, refl)
-    go false = (PairFields, ap (pairOf gs cs) (comment-fields l e))
+    go false = (PairFields, ap (lineOf gs cs) (comment-fields kind l e))
 
--- a line that is a pair or blank is no comment
-not-comment : (gs : Gauge) (cs : Case) (l : List ℕ) (k : PairLine) → pairLine gs cs l ≡ k → ((x : Refusal) → k ≡ badPair x → ⊥) → isComment l ≡ false
-not-comment gs cs l k p n = go (isComment l) refl
+-- a line that is an entry or blank is no comment
+not-comment : (kind : Kind) (gs : Gauge) (cs : Case) (l : List ℕ) (k : EntryLine) → entryLine kind gs cs l ≡ k → ((x : Refusal) → k ≡ badEntry x → ⊥)
+    → isComment l ≡ false
+not-comment kind gs cs l k p n = go (isComment l) refl
   where
     go : (t : Bool) → isComment l ≡ t → t ≡ false
     go false e = refl
-    go true e = let (x, q) = comment-bad gs cs l e in absurd (n x (sym p ∙ q))
+    go true e = let (x, q) = comment-bad kind gs cs l e in absurd (n x (sym p ∙ q))
 
 -- an answer that refuses nothing was read from such lines
-abbrev Quiet : List Line → Answer Table → Type 0
+abbrev Quiet : List Line → Answer Test → Type 0
 Quiet ls a = a .refusal ≡ 0 → NoComments ls
 
-pub late-comment : (gs : Gauge) (cs : Case) (left : ℕ) (rows : List ℕ) (ls : List Line) → readPairs gs cs left rows ls .refusal ≡ 0 → NoComments ls
-unfolding readPairs
-late-comment gs cs left rows [] e = none
-late-comment gs cs left rows (l ∷ ls) e = go (pairLine gs cs (l .text)) refl (late-comment gs cs left rows ls) (λ v. late-comment gs cs (left - 1) v ls) e
+pub late-comment : (kind : Kind) (gs : Gauge) (cs : Case) (left : ℕ) (rows : List ℕ) (vs : List ℤ) (ls : List Line)
+    → readEntries kind gs cs left rows vs ls .refusal ≡ 0 → NoComments ls
+unfolding readEntries
+late-comment kind gs cs left rows vs [] e = none
+late-comment kind gs cs left rows vs (l ∷ ls) e =
+    go (entryLine kind gs cs (l .text)) refl (late-comment kind gs cs left rows vs ls) (λ w x. late-comment kind gs cs (left - 1) w x ls) e
   where
-    go : (k : PairLine) → pairLine gs cs (l .text) ≡ k → (readPairs gs cs left rows ls .refusal ≡ 0 → NoComments ls)
-        → ((v : List ℕ) → readPairs gs cs (left - 1) v ls .refusal ≡ 0 → NoComments ls) → readPairs gs cs left rows (l ∷ ls) .refusal ≡ 0 → NoComments (l ∷ ls)
-    go skipPair p skip next e =
-        more (not-comment gs cs (l .text) skipPair p (λ x q. let z : _≡_ {A = ℕ} 0 1 = cc in omega arith)) (skip (rw (p, readPairs) at e))
-    go (badPair x) p skip next e = let z : number x ≡ 0 = rw (p, readPairs) at e in absurd (omega (arith, number-pos x))
-    go (Pair g c) p skip next e =
-        more (not-comment gs cs (l .text) (Pair g c) p (λ x q. let z : _≡_ {A = ℕ} 0 1 = cc in omega arith))
-        (take (hasPair rows g c) (eqb left 0) (rw (p, readPairs) at e))
+    go : (k : EntryLine) → entryLine kind gs cs (l .text) ≡ k → (readEntries kind gs cs left rows vs ls .refusal ≡ 0 → NoComments ls)
+        → ((w : List ℕ) (x : List ℤ) → readEntries kind gs cs (left - 1) w x ls .refusal ≡ 0 → NoComments ls)
+        → readEntries kind gs cs left rows vs (l ∷ ls) .refusal ≡ 0 → NoComments (l ∷ ls)
+    go skipEntry p skip next e =
+        more (not-comment kind gs cs (l .text) skipEntry p (λ x q. let z : _≡_ {A = ℕ} 0 1 = cc in omega arith)) (skip (rw (p, readEntries) at e))
+    go (badEntry x) p skip next e = let z : number x ≡ 0 = rw (p, readEntries) at e in absurd (omega (arith, number-pos x))
+    go (Entry g c v) p skip next e =
+        more (not-comment kind gs cs (l .text) (Entry g c v) p (λ x q. let z : _≡_ {A = ℕ} 0 1 = cc in omega arith))
+        (take (hasPair rows g c) (eqb left 0) (rw (p, readEntries) at e))
       where
         take : (t u : Bool)
             → Quiet ls (elim t [
               | true ↦ refusedFile PairRepeated
-              | false ↦ elim u [ true ↦ refusedFile PairCount | false ↦ readPairs gs cs (left - 1) (addPair rows g c) ls ]
+              | false ↦ elim u [ true ↦ refusedFile PairCount | false ↦ readEntries kind gs cs (left - 1) (addPair rows g c) (addReading vs g c v) ls ]
             ])
         take true u e = absurd (omega arith)
         take false true e = absurd (omega arith)
-        take false false e = next (addPair rows g c) e
+        take false false e = next (addPair rows g c) (addReading vs g c v) e

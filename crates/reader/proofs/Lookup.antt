@@ -14,16 +14,16 @@ use lib.Dec.{eqb, ltb}
 use borrow.Author.Tests.{ne-eqb, eq-eqb, eqb-false, lt-ltb, le-ltb}
 use denote.Ref.{RefT, ptr, now}
 use Rattle.refusals.specs.Answers.{Answer, number, refused, verdict}
-use Rattle.table.specs.Tables.{made}
 use Rattle.refusals.specs.declared.Refusal.{Refusal}
-use Rattle.table.specs.declared.Table.{Table}
-use Rattle.table.specs.declared.Made.{Made}
+use Rattle.recorded.specs.declared.Test.{Test}
+use Rattle.reader.specs.private.Gathering.{gathered}
+use Rattle.reader.specs.declared.Gathered.{Gathered}
 use Rattle.refusals.specs.declared.Verdict.the-variants.{Accepted, Refused}
 use Rattle.text.specs.Lines.{Line, lines, spanAt, atCRLF, extend}
 use Rattle.text.proofs.LineAt.{inside, lines-at}
 use Rattle.refusals.proofs.Answering.{number-pos, number-injective}
 use Rattle.kinds.specs.Kinds.{isComment}
-use Rattle.reader.specs.Reading.{readFile}
+use Rattle.reader.specs.Reading.{readRecorded}
 use Rattle.reader.specs.Comments.{Part, Shows, noPart, found, noComment, commentFrom, commentLines, commentAt}
 use Rattle.reader.specs.declared.Found.{Found}
 use Rattle.reader.specs.declared.Found.the-variants.{At, Refused as FoundRefused}
@@ -81,22 +81,26 @@ find-start f s e k = ⊎-elim none some (eq-zero-or-pos (length f))
         let m : w .0 ≡ s .next = omega (arith, w .2) in
         sym (ap (commentLines k) (w .1) ∙ ap (λ (n : ℕ). commentFrom k n (lines (drop (s .next) f))) m)
 
--- the reader's answer first
-module _ (f : List ℕ) (k : ℕ) (m : Made) (p : made m ≡ readFile f) where
-  refusal-is : verdict (m .verdict) ≡ readFile f .refusal
-  refusal-is = ap (λ (a : Answer Table). a .refusal) p
+-- the answer of the reader first: its refusal n, and else what the search finds
+lookup-by : (x : Refusal) (n : ℕ) (c : Answer Part) → number x ≡ n → refused x noPart ≡ cond (eqb n 0) c (record { refusal = n; value = noPart })
+lookup-by x n c e =
+    let z : eqb n 0 ≡ false = ne-eqb n 0 (λ d. omega (arith, number-pos x)) in
+    rw (z, e)
+
+lookup-none : (n : ℕ) (c : Answer Part) → n ≡ 0 → c ≡ cond (eqb n 0) c (record { refusal = n; value = noPart })
+lookup-none n c e = rw e
+
+module _ (f : List ℕ) (k : ℕ) (m : Gathered) (p : gathered m ≡ readRecorded true f) where
+  refusal-is : verdict (m .verdict) ≡ readRecorded true f .refusal
+  refusal-is = ap (λ (a : Answer Test). a .refusal) p
 
   pub lookup-refused : {x : Refusal} → m .verdict ≡ Refused x → refused x noPart ≡ commentAt f k
   unfolding commentAt
-  lookup-refused {x} e =
-      let q : readFile f .refusal ≡ number x = sym refusal-is ∙ ap verdict e in
-      sym (rw (q, ne-eqb (number x) 0 (λ z. omega (arith, number-pos x))))
+  lookup-refused {x} e = lookup-by x (readRecorded true f .refusal) (commentLines k (lines f)) (ap verdict (sym e) ∙ refusal-is)
 
   pub lookup-found : m .verdict ≡ Accepted → commentLines k (lines f) ≡ commentAt f k
   unfolding commentAt
-  lookup-found e =
-      let q : readFile f .refusal ≡ 0 = sym refusal-is ∙ ap verdict e in
-      sym (rw q)
+  lookup-found e = lookup-none (readRecorded true f .refusal) (commentLines k (lines f)) (sym refusal-is ∙ ap verdict e)
 
 -- ---- where a comment lies
 
@@ -157,11 +161,11 @@ from-inside k at (l ∷ ls) h =
 
 pub comment-inside : (f : List ℕ) (k : ℕ) → commentAt f k .value .start + commentAt f k .value .len ≤ length f
 unfolding commentAt size Sound
-comment-inside f k = go (eqb (readFile f .refusal) 0) refl (lines f) (lines-sound f) (lines-size f)
+comment-inside f k = go (eqb (readRecorded true f .refusal) 0) refl (lines f) (lines-sound f) (lines-size f)
   where
-    go : (t : Bool) → eqb (readFile f .refusal) 0 ≡ t → (ls : List Line) → Sound ls → size ls ≡ length f
-        → (cond t (commentLines k ls) (record { refusal = readFile f .refusal; value = noPart })) .value .start
-        + (cond t (commentLines k ls) (record { refusal = readFile f .refusal; value = noPart })) .value .len ≤ length f
+    go : (t : Bool) → eqb (readRecorded true f .refusal) 0 ≡ t → (ls : List Line) → Sound ls → size ls ≡ length f
+        → (cond t (commentLines k ls) (record { refusal = readRecorded true f .refusal; value = noPart })) .value .start
+        + (cond t (commentLines k ls) (record { refusal = readRecorded true f .refusal; value = noPart })) .value .len ≤ length f
     go false e ls h n = omega arith
     go true e [] h n = omega arith
     go true e (l ∷ ls) h n = omega (arith, from-inside k (l .size) ls (h .1))
@@ -187,11 +191,11 @@ from-some k at (l ∷ ls) h = go (isComment (l .text)) refl (ltb 1 k) refl (eqb 
 
 pub comment-some : (f : List ℕ) (k : ℕ) → commentAt f k .refusal ≡ 0 → 0 < commentAt f k .value .len
 unfolding commentAt
-comment-some f k x = go (eqb (readFile f .refusal) 0) refl (lines f) x
+comment-some f k x = go (eqb (readRecorded true f .refusal) 0) refl (lines f) x
   where
-    go : (t : Bool) → eqb (readFile f .refusal) 0 ≡ t → (ls : List Line)
-        → (cond t (commentLines k ls) (record { refusal = readFile f .refusal; value = noPart })) .refusal ≡ 0
-        → 0 < (cond t (commentLines k ls) (record { refusal = readFile f .refusal; value = noPart })) .value .len
+    go : (t : Bool) → eqb (readRecorded true f .refusal) 0 ≡ t → (ls : List Line)
+        → (cond t (commentLines k ls) (record { refusal = readRecorded true f .refusal; value = noPart })) .refusal ≡ 0
+        → 0 < (cond t (commentLines k ls) (record { refusal = readRecorded true f .refusal; value = noPart })) .value .len
     go false e ls y = absurd (eqb-false _ _ e y)
     go true e [] y = absurd (omega arith)
     go true e (l ∷ ls) y = from-some k (l .size) ls y

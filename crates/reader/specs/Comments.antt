@@ -1,6 +1,7 @@
 -- Comment lines (01, "The file"): "Comment line k (from 1) is shown as a part of the caller's file, without its end, for a file that the
--- reader accepts; any other file gets the reader's refusal." The banner is no comment, and an accepted file has no `%` line behind its
--- size line (refusal 6; `late-comment` in proofs/Late.antt), so the comment lines are the `%` lines behind the first line.
+-- reader accepts; any other file gets the reader's refusal." 02, R-5: "Comment lookup takes either kind", so it is the reader of either
+-- kind, without a cutoff. The banner is no comment, and an accepted file has no `%` line behind its size line (refusal 6; `late-comment` in
+-- proofs/Late.antt), so the comment lines are the `%` lines behind the first line.
 use Prim.Native.Nat.{ℕ, _+_, _-_}
 use mathlib.Core.Path.{_≡_}
 use mathlib.Core.List.{List, [], _∷_}
@@ -12,7 +13,7 @@ use Rattle.refusals.specs.Answers.{Answer, refused}
 use Rattle.refusals.specs.declared.Refusal.the-variants.{NoSuchComment}
 use Rattle.text.specs.Lines.{Line, lines}
 use Rattle.kinds.specs.Kinds.{isComment}
-use Rattle.reader.specs.Reading.{readFile}
+use Rattle.reader.specs.Reading.{readRecorded}
 use Rattle.reader.specs.declared.Found.{Found}
 use Rattle.reader.specs.declared.Found.the-variants.{At, Refused}
 
@@ -59,4 +60,5 @@ commentLines k (l ∷ ls) = commentFrom k (l .size) ls
 
 -- "Comment lookup, after the file"
 unfoldable pub commentAt : List ℕ → ℕ → Answer Part
-commentAt file k = cond (eqb (readFile file .refusal) 0) (commentLines k (lines file)) (record { refusal = readFile file .refusal; value = noPart })
+commentAt file k =
+    cond (eqb (readRecorded true file .refusal) 0) (commentLines k (lines file)) (record { refusal = readRecorded true file .refusal; value = noPart })

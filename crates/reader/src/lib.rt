@@ -1,15 +1,22 @@
-// Reads a response table from a Matrix Market file that is lent as bytes, and looks up its comment lines (01, "The file"; refusals 1 to 9
-// and 17). The first failing line decides; what one line says is in `kinds`. No public function has a `requires`, and none changes lent
-// memory. The time is linear in the file.
+// Reads a Matrix Market file that is lent as bytes, and looks up its comment lines (01, "The file"; 02, R-5; refusals 1 to 9, 17, 20 and
+// 21): a file of pairs to its table, or a file of either kind to the recorded test and its table at a cutoff. The first failing line
+// decides; what one line says is in `kinds`, and one loop goes through the lines of either kind. No public function has a `requires`, and
+// none changes lent memory. The time is linear in the file.
 ghost use mathlib.Core.Path.{_≡_};
 ghost use Prim.Native.Nat.{_≤_};
 ghost use lib.ListN.{length, drop};
 ghost use Rattle.table.specs.Tables.{noRows, made};
+ghost use Rattle.recorded.specs.Tests.{noReadings, blankTest};
 ghost use Rattle.text.specs.Lines.{lines};
-ghost use Rattle.reader.specs.Reading.{accepted, withCase, readPairs, readHead, readFile};
+ghost use Rattle.reader.specs.Reading.{accepted, refusedFile, withCase, readEntries, readHead, readRecorded};
+ghost use Rattle.reader.specs.Reading.{readFile, readTest, recording, refusedBoth};
 ghost use Rattle.reader.specs.Comments.{Shows, found, commentFrom, commentAt};
+ghost use Rattle.reader.specs.private.Gathering.{gathered};
+use kinds::EntryLine;
+use kinds::FirstLine;
 use kinds::HeadLine;
-use kinds::PairLine;
+use recorded::Kind;
+use recorded::Test;
 use refusals::Refusal;
 use refusals::Verdict;
 use table::Case;
@@ -20,27 +27,67 @@ use table::Table;
 // 01: "a file at most 65,536" bytes.
 const MOST_FILE: usize = 65536;
 
+// 02: "a cutoff from 1 to 1,000,000".
+const MOST_CUTOFF: u64 = 1_000_000;
+
+// A recorded test and its table at a cutoff, or a refusal with both blank.
+pub struct Recording {
+    pub verdict: Verdict,
+    pub test: Test,
+    pub table: Table,
+}
+
 // Where a comment line stands in the file, or why it is not shown.
 pub enum Found {
     At { start: usize, len: usize },
     Refused(Refusal),
 }
 
-// The table that a file holds, or its refusal with the blank table.
+// A test, or a refusal with the blank test.
+struct Gathered {
+    pub verdict: Verdict,
+    pub test: Test,
+}
+
+// The table that a file of pairs holds, or its refusal with the blank table. An integer file is refused with 2.
 pub fn read(file: &[u8]) -> Made
     ensures { λ r. ⌜ made r ≡ readFile (now (file .entry)) ⌝ }
 {
-    if MOST_FILE < file.len() {
-        return table::refuse(Refusal::FileTooLong);
+    let answer = read_recorded(file, false);
+    let verdict = answer.verdict;
+    let test = answer.test;
+    let rows = test.entries;
+    let table = Table {
+        gauges: test.gauges,
+        cases: test.cases,
+        rows: rows,
+    };
+    Made {
+        verdict: verdict,
+        table: table,
     }
-    let start = 0;
-    let span = text::line_at(file, start);
-    let end = span.end;
-    let next = span.next;
-    if !kinds::is_banner(&file[start..end]) {
-        return table::refuse(Refusal::NotTheBanner);
+}
+
+// The test that a file of either kind holds, with its table at a cutoff; 21, or the file's refusal, with both blank.
+pub fn read_test(file: &[u8], cutoff: u64) -> Recording
+    ensures { λ r. ⌜ recording r ≡ readTest (now (file .entry)) cutoff ⌝ }
+{
+    if !table::in_range(cutoff, MOST_CUTOFF) {
+        return refuse_both(Refusal::CutoffRange);
     }
-    read_head(file, next)
+    let answer = read_recorded(file, true);
+    let verdict = answer.verdict;
+    let test = answer.test;
+    if let Verdict::Refused(why) = verdict {
+        return refuse_both(why);
+    }
+    let made = recorded::table_at(test, cutoff);
+    let table = made.table;
+    Recording {
+        verdict: Verdict::Accepted,
+        test: test,
+        table: table,
+    }
 }
 
 // The `k`-th comment line of a file, from 1, without its end; the empty part where `comment_at` refuses. No comment is empty.
@@ -54,11 +101,11 @@ pub fn comment(file: &[u8], k: u64) -> &[u8]
     &file[start..start + len]
 }
 
-// Where the `k`-th comment line of a file stands, or the reader's refusal, or 17.
+// Where the `k`-th comment line of a file stands, or the refusal of the reader of either kind, or 17.
 pub fn comment_at(file: &[u8], k: u64) -> Found
     ensures { λ r. ⌜ found r ≡ commentAt (now (file .entry)) k ⌝ }
 {
-    let answer = read(file);
+    let answer = read_recorded(file, true);
     let verdict = answer.verdict;
     let start = 0;
     let span = text::line_at(file, start);
@@ -69,71 +116,100 @@ pub fn comment_at(file: &[u8], k: u64) -> Found
     }
 }
 
+// A file whose first line is the banner of a file of pairs or, where `integers` says so, of an integer file.
+fn read_recorded(file: &[u8], integers: bool) -> Gathered
+    ensures { λ r. ⌜ gathered r ≡ readRecorded integers (now (file .entry)) ⌝ }
+{
+    if MOST_FILE < file.len() {
+        return refuse(Refusal::FileTooLong);
+    }
+    let start = 0;
+    let span = text::line_at(file, start);
+    let end = span.end;
+    let next = span.next;
+    let first = kinds::first_line(&file[start..end], integers);
+    let FirstLine::Banner(kind) = first else {
+        return refuse(Refusal::NotTheBanner);
+    };
+    read_head(file, next, kind)
+}
+
 // The lines from a place on, of which the size line is still to come.
-fn read_head(file: &[u8], from: usize) -> Made
+fn read_head(file: &[u8], from: usize, kind: Kind) -> Gathered
     requires { ⌜ from ≤ length (now file) ⌝ }
-    ensures { λ r. ⌜ made r ≡ readHead (lines (drop from (now (file .entry)))) ⌝ }
+    ensures { λ r. ⌜ gathered r ≡ readHead kind (lines (drop from (now (file .entry)))) ⌝ }
 {
     let mut at = from;
     while at < file.len() {
         let span = text::line_at(file, at);
         let end = span.end;
         let next = span.next;
-        let kind = kinds::head_line(&file[at..end]);
-        match kind {
+        let head = kinds::head_line(&file[at..end]);
+        match head {
             HeadLine::Skip => {
                 at = next;
             }
             HeadLine::Bad(why) => {
-                return table::refuse(why);
+                return refuse(why);
             }
             HeadLine::Size(gauges, cases, count) => {
-                return read_pairs(file, next, gauges, cases, count);
+                return read_entries(file, next, kind, gauges, cases, count);
             }
         }
     }
-    table::refuse(Refusal::SizeFields)
+    refuse(Refusal::SizeFields)
 }
 
-// The pair lines from a place on, `count` in number, where `gauges` is the last gauge and `cases` the last case.
-fn read_pairs(file: &[u8], from: usize, gauges: Gauge, cases: Case, count: u64) -> Made
+// The entry lines from a place on, `count` in number, where `gauges` is the last gauge and `cases` the last case.
+fn read_entries(
+    file: &[u8],
+    from: usize,
+    kind: Kind,
+    gauges: Gauge,
+    cases: Case,
+    count: u64,
+) -> Gathered
     requires { ⌜ (from ≤ length (now file)) × (gauges .0 ≤ 64) × (cases .0 ≤ 64) ⌝ }
-    ensures { λ r. ⌜ made r ≡ readPairs gauges cases count noRows (lines (drop from (now (file .entry)))) ⌝ }
+    ensures { λ r. ⌜ gathered r ≡ readEntries kind gauges cases count noRows noReadings (lines (drop from (now (file .entry)))) ⌝ }
 {
     let mut rows = [0u64; 64];
+    let mut values = [0i32; 4096];
     let mut left = count;
     let mut at = from;
     while at < file.len() {
         let span = text::line_at(file, at);
         let end = span.end;
         let next = span.next;
-        let kind = kinds::pair_line(&file[at..end], gauges, cases);
-        match kind {
-            PairLine::Skip => {
+        let entry = kinds::entry_line(&file[at..end], kind, gauges, cases);
+        match entry {
+            EntryLine::Skip => {
                 at = next;
             }
-            PairLine::Bad(why) => {
-                return table::refuse(why);
+            EntryLine::Bad(why) => {
+                return refuse(why);
             }
-            PairLine::Pair(g, c) => {
+            EntryLine::Entry(g, c, v) => {
                 let i = (g.0 - 1) as usize;
+                let k = (c.0 - 1) as usize;
                 let row = rows[i];
                 if sets::has(row, c.0 - 1) {
-                    return table::refuse(Refusal::PairRepeated);
+                    return refuse(Refusal::PairRepeated);
                 }
                 if left == 0 {
-                    return table::refuse(Refusal::PairCount);
+                    return refuse(Refusal::PairCount);
                 }
                 rows[i] = with_case(row, c);
+                let p = i * 64 + k;
+                values[p] = v;
                 left -= 1;
                 at = next;
             }
         }
     }
     if left != 0 {
-        return table::refuse(Refusal::PairCount);
+        return refuse(Refusal::PairCount);
     }
-    accept(gauges, cases, rows)
+    accept(kind, gauges, cases, rows, values)
 }
 
 // The row with the bit of a case (01: "bit c-1").
@@ -144,18 +220,63 @@ fn with_case(row: u64, c: Case) -> u64
     row | (1u64 << (c.0 - 1))
 }
 
-// A table that was read, with its last gauge and its last case.
-fn accept(gauges: Gauge, cases: Case, rows: [u64; 64]) -> Made
-    ensures { λ r. ⌜ made r ≡ accepted (record { gauges = gauges .0; cases = cases .0; rows = rows }) ⌝ }
+// A test that was read, with its last gauge and its last case.
+fn accept(kind: Kind, gauges: Gauge, cases: Case, rows: [u64; 64], values: [i32; 4096]) -> Gathered
+    ensures { λ r. ⌜ gathered r ≡ accepted (record { kind = kind; gauges = gauges .0; cases = cases .0; entries = rows; readings = values }) ⌝ }
 {
-    let table = Table {
+    let test = Test {
+        kind: kind,
         gauges: gauges.0,
         cases: cases.0,
+        entries: rows,
+        readings: values,
+    };
+    Gathered {
+        verdict: Verdict::Accepted,
+        test: test,
+    }
+}
+
+// A refusal, with the blank test.
+fn refuse(why: Refusal) -> Gathered
+    ensures { λ r. ⌜ gathered r ≡ refusedFile why ⌝ }
+{
+    Gathered {
+        verdict: Verdict::Refused(why),
+        test: blank(),
+    }
+}
+
+// A refusal, with the blank test and the blank table.
+fn refuse_both(why: Refusal) -> Recording
+    ensures { λ r. ⌜ recording r ≡ refusedBoth why ⌝ }
+{
+    let test = blank();
+    let rows = [0u64; 64];
+    let table = Table {
+        gauges: 0,
+        cases: 0,
         rows: rows,
     };
-    Made {
-        verdict: Verdict::Accepted,
+    Recording {
+        verdict: Verdict::Refused(why),
+        test: test,
         table: table,
+    }
+}
+
+// The test beside a refusal.
+fn blank() -> Test
+    ensures { λ r. ⌜ r ≡ blankTest ⌝ }
+{
+    let entries = [0u64; 64];
+    let values = [0i32; 4096];
+    Test {
+        kind: Kind::Pattern,
+        gauges: 0,
+        cases: 0,
+        entries: entries,
+        readings: values,
     }
 }
 

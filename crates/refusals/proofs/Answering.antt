@@ -33,6 +33,8 @@ use Rattle.refusals.specs.declared.Refusal.the-variants.{
   NoSuchComment,
   BudgetTooLarge,
   PairAbsent,
+  ReadingRange,
+  CutoffRange,
 }
 use Rattle.refusals.specs.declared.Verdict.{Verdict}
 use Rattle.refusals.specs.declared.Verdict.the-variants.{Accepted, Refused}
@@ -43,7 +45,7 @@ named n =
     getD
     (FileTooLong ∷ NotTheBanner ∷ LineTooLong ∷ SizeFields ∷ SizeRange ∷ PairFields ∷ PairRange ∷ PairRepeated ∷ PairCount
     ∷ TableShape ∷ TableRows ∷ ChainCount ∷ ChainPairs ∷ NotAChain ∷ NotReached ∷ BufferTooShort ∷ NoSuchComment ∷ BudgetTooLarge
-    ∷ PairAbsent ∷ [])
+    ∷ PairAbsent ∷ ReadingRange ∷ CutoffRange ∷ [])
     (n - 1) FileTooLong
 
 pub named-number : (x : Refusal) → named (number x) ≡ x
@@ -67,6 +69,8 @@ named-number BufferTooShort = refl
 named-number NoSuchComment = refl
 named-number BudgetTooLarge = refl
 named-number PairAbsent = refl
+named-number ReadingRange = refl
+named-number CutoffRange = refl
 
 pub number-injective : (x y : Refusal) → number x ≡ number y → x ≡ y
 number-injective x y e = sym (named-number x) ∙ ap named e ∙ named-number y

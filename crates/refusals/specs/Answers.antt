@@ -24,6 +24,8 @@ use Rattle.refusals.specs.declared.Refusal.the-variants.{
   NoSuchComment,
   BudgetTooLarge,
   PairAbsent,
+  ReadingRange,
+  CutoffRange,
 }
 use Rattle.refusals.specs.declared.Verdict.{Verdict}
 use Rattle.refusals.specs.declared.Verdict.the-variants.{Accepted, Refused}
@@ -50,6 +52,9 @@ number NoSuchComment = 17
 number BudgetTooLarge = 18
 -- 02, R-2: "the pair named is not in the table"
 number PairAbsent = 19
+-- 02, R-5: "20: v out of range"; "21: cutoff out of range"
+number ReadingRange = 20
+number CutoffRange = 21
 
 -- an answer: 01's number, 0 where nothing is refused, and the value
 pub record Answer (A : Type 0) : Type 0 where

@@ -25,6 +25,8 @@ pub enum Refusal {
     NoSuchComment,
     BudgetTooLarge,
     PairAbsent,
+    ReadingRange,
+    CutoffRange,
 }
 
 // Whether a check passed, and if not, which refusal it was.
@@ -57,5 +59,7 @@ pub fn refusal_number(why: Refusal) -> u64
         Refusal::NoSuchComment => 17,
         Refusal::BudgetTooLarge => 18,
         Refusal::PairAbsent => 19,
+        Refusal::ReadingRange => 20,
+        Refusal::CutoffRange => 21,
     }
 }

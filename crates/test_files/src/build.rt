@@ -21,10 +21,24 @@ struct Item {
 
 // Stores the file of a text, and gives its length.
 pub fn file(text: &[u8], out: &mut [u8; ROOM]) -> usize {
-    if script::byte(text, 0) != b'@' {
-        return store(text, 0, out, 0);
+    let first = script::byte(text, 0);
+    match first {
+        b'@' => behind(
+            b"%%MatrixMarket matrix coordinate pattern general\n",
+            text,
+            out,
+        ),
+        b'$' => behind(
+            b"%%MatrixMarket matrix coordinate integer general\n",
+            text,
+            out,
+        ),
+        _ => store(text, 0, out, 0),
     }
-    let banner = b"%%MatrixMarket matrix coordinate pattern general\n";
+}
+
+// Stores a banner's line, and behind it the text without its first byte.
+fn behind(banner: &[u8], text: &[u8], out: &mut [u8; ROOM]) -> usize {
     let end = store(banner, 0, out, 0);
     store(text, 1, out, end)
 }

@@ -1,6 +1,7 @@
 // The cases of the script, one after another: each line's verb says what is done with its content.
 use crate::build;
 use crate::reading;
+use crate::recording;
 use crate::say;
 use crate::script;
 use crate::tables;
@@ -48,7 +49,7 @@ fn is_of_table(verb: u8) -> bool {
     }
 }
 
-// The verbs read, long, comment and again; the last reads a file for the verb show.
+// The verbs read, long, comment, measure and again; the last reads a file for the verb show.
 fn of_file(line: &[u8], verb: u8) {
     let mut space = [build::FILL; build::ROOM];
     let end = build::file(script::content(line), &mut space);
@@ -58,6 +59,7 @@ fn of_file(line: &[u8], verb: u8) {
         b'a' => writing::table(reading::table(file), b's', build::ROOM, label),
         b'c' => reading::comment(file, script::argument(line), label),
         b'l' => reading::sized(file, label),
+        b'm' => recording::plain(file, script::argument(line), label),
         _ => reading::plain(file, label),
     }
 }

@@ -1,6 +1,7 @@
 // The library under test, with plain numbers in place of its enums: a refusal is its number in 01, as `refusals::refusal_number` gives it,
 // and no refusal is 0. Nothing else here names a type of the library but `Table`.
 use reader::Found;
+use recorded::Kind;
 use refusals::Refusal;
 use refusals::Verdict;
 use table::Table;
@@ -19,6 +20,45 @@ pub fn read(file: &[u8]) -> Reading {
     Reading {
         refused: number_of(verdict),
         table: t,
+    }
+}
+
+// A test read with a cutoff: whether it is an integer test, its entries as a table, its readings, and its table at the cutoff; or the number
+// of a refusal.
+pub struct Measured {
+    pub refused: u64,
+    pub integer: bool,
+    pub entries: Table,
+    pub readings: [i32; 4096],
+    pub table: Table,
+}
+
+pub fn read_test(file: &[u8], cutoff: u64) -> Measured {
+    let got = reader::read_test(file, cutoff);
+    let verdict = got.verdict;
+    let test = got.test;
+    let table = got.table;
+    let kind = test.kind;
+    let rows = test.entries;
+    let readings = test.readings;
+    let entries = Table {
+        gauges: test.gauges,
+        cases: test.cases,
+        rows: rows,
+    };
+    Measured {
+        refused: number_of(verdict),
+        integer: is_integer(kind),
+        entries: entries,
+        readings: readings,
+        table: table,
+    }
+}
+
+fn is_integer(kind: Kind) -> bool {
+    match kind {
+        Kind::Pattern => false,
+        Kind::Integer => true,
     }
 }
 

@@ -13,8 +13,8 @@ use lib.ListN.{length, getD, drop, drop-of-length-le}
 use lib.Seq.{drop-cons}
 use lib.Dec.{ltb, leb}
 use borrow.Author.Tests.{ne-eqb, eq-eqb, lt-ltb, le-leb, lt-leb, leb-true}
-use Rattle.text.specs.Fields.{scan, close, isBlank, isDigit, shape, fields}
-use Rattle.text.specs.private.ScanSteps.{digitOf, rest, Found, FieldSays, FieldAt}
+use Rattle.text.specs.Fields.{scan, close, isBlank, isDigit, digitOf, shape, fields}
+use Rattle.text.specs.private.ScanSteps.{rest, Found, FieldSays, FieldAt}
 use Rattle.text.specs.declared.Fields.the-variants.{Blank, Two, Three, Other}
 use Rattle.text.specs.declared.Field.{Field}
 use Rattle.text.specs.declared.Field.the-variants.{Number, End, Bad}
@@ -51,14 +51,14 @@ pub digit-in : (b : ℕ) → 48 ≤ b → b ≤ 57 → b - 48 ≡ digitOf b
 digit-in b g h = rw (le-leb 48 b g, le-leb b 57 h)
 
 -- a byte with a digit's value is that digit
-digit-is : (b d : ℕ) → d ≡ digitOf b → d ≤ 9 → (isDigit b ≡ true) × (d ≡ b - 48)
+pub digit-is : (b d : ℕ) → d ≡ digitOf b → d ≤ 9 → (isDigit b ≡ true) × (d ≡ b - 48)
 digit-is b d e h = go (isDigit b) refl e
   where
     go : (t : Bool) → isDigit b ≡ t → d ≡ cond t (b - 48) 10 → (isDigit b ≡ true) × (d ≡ b - 48)
     go true p q = (p, q)
     go false p q = absurd (omega arith)
 
-digit-not : (b d : ℕ) → d ≡ digitOf b → 9 < d → isDigit b ≡ false
+pub digit-not : (b d : ℕ) → d ≡ digitOf b → 9 < d → isDigit b ≡ false
 digit-not b d e h = go (isDigit b) refl e
   where
     go : (t : Bool) → isDigit b ≡ t → d ≡ cond t (b - 48) 10 → isDigit b ≡ false

@@ -3,7 +3,7 @@
 use Prim.Native.Nat.{ℕ, zero, suc, _+_, _-_, _*_}
 use mathlib.Core.List.{List, [], _∷_}
 use mathlib.Core.Option.{Option, some, none}
-use mathlib.Core.Bool.{Bool, true, false, _&&_, _||_}
+use mathlib.Core.Bool.{Bool, true, false, cond, _&&_, _||_}
 use lib.Dec.{ltb, leb, eqb}
 use Rattle.text.specs.declared.Fields.{Fields}
 use Rattle.text.specs.declared.Fields.the-variants.{Blank, Two, Three, Other}
@@ -15,6 +15,10 @@ isBlank b = eqb b 32 || eqb b 9
 -- 0 to 9
 abbrev pub isDigit : ℕ → Bool
 isDigit b = leb 48 b && leb b 57
+
+-- the value of a digit, 10 for any other byte
+abbrev pub digitOf : ℕ → ℕ
+digitOf b = cond (isDigit b) (b - 48) 10
 
 -- a field of k digits and the number v ends in front of the fields fs; there is no field where k is 0
 abbrev pub close : ℕ → ℕ → Option (List ℕ) → Option (List ℕ)

@@ -1,13 +1,14 @@
-// Lines and fields of a text file that is lent as bytes: the line at a place, the fields of a line, and whether two texts are the same.
+// Lines and fields of a text file that is lent as bytes: the line at a place, the fields of a line, and whether two texts are the same;
+// and single bytes, blanks and digits, for crate `entries`, whose fields may have a sign.
 // Every public function takes any bytes and any place and refuses nothing; none changes lent memory.
 ghost use mathlib.Core.Path.{_≡_};
 ghost use mathlib.Core.List.{map};
 ghost use Prim.Native.Nat.{_≤_};
 ghost use lib.ListN.{length, drop};
 ghost use Rattle.text.specs.Lines.{spanAt};
-ghost use Rattle.text.specs.Fields.{isBlank, fields};
+ghost use Rattle.text.specs.Fields.{isBlank, digitOf, fields};
 ghost use Rattle.text.specs.Bytes.{sameBytes, small as smallOf};
-ghost use Rattle.text.specs.private.ScanSteps.{endSize, digitOf, FieldAt};
+ghost use Rattle.text.specs.private.ScanSteps.{endSize, FieldAt};
 
 // The digits that a field has at most (01: "A field is 1 to 9 digits").
 const MOST_DIGITS: u64 = 9;
@@ -117,6 +118,32 @@ pub fn same_small(a: &[u8], b: &[u8]) -> bool
     true
 }
 
+// "Blanks are space and tab."
+pub fn is_blank(b: u8) -> bool
+    ensures { λ r. ⌜ r ≡ isBlank b ⌝ }
+{
+    if b == b' ' {
+        return true;
+    }
+    if b == b'\t' {
+        return true;
+    }
+    false
+}
+
+// The value of a digit, `NO_DIGIT` for any other byte.
+pub fn digit_of(b: u8) -> u64
+    ensures { λ r. ⌜ r ≡ digitOf b ⌝ }
+{
+    if b < b'0' {
+        return NO_DIGIT;
+    }
+    if b'9' < b {
+        return NO_DIGIT;
+    }
+    (b - b'0') as u64
+}
+
 // A capital letter, A to Z, as the small one; any other byte as it is.
 fn small(b: u8) -> u8
     ensures { λ r. ⌜ r ≡ smallOf b ⌝ }
@@ -186,30 +213,4 @@ fn field_at(line: &[u8], at: usize) -> Field
         return Field::Number(v, i);
     }
     Field::End
-}
-
-// "Blanks are space and tab."
-fn is_blank(b: u8) -> bool
-    ensures { λ r. ⌜ r ≡ isBlank b ⌝ }
-{
-    if b == b' ' {
-        return true;
-    }
-    if b == b'\t' {
-        return true;
-    }
-    false
-}
-
-// The value of a digit, `NO_DIGIT` for any other byte.
-fn digit_of(b: u8) -> u64
-    ensures { λ r. ⌜ r ≡ digitOf b ⌝ }
-{
-    if b < b'0' {
-        return NO_DIGIT;
-    }
-    if b'9' < b {
-        return NO_DIGIT;
-    }
-    (b - b'0') as u64
 }

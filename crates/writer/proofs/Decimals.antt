@@ -9,6 +9,7 @@ use lib.ListN.{length, length-append}
 use lib.Dec.{ltb}
 use borrow.Author.Tests.{lt-ltb, le-ltb, ltb-true, ltb-false}
 use Rattle.writer.specs.Writing.{decimal, digits}
+use Rattle.writer.specs.private.StoreSteps.{Width}
 
 -- a decimal number by its cases
 pub decimal-short : (k n : ℕ) → n < 10 → decimal (suc k) n ≡ (48 + n) ∷ []
@@ -73,8 +74,11 @@ width-one n h = sym (ap length (digits-short n h))
 pub width-two : (n : ℕ) → 10 ≤ n → n < 100 → 2 ≡ length (digits n)
 width-two n l h = omega (arith, digits-long-length n l (omega arith), width-one (n / 10) (omega arith))
 
-pub width-three : (n : ℕ) → 100 ≤ n → n < 1000 → 3 ≡ length (digits n)
-width-three n l h = omega (arith, digits-long-length n (omega arith) (omega arith), width-two (n / 10) (omega arith) (omega arith))
+-- as the code counts them
+pub width-short : (n : ℕ) → n < 10 → Width n 1
+width-short n h = record { is = width-one n h; small = omega arith }
 
-pub width-four : (n : ℕ) → 1000 ≤ n → n < 10000 → 4 ≡ length (digits n)
-width-four n l h = omega (arith, digits-long-length n (omega arith) (omega arith), width-three (n / 10) (omega arith) (omega arith))
+pub width-long : (n r : ℕ) → 10 ≤ n → n < 10 ^ 9 → Width (n / 10) r → Width n (r + 1)
+width-long n r l h w =
+    let e : r + 1 ≡ length (digits n) = omega (arith, digits-long-length n l h, w .is) in
+    record { is = e; small = omega (arith, e, decimal-length 9 n) }

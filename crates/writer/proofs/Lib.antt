@@ -1,10 +1,9 @@
--- Laws that belong to no one function. For users of the writer: `RoundTrip` and `Sizes`.
+-- Laws that belong to no one function. For users of the writer: `Sizes`.
 pub mod Decimals
 pub mod Stores
 pub mod PairLines
+pub mod Readings
 pub mod Sizes
 pub mod RowSizes
 pub mod Counting
 pub mod Files
-pub mod ReadBack
-pub mod RoundTrip

@@ -1,5 +1,6 @@
--- The lines of the pairs as the loops make them. In order: the line of a pair; the pairs of a row, the lowest case first (`row-first`), and
--- a row over more cases than it has (`row-wide`); the rows. How many they are and how long is in Counting.antt.
+-- The lines of the pairs as the loops make them, whatever the text of a line is. In order: one line; the pairs of a row, the lowest case
+-- first (`pairs-first`, `row-first`), and a row over more cases than it has (`row-wide`); the rows. How many they are and how long is in
+-- Counting.antt.
 use Prim.Native.Nat.{ℕ, zero, suc, _+_, _/_, _%_, _^_, _≤_, _<_}
 use mathlib.Core.Path.{_≡_, refl, ap, sym, _∙_}
 use mathlib.Core.List.{List, [], _∷_, _++_, append-assoc}
@@ -10,6 +11,7 @@ use native.Mathlib.Nat.{pow-suc}
 use lib.ListN.{length, getD, take, length-append, length-take, drop-of-length-le}
 use lib.Seq.{drop-cons, getD-take}
 use lib.Dec.{eqb}
+use lib.IntN.{ℤ}
 use lib.Count.{trailingZeros}
 use borrow.Author.Tests.{eq-eqb, ne-eqb, eqb-true, eqb-false}
 use Rattle.sets.specs.Sets.{bit}
@@ -18,13 +20,15 @@ use Rattle.sets.proofs.Digits.{bit-zero, bit-suc}
 use Rattle.sets.proofs.Order.{eq-of-bits}
 use Rattle.table.specs.declared.Gauge.{Gauge}
 use Rattle.table.specs.declared.Case.{Case}
-use Rattle.writer.specs.Writing.{digits, gaugeOf, caseOf, GaugeCase, rowPairs, pairsFrom, pairText, pairLines}
-use Rattle.writer.specs.private.StoreSteps.{pairBytes, pairsAt, rowsFrom}
+use Rattle.recorded.specs.declared.Kind.{Kind}
+use Rattle.writer.specs.Writing.{digits, gaugeOf, caseOf, GaugeCase, rowPairs, pairsFrom, pairText, linesOf}
+use Rattle.writer.specs.TestFiles.{entryText}
+use Rattle.writer.specs.private.StoreSteps.{pairsAt, rowsFrom}
 use Rattle.writer.proofs.Stores.{Writing, writing-room}
 
--- the line of a pair, in front of other lines
-pair-front : (g : Gauge) (c : Case) (s : List ℕ) → pairText (record { gauge = g; case = c }) ++ 10 ∷ s ≡ pairBytes g c ++ s
-pair-front g c s = simp append-assoc
+-- a line with its LF, in front of other lines
+line-front : (l s : List ℕ) → l ++ 10 ∷ s ≡ (l ++ 10 ∷ []) ++ s
+line-front l s = sym (append-assoc l (10 ∷ []) s)
 
 pub line-length : (g : Gauge) (c : Case) (s : List ℕ)
     → length (pairText (record { gauge = g; case = c }) ++ 10 ∷ s) ≡ length (digits (g .0)) + length (digits (c .0)) + 2 + length s
@@ -55,6 +59,14 @@ pub row-none : (g : Gauge) (n c b : ℕ) → b ≡ 0 → rowPairs g n c b ≡ []
 unfolding rowPairs
 row-none g zero c b e = refl
 row-none g (suc n) c b e = row-even g n c b (λ h. omega arith) ∙ row-none g n (suc c) (b / 2) (omega arith)
+
+-- at most one for each case
+pub row-few : (g : Gauge) (n c b : ℕ) → length (rowPairs g n c b) ≤ n
+unfolding rowPairs
+row-few g zero c b = omega arith
+row-few g (suc n) c b =
+    let less = row-few g n (suc c) (b / 2) in
+    by-low (λ l. length l ≤ suc n) g n c b (λ e. omega (arith, less)) (λ e. omega (arith, less))
 
 -- a row has no pair behind its highest bit
 row-wide : (g : Gauge) (n m c b : ℕ) → b < 2 ^ n → n ≤ m → rowPairs g n c b ≡ rowPairs g m c b
@@ -120,28 +132,33 @@ row-lowest g (suc n) c b (suc k) r l h =
             go false e = ne-eqb (suc i) (suc j) (λ z. eqb-false i j e (omega arith))
 
 module _ (g : Gauge) (b k r : ℕ) (e : k ≡ trailingZeros 64 b) (l : Lowest b k) (h : Rest b r) where
-  -- the next turn of the loop over a row
-  pub row-first : pairLines (rowPairs g 64 1 b) ≡ pairBytes g (caseOf (k + 1)) ++ pairLines (rowPairs g 64 1 r)
-  row-first =
-      ap pairLines (row-lowest g 64 1 b k r (l .below) loses)
-      ∙ ap (λ (m : ℕ). pairLines (record { gauge = g; case = caseOf m } ∷ rowPairs g 64 1 r)) (omega arith)
-      ∙ pair-front g (caseOf (k + 1)) (pairLines (rowPairs g 64 1 r))
+  -- the next turn of a loop over a row: the pair of its lowest case, and the others
+  pub pairs-first : rowPairs g 64 1 b ≡ record { gauge = g; case = caseOf (k + 1) } ∷ rowPairs g 64 1 r
+  pairs-first =
+      row-lowest g 64 1 b k r (l .below) loses ∙ ap (λ (m : ℕ). record { gauge = g; case = caseOf m } ∷ rowPairs g 64 1 r) (omega arith)
     where
       loses : Loses b k r
       loses = record { here = l .here; none = l .none; bits = λ i. h .bits i ∙ ap (λ (m : ℕ). bit b i && not (eqb i m)) (sym e) }
 
-  pub row-room : {m₀ : List ℕ} {at : ℕ} {total : List ℕ} {m : List ℕ} {p : ℕ}
-      → Writing m₀ at total m p (pairLines (rowPairs g 64 1 b)) → at + length total ≤ length m₀ → p + length (pairBytes g (caseOf (k + 1))) ≤ length m
-  row-room w f = writing-room w (pairBytes g (caseOf (k + 1))) (pairLines (rowPairs g 64 1 r)) row-first f
+  module _ (text : GaugeCase → List ℕ) where
+    pub row-first : linesOf text (rowPairs g 64 1 b) ≡ (text (record { gauge = g; case = caseOf (k + 1) }) ++ 10 ∷ []) ++ linesOf text (rowPairs g 64 1 r)
+    row-first =
+        ap (linesOf text) pairs-first
+        ∙ line-front (text (record { gauge = g; case = caseOf (k + 1) })) (linesOf text (rowPairs g 64 1 r))
 
-pub row-end : (g : Gauge) (b : ℕ) → b ≡ 0 → pairLines (rowPairs g 64 1 b) ≡ []
-row-end g b e = ap pairLines (row-none g 64 1 b e)
+    pub row-room : {m₀ : List ℕ} {at : ℕ} {total : List ℕ} {m : List ℕ} {p : ℕ}
+        → Writing m₀ at total m p (linesOf text (rowPairs g 64 1 b)) → at + length total ≤ length m₀
+        → p + length (text (record { gauge = g; case = caseOf (k + 1) }) ++ 10 ∷ []) ≤ length m
+    row-room w f = writing-room w (text (record { gauge = g; case = caseOf (k + 1) }) ++ 10 ∷ []) (linesOf text (rowPairs g 64 1 r)) row-first f
+
+pub row-end : (text : GaugeCase → List ℕ) (g : Gauge) (b : ℕ) → b ≡ 0 → linesOf text (rowPairs g 64 1 b) ≡ []
+row-end text g b e = ap (linesOf text) (row-none g 64 1 b e)
 
 -- ---- the rows
 
-pub pairLines-append : (ps qs : List GaugeCase) → pairLines (ps ++ qs) ≡ pairLines ps ++ pairLines qs
-pairLines-append [] qs = refl
-pairLines-append (p ∷ ps) qs = rw (pairLines-append ps qs) (sym (append-assoc (pairText p) (10 ∷ pairLines ps) (pairLines qs)))
+pub lines-append : (text : GaugeCase → List ℕ) (ps qs : List GaugeCase) → linesOf text (ps ++ qs) ≡ linesOf text ps ++ linesOf text qs
+lines-append text [] qs = refl
+lines-append text (p ∷ ps) qs = rw (lines-append text ps qs) (sym (append-assoc (text p) (10 ∷ linesOf text ps) (linesOf text qs)))
 
 pub at-end : (gs : Gauge) (rows : List ℕ) (i : ℕ) → gs .0 ≤ i → pairsAt gs rows i ≡ []
 unfolding pairsFrom
@@ -156,19 +173,21 @@ at-next gs rows i h l =
     let k : i < length (take (gs .0) rows) = omega (arith, length-take (gs .0) rows) in
     rw (drop-cons (take (gs .0) rows) i 0 k, getD-take (gs .0) rows i 0 h) (rw (add-one (i + 1), add-one i))
 
-pub rows-end : (gs : Gauge) (rows : List ℕ) (i : ℕ) → gs .0 ≤ i → rowsFrom gs rows i ≡ []
-rows-end gs rows i h = ap pairLines (at-end gs rows i h)
+module _ (kind : Kind) (vs : List ℤ) (gs : Gauge) (rows : List ℕ) (i : ℕ) where
+  pub rows-end : gs .0 ≤ i → rowsFrom kind vs gs rows i ≡ []
+  rows-end h = ap (linesOf (entryText kind vs)) (at-end gs rows i h)
 
-pub rows-next : (gs : Gauge) (rows : List ℕ) (i : ℕ) → i < gs .0 → gs .0 ≤ length rows
-    → rowsFrom gs rows i ≡ pairLines (rowPairs (gaugeOf (i + 1)) 64 1 (getD rows i 0)) ++ rowsFrom gs rows (i + 1)
-rows-next gs rows i h l =
-    ap pairLines (at-next gs rows i h l) ∙ pairLines-append (rowPairs (gaugeOf (i + 1)) 64 1 (getD rows i 0)) (pairsAt gs rows (i + 1))
+  pub rows-next : i < gs .0 → gs .0 ≤ length rows
+      → rowsFrom kind vs gs rows i ≡ linesOf (entryText kind vs) (rowPairs (gaugeOf (i + 1)) 64 1 (getD rows i 0)) ++ rowsFrom kind vs gs rows (i + 1)
+  rows-next h l =
+      ap (linesOf (entryText kind vs)) (at-next gs rows i h l)
+      ∙ lines-append (entryText kind vs) (rowPairs (gaugeOf (i + 1)) 64 1 (getD rows i 0)) (pairsAt gs rows (i + 1))
 
-pub rows-room : (gs : Gauge) (rows : List ℕ) (i : ℕ) {l : List ℕ} {at : ℕ} {total : List ℕ} {m : List ℕ} {p : ℕ}
-    → Writing l at total m p (rowsFrom gs rows i) → i < gs .0 → gs .0 ≤ length rows → at + length total ≤ length l
-    → p + length (pairLines (rowPairs (gaugeOf (i + 1)) 64 1 (getD rows i 0))) ≤ length m
-rows-room gs rows i w h l k =
-    writing-room w (pairLines (rowPairs (gaugeOf (i + 1)) 64 1 (getD rows i 0))) (rowsFrom gs rows (i + 1)) (rows-next gs rows i h l) k
+  pub rows-room : {l : List ℕ} {at : ℕ} {total : List ℕ} {m : List ℕ} {p : ℕ}
+      → Writing l at total m p (rowsFrom kind vs gs rows i) → i < gs .0 → gs .0 ≤ length rows → at + length total ≤ length l
+      → p + length (linesOf (entryText kind vs) (rowPairs (gaugeOf (i + 1)) 64 1 (getD rows i 0))) ≤ length m
+  rows-room w h l k =
+      writing-room w (linesOf (entryText kind vs) (rowPairs (gaugeOf (i + 1)) 64 1 (getD rows i 0))) (rowsFrom kind vs gs rows (i + 1)) (rows-next h l) k
 
 -- rows below 2 ^ cs have no pair behind case cs
 pub rows-wide : (cs g : ℕ) (rows : List ℕ) → cs ≤ 64 → ((i : ℕ) → getD rows i 0 < 2 ^ cs) → pairsFrom 64 g rows ≡ pairsFrom cs g rows

@@ -10,7 +10,7 @@ use lib.Count.{ones, ones-step, ones-le}
 use lib.Pow.{mod-pow-add}
 use lib.ListN.{length}
 use Rattle.table.specs.declared.Gauge.{Gauge}
-use Rattle.writer.specs.Writing.{digits, caseOf, rowPairs, pairLines}
+use Rattle.writer.specs.Writing.{digits, caseOf, rowPairs, pairText, linesOf}
 use Rattle.writer.specs.private.StoreSteps.{Width, IsTotals}
 use Rattle.writer.proofs.Decimals.{lt-or-le, width-one, width-two}
 use Rattle.writer.proofs.PairLines.{line-length, by-low, row-none}
@@ -81,24 +81,24 @@ module _ (g : Gauge) (c b more : ℕ) (h : c < 100) (ih : more + low (10 - suc c
       (lt-or-le c 10))
 
 row-bytes : (g : Gauge) (n c b : ℕ) → b < 2 ^ n → c + n ≤ 100
-    → length (pairLines (rowPairs g n c b)) + low (10 - c) b ≡ ones b * (length (digits (g .0)) + 4)
+    → length (linesOf pairText (rowPairs g n c b)) + low (10 - c) b ≡ ones b * (length (digits (g .0)) + 4)
 row-bytes g zero c b l h =
     let z : b ≡ 0 = omega arith in
     rw (row-none g zero c b z, low-none (10 - c) b z, ones-none b z) (omega arith)
 row-bytes g (suc n) c b l h =
-    let rest = pairLines (rowPairs g n (suc c) (b / 2)) in
+    let rest = linesOf pairText (rowPairs g n (suc c) (b / 2)) in
     let ih = row-bytes g n (suc c) (b / 2) (omega (arith, pow-suc 2 n)) (omega arith) in
-    by-low (λ ps. length (pairLines ps) + low (10 - c) b ≡ ones b * (length (digits (g .0)) + 4)) g n c b
+    by-low (λ ps. length (linesOf pairText ps) + low (10 - c) b ≡ ones b * (length (digits (g .0)) + 4)) g n c b
     (λ e. rw (line-length g (caseOf c) rest) (bytes-odd g c b (length rest) (omega arith) ih e))
     (bytes-even g c b (length rest) (omega arith) ih)
 
 -- ---- as the code counts it
 module _ (g : Gauge) (b width count short : ℕ) (l : b < 2 ^ 64) (w : Width (g .0) width) (x : count ≡ ones b) (y : short ≡ ones (b % 512)) where
-  bytes : length (pairLines (rowPairs g 64 1 b)) + short ≡ count * (width + 4)
+  bytes : length (linesOf pairText (rowPairs g 64 1 b)) + short ≡ count * (width + 4)
   bytes =
       rw (x, y, w .is, low-is 9 b) (row-bytes g 64 1 b l (omega arith))
 
-  pub row-small : count * (width + 4) ≤ 512
+  pub row-small : count * (width + 4) ≤ 1024
   row-small =
       let n : count ≤ 64 = omega (arith, ones-le 64 b l) in
       omega (arith, mul-le-mul-right (width + 4) n, w .small)
@@ -106,5 +106,5 @@ module _ (g : Gauge) (b width count short : ℕ) (l : b < 2 ^ 64) (w : Width (g 
   pub row-short : short ≤ count * (width + 4)
   row-short = omega (arith, bytes)
 
-  pub row-totals : IsTotals (rowPairs g 64 1 b) (record { count = count; size = count * (width + 4) - short })
+  pub row-totals : IsTotals pairText (rowPairs g 64 1 b) (record { count = count; size = count * (width + 4) - short })
   row-totals = record { pairs = x ∙ sym (row-count g 64 1 b l); bytes = omega (arith, bytes) }

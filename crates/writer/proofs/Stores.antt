@@ -8,8 +8,9 @@ use native.Mathlib.Numerals.{add-one}
 use native.Mathlib.Nat.{add-zero}
 use lib.ListN.{length, getD, set, drop, length-append, drop-of-length-le}
 use lib.Seq.{sets, length-sets, drop-cons}
+use Rattle.recorded.specs.declared.Kind.{Kind}
 use Rattle.writer.specs.Writing.{digits}
-use Rattle.writer.specs.private.StoreSteps.{Wrote, fieldBytes}
+use Rattle.writer.specs.private.StoreSteps.{Wrote, Room, fieldBytes, bannerBytes}
 use Rattle.writer.proofs.Decimals.{digits-short, digits-long, width-one, width-two}
 
 sets-append : (l : List ℕ) (i : ℕ) (vs ws : List ℕ) → sets l i (vs ++ ws) ≡ sets (sets l i vs) (i + length vs) ws
@@ -64,6 +65,13 @@ field-one n e h = length-append (digits n) (e ∷ []) ∙ omega (arith, width-on
 
 pub field-two : (n e : ℕ) → 10 ≤ n → n < 100 → length (fieldBytes n e) ≡ 3
 field-two n e k h = length-append (digits n) (e ∷ []) ∙ omega (arith, width-two n k h)
+
+-- the banner of a kind that is known
+pub banner-room : (k kind : Kind) (l : List ℕ) → kind ≡ k → Room l 0 (bannerBytes kind) → Room l 0 (bannerBytes k)
+banner-room k kind l e h = subst (λ (x : Kind). Room l 0 (bannerBytes x)) e h
+
+pub banner-wrote : {k kind : Kind} {l m : List ℕ} {r : ℕ} → kind ≡ k → Wrote l 0 (bannerBytes k) m r → Wrote l 0 (bannerBytes kind) m r
+banner-wrote {l = l} {m = m} {r = r} e w = subst (λ (x : Kind). Wrote l 0 (bannerBytes x) m r) (sym e) w
 
 -- the room that a front takes, and what is left behind it
 pub front-room : (at n : ℕ) (vs ws : List ℕ) → at + length (vs ++ ws) ≤ n → at + length vs ≤ n

@@ -60,13 +60,13 @@ pairsFrom cs g (r ∷ rows) = rowPairs (gaugeOf g) cs 1 r ++ pairsFrom cs (suc g
 abbrev pub pairs : Table → List GaugeCase
 pairs t = pairsFrom (t .cases) 1 (tableRows t)
 
--- the pair lines, each with its LF
+-- the line of a pair, and lines, each with its LF
 abbrev pub pairText : GaugeCase → List ℕ
 pairText p = digits (p .gauge .0) ++ 32 ∷ digits (p .case .0)
 
-abbrev pub pairLines : List GaugeCase → List ℕ
-pairLines [] = []
-pairLines (p ∷ ps) = pairText p ++ 10 ∷ pairLines ps
+abbrev pub linesOf : (GaugeCase → List ℕ) → List GaugeCase → List ℕ
+linesOf text [] = []
+linesOf text (p ∷ ps) = text p ++ 10 ∷ linesOf text ps
 
 -- the size line `G L N`
 abbrev pub sizeText : Table → List ℕ
@@ -74,16 +74,26 @@ sizeText t = digits (t .gauges) ++ 32 ∷ (digits (t .cases) ++ 32 ∷ digits (l
 
 -- the file of a table
 unfoldable pub writeFile : Table → List ℕ
-writeFile t = banner ++ 10 ∷ (sizeText t ++ 10 ∷ pairLines (pairs t))
+writeFile t = banner ++ 10 ∷ (sizeText t ++ 10 ∷ linesOf pairText (pairs t))
 
--- 01's number for writing a table to a buffer of n bytes, or 0: "Writer, after its table: 16 buffer shorter than the file"
-unfoldable pub writeRefusal : Table → ℕ → ℕ
-writeRefusal t n = cond (eqb (tableRefusal t) 0) (cond (ltb n (length (writeFile t))) (number BufferTooShort) 0) (tableRefusal t)
+-- the number for writing a file to a buffer of n bytes, where r is the number of the checks ahead, or 0: "16 buffer shorter than the file"
+unfoldable pub roomRefusal : ℕ → List ℕ → ℕ → ℕ
+roomRefusal r file n = cond (eqb r 0) (cond (ltb n (length file)) (number BufferTooShort) 0) r
 
 -- the answer: the length of the file
-abbrev pub writeAnswer : Table → ℕ → Answer ℕ
-writeAnswer t n = answer (writeRefusal t n) (length (writeFile t)) 0
+abbrev pub roomAnswer : ℕ → List ℕ → ℕ → Answer ℕ
+roomAnswer r file n = answer (roomRefusal r file n) (length file) 0
 
 -- the buffer afterwards: the file and what was behind it, or as it was
+abbrev pub roomBuffer : ℕ → List ℕ → List ℕ → List ℕ
+roomBuffer r file out = cond (eqb (roomRefusal r file (length out)) 0) (file ++ drop (length file) out) out
+
+-- of a table: "Writer, after its table: 16 buffer shorter than the file"
+abbrev pub writeRefusal : Table → ℕ → ℕ
+writeRefusal t n = roomRefusal (tableRefusal t) (writeFile t) n
+
+abbrev pub writeAnswer : Table → ℕ → Answer ℕ
+writeAnswer t n = roomAnswer (tableRefusal t) (writeFile t) n
+
 abbrev pub bufferAfter : Table → List ℕ → List ℕ
-bufferAfter t out = cond (eqb (writeRefusal t (length out)) 0) (writeFile t ++ drop (length (writeFile t)) out) out
+bufferAfter t out = roomBuffer (tableRefusal t) (writeFile t) out

@@ -1,4 +1,4 @@
--- `reader::comment_at` meets its contract: the reader's answer comes first, and the search starts behind the first line.
+-- `reader::comment_at` meets its contract: the answer of the reader of either kind comes first, and the search starts behind the first line.
 use mathlib.Core.Path.{_∙_}
 use native.Mathlib.Omega.{arith}
 use Rattle.text.proofs.LineAt.{inside}
@@ -7,8 +7,8 @@ use borrow.Author.Needs.{needs}
 use Rattle.reader.proofs.comment_at.Statement.{statement}
 use Rattle.reader.proofs.comment_at.Tie as tie
 
-read-requires : tie.Need-read-requires
-read-requires c κs = search needs
+read-recorded-requires : tie.Need-read-recorded-requires
+read-recorded-requires c κs = search needs
 
 line-at-requires : tie.Need-line-at-requires
 line-at-requires c κs = search needs
@@ -27,7 +27,7 @@ find-comment-requires c κs =
 returns : tie.Need-returns
 returns c =
     let l = c .before .before .before in
-    lookup-refused (l .before .before .before .args .file .now) _ _ (l .before .read .ensures) (c .before .verdict .given .1)
+    lookup-refused (l .before .before .before .args .file .now) _ _ (l .before .read-recorded .ensures) (c .before .verdict .given .1)
 
 returns-2 : tie.Need-returns-2
 returns-2 c =
@@ -35,13 +35,13 @@ returns-2 c =
     let file = l .before .before .before .args .file .now in
     c .find-comment .ensures
     ∙ find-start file _ (l .line-at .ensures) _
-    ∙ lookup-found file _ _ (l .before .read .ensures) (c .before .enum-told .given .1)
+    ∙ lookup-found file _ _ (l .before .read-recorded .ensures) (c .before .enum-told .given .1)
 
 pub comment-at-spec : {M : Type 1} → statement M
 comment-at-spec =
     tie.close
     (tie.spec
-    read-requires
+    read-recorded-requires
     line-at-requires
     enum-known-verdict
     enum-told

@@ -12,10 +12,10 @@ use Rattle.reader.proofs.read_head.Statement.{statement}
 use Rattle.reader.proofs.read_head.Tie as tie
 
 abbrev Inv-loop : tie.InvT-loop
-Inv-loop file from at₀ at = (at ≤ length file) × (readHead (lines (drop at file)) ≡ readHead (lines (drop from file)))
+Inv-loop file from kind at₀ at = (at ≤ length file) × (readHead kind (lines (drop at file)) ≡ readHead kind (lines (drop from file)))
 
 abbrev μ-loop : tie.MeasureT-loop
-μ-loop file from at₀ at = length file - at
+μ-loop file from kind at₀ at = length file - at
 
 -- the line of a turn, and what the turn starts with
 bounds : (c : tie.After-line-at Inv-loop μ-loop)
@@ -34,12 +34,12 @@ abbrev start : tie.After-head-line Inv-loop μ-loop → tie.Start Inv-loop μ-lo
 start c = round c .before .before
 
 turn : (c : tie.After-head-line Inv-loop μ-loop)
-    → HeadTurn (start c .args .file .now) (round c .loop .at) (at-line c .line-at .result) (c .head-line .result)
-    (readHead (lines (drop (start c .args .from) (start c .args .file .now))))
+    → HeadTurn (start c .args .file .now) (round c .loop .at) (at-line c .line-at .result) (start c .args .kind) (c .head-line .result)
+    (readHead (start c .args .kind) (lines (drop (start c .args .from) (start c .args .file .now))))
 turn c = record {
   here = at-line c .before .loop-test .taken;
   span = at-line c .line-at .ensures;
-  kind = c .head-line .ensures;
+  judged = c .head-line .ensures;
   goal = round c .loop .inv .1;
 }
 
@@ -72,32 +72,32 @@ loop-less c =
 loop-again : tie.Need-loop-again Inv-loop μ-loop
 loop-again c = (bounds (c .before .before .before .before) .fits, head-skip (turn (c .before .before)) (c .enum-told .given .1))
 
-enum-known-kind : tie.Need-enum-known-kind Inv-loop μ-loop
-enum-known-kind c = search needs
+enum-known-head : tie.Need-enum-known-head Inv-loop μ-loop
+enum-known-head c = search needs
 
 refuse-requires : tie.Need-refuse-requires Inv-loop μ-loop
 refuse-requires c κs = search needs
 
 returns : tie.Need-returns Inv-loop μ-loop
-returns c = c .refuse .ensures ∙ head-bad (turn (c .before .before .before .before)) (c .before .before .kind .given .1)
+returns c = c .refuse .ensures ∙ head-bad (turn (c .before .before .before .before)) (c .before .before .head .given .1)
 
-enum-known-kind-2 : tie.Need-enum-known-kind-2 Inv-loop μ-loop
-enum-known-kind-2 c = search needs
+enum-known-head-2 : tie.Need-enum-known-head-2 Inv-loop μ-loop
+enum-known-head-2 c = search needs
 
-read-pairs-requires : tie.Need-read-pairs-requires Inv-loop μ-loop
-read-pairs-requires c κs =
+read-entries-requires : tie.Need-read-entries-requires Inv-loop μ-loop
+read-entries-requires c κs =
     let k = c .before .before .before in
-    let r = head-range (turn k) (c .before .kind2 .given .1) in
+    let r = head-range (turn k) (c .before .head2 .given .1) in
     (bounds (at-line k) .fits, r .gauge-high, r .case-high)
 
 returns-2 : tie.Need-returns-2 Inv-loop μ-loop
-returns-2 c = c .read-pairs .ensures ∙ head-size (turn (c .before .before .before .before)) (c .before .before .kind2 .given .1)
+returns-2 c = c .read-entries .ensures ∙ head-size (turn (c .before .before .before .before)) (c .before .before .head2 .given .1)
 
 refuse-requires-2 : tie.Need-refuse-requires-2 Inv-loop μ-loop
 refuse-requires-2 c κs = search needs
 
 returns-3 : tie.Need-returns-3 Inv-loop μ-loop
-returns-3 c = c .refuse2 .ensures ∙ head-absent _ _ _ (c .before .before .loop .inv .1) (c .before .loop-test .left)
+returns-3 c = c .refuse2 .ensures ∙ head-absent _ _ _ _ (c .before .before .loop .inv .1) (c .before .loop-test .left)
 
 pub read-head-spec : {M : Type 1} → statement M
 read-head-spec =
@@ -114,11 +114,11 @@ read-head-spec =
     enum-told
     loop-less
     loop-again
-    enum-known-kind
+    enum-known-head
     refuse-requires
     returns
-    enum-known-kind-2
-    read-pairs-requires
+    enum-known-head-2
+    read-entries-requires
     returns-2
     refuse-requires-2
     returns-3)

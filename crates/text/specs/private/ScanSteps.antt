@@ -1,6 +1,6 @@
--- What the private steps promise: the end of line at a place, the value of a digit, and one field of a line from a place on.
+-- What the private steps promise: the end of line at a place, and one field of a line from a place on.
 -- `spanAt` and `fields` are what the public functions promise; nothing outside this crate rests on this file.
-use Prim.Native.Nat.{ℕ, _-_, _≤_}
+use Prim.Native.Nat.{ℕ, _≤_}
 use mathlib.Core.Path.{_≡_}
 use mathlib.Core.List.{List, [], _∷_}
 use mathlib.Core.Option.{Option, some, none}
@@ -8,7 +8,7 @@ use mathlib.Core.Bool.{cond}
 use lib.ListN.{length, drop}
 use lib.Dec.{eqb}
 use Rattle.text.specs.Lines.{atCRLF}
-use Rattle.text.specs.Fields.{scan, close, isDigit}
+use Rattle.text.specs.Fields.{scan, close}
 use Rattle.text.specs.declared.Field.{Field}
 use Rattle.text.specs.declared.Field.the-variants.{Number, End, Bad}
 
@@ -16,10 +16,6 @@ use Rattle.text.specs.declared.Field.the-variants.{Number, End, Bad}
 abbrev pub endSize : List ℕ → ℕ
 endSize [] = 0
 endSize (b ∷ s) = cond (eqb b 10) 1 (cond (atCRLF b s) 2 0)
-
--- the value of a digit, 10 for any other byte
-abbrev pub digitOf : ℕ → ℕ
-digitOf b = cond (isDigit b) (b - 48) 10
 
 -- the fields of what is left of the line from the place at on
 abbrev pub rest : List ℕ → ℕ → Option (List ℕ)

@@ -7,7 +7,7 @@ use Rattle.writer.proofs.file_size.Statement.{statement}
 use Rattle.writer.proofs.file_size.Tie as tie
 
 small : (s : tie.Start) → Small (s .args .totals .count) (s .args .totals .size)
-small s = totals-small (s .args .t) (s .pre .0) (s .args .totals) (s .pre .1)
+small s = totals-small (s .args .kind) (s .args .readings .now) (s .pre .1) (s .args .t) (s .pre .0) (s .args .totals) (s .pre .2)
 
 number-width-requires : tie.Need-number-width-requires
 number-width-requires c κs = search needs
@@ -34,7 +34,8 @@ returns : tie.Need-returns
 returns c =
     let w = c .before in
     let s = w .before .before .before in
-    size-is (s .args .t) (s .pre .0) (s .args .totals) (s .pre .1) _ _ _ (w .before .before .number-width .ensures .is)
+    size-is (s .args .kind) (s .args .readings .now) (s .pre .1) (s .args .t) (s .pre .0) (s .args .totals) (s .pre .2) _ _ _
+    (w .before .before .number-width .ensures .is)
     (w .before .number-width2 .ensures .is) (w .number-width3 .ensures .is)
 
 pub file-size-spec : {M : Type 1} → statement M

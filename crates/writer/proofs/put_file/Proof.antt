@@ -2,9 +2,9 @@
 use Prim.Native.Nat.{ℕ, _+_, _≤_}
 use mathlib.Core.List.{List, _++_}
 use native.Mathlib.Omega.{arith}
-use lib.ListN.{length}
+use lib.ListN.{length, length-append}
 use Rattle.writer.specs.Writing.{gaugeOf, caseOf}
-use Rattle.writer.specs.private.StoreSteps.{sizeBytes, rowsFrom}
+use Rattle.writer.specs.private.StoreSteps.{bannerBytes, sizeBytes, rowsFrom}
 use Rattle.writer.proofs.Stores.{front-room, rest-room, wrote-both}
 use borrow.Author.Needs.{needs}
 use Rattle.writer.proofs.put_file.Statement.{statement}
@@ -14,32 +14,39 @@ use Rattle.writer.proofs.put_file.Tie as tie
 abbrev rest : tie.Start → List ℕ
 rest s =
     let t = s .args .t in
-    sizeBytes (gaugeOf (t .gauges)) (caseOf (t .cases)) (s .args .count) ++ rowsFrom (gaugeOf (t .gauges)) (t .rows) 0
+    sizeBytes (gaugeOf (t .gauges)) (caseOf (t .cases)) (s .args .count) ++ rowsFrom (s .args .kind) (s .args .readings .now) (gaugeOf (t .gauges)) (t .rows) 0
 
 -- there is room for it
-behind-banner : (b : tie.After-put-bytes)
-    → b .put-bytes .result + length (rest (b .before .before .before .before .before .before)) ≤ length (b .put-bytes .last .0)
+behind-banner : (b : tie.After-put-banner)
+    → b .put-banner .result + length (rest (b .before .before .before .before)) ≤ length (b .put-banner .last .0)
 behind-banner b =
-    let s = b .before .before .before .before .before .before in
-    rest-room (b .put-bytes .ensures) (rest s) (omega (arith, s .pre .3))
+    let s = b .before .before .before .before in
+    rest-room (b .put-banner .ensures) (rest s) (omega (arith, s .pre .4))
 
-put-bytes-requires : tie.Need-put-bytes-requires
-put-bytes-requires c κs = search needs
+put-banner-requires : tie.Need-put-banner-requires
+put-banner-requires c κs =
+    let s = c .before .before .before in
+    omega (arith, length-append (bannerBytes (s .args .kind)) (rest s), s .pre .4)
 
 put-size-requires : tie.Need-put-size-requires
 put-size-requires c κs =
     let b = c .before .before .before in
-    let s = b .before .before .before .before .before .before in
+    let s = b .before .before .before .before in
     let t = s .args .t in
-    let size = sizeBytes (gaugeOf (t .gauges)) (caseOf (t .cases)) (s .args .count) in
-    (s .pre .0, s .pre .1, s .pre .2, front-room _ _ size (rowsFrom (gaugeOf (t .gauges)) (t .rows) 0) (behind-banner b))
+    let size = sizeBytes (gaugeOf (t .gauges)) (caseOf (t .cases)) (s .args .count) in (
+      s .pre .0,
+      s .pre .1,
+      s .pre .2,
+      front-room _ _ size (rowsFrom (s .args .kind) (s .args .readings .now) (gaugeOf (t .gauges)) (t .rows) 0)
+          (behind-banner b),
+    )
 
 put-rows-requires : tie.Need-put-rows-requires
 put-rows-requires c κs =
     let q = c .before .before .before in
     let b = q .before .before .before .before in
-    let s = b .before .before .before .before .before .before in
-    (s .pre .0, rest-room (q .put-size .ensures) _ (behind-banner b))
+    let s = b .before .before .before .before in
+    (s .pre .0, s .pre .3, rest-room (q .put-size .ensures) _ (behind-banner b))
 
 same-length : tie.Need-same-length
 same-length c = search needs
@@ -49,7 +56,7 @@ returns c =
     let r = c .before .before in
     let q = r .before .before .before .before in
     let b = q .before .before .before .before in
-    wrote-both (b .put-bytes .ensures) (wrote-both (q .put-size .ensures) (r .put-rows .ensures))
+    wrote-both (b .put-banner .ensures) (wrote-both (q .put-size .ensures) (r .put-rows .ensures))
 
 pub put-file-spec : {M : Type 1} → statement M
-put-file-spec = tie.close (tie.spec put-bytes-requires put-size-requires put-rows-requires same-length returns)
+put-file-spec = tie.close (tie.spec put-banner-requires put-size-requires put-rows-requires same-length returns)

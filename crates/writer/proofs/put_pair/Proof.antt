@@ -7,7 +7,9 @@ use Rattle.writer.proofs.put_pair.Statement.{statement}
 use Rattle.writer.proofs.put_pair.Tie as tie
 
 put-place-requires : tie.Need-put-place-requires
-put-place-requires c κs = let s = c .before .before in (omega arith, front-room _ _ (fieldBytes (s .args .g .0) 32) (fieldBytes (s .args .c .0) 10) (s .pre .2))
+put-place-requires c κs =
+    let s = c .before .before in
+    (omega arith, front-room _ _ (fieldBytes (s .args .g .0) 32) (fieldBytes (s .args .c .0) (s .args .end)) (s .pre .2))
 
 put-place-requires-2 : tie.Need-put-place-requires-2
 put-place-requires-2 c κs =

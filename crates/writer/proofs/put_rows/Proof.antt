@@ -12,12 +12,13 @@ use Rattle.writer.proofs.put_rows.Statement.{statement}
 use Rattle.writer.proofs.put_rows.Tie as tie
 
 abbrev Inv-loop : tie.InvT-loop
-Inv-loop out₀ at rows most p₀ i₀ out p i = (i ≤ most) × Writing out₀ at (rowsFrom (gaugeOf most) rows 0) out p (rowsFrom (gaugeOf most) rows i)
+Inv-loop out₀ at kind readings rows most p₀ i₀ out p i =
+    (i ≤ most) × Writing out₀ at (rowsFrom kind readings (gaugeOf most) rows 0) out p (rowsFrom kind readings (gaugeOf most) rows i)
 
 abbrev μ-loop : tie.MeasureT-loop
-μ-loop out₀ at rows most p₀ i₀ out p i = most - i
+μ-loop out₀ at kind readings rows most p₀ i₀ out p i = most - i
 
-rows-length : (c : tie.Start Inv-loop μ-loop) → length (c .args .t3) ≡ 64
+rows-length : (c : tie.Start Inv-loop μ-loop) → length (c .args .t4) ≡ 64
 rows-length c = search needs
 
 loop-holds : tie.Need-loop-holds Inv-loop μ-loop
@@ -29,14 +30,16 @@ mul-row c = omega arith
 array-read-row : tie.Need-array-read-row Inv-loop μ-loop
 array-read-row c = omega arith
 
-add-t15 : tie.Need-add-t15 Inv-loop μ-loop
-add-t15 c = omega arith
+add-t17 : tie.Need-add-t17 Inv-loop μ-loop
+add-t17 c = omega arith
 
 put-row-requires : tie.Need-put-row-requires Inv-loop μ-loop
 put-row-requires c κs =
     let l = c .before .before in
     let s = l .before .before in
-    (omega arith, rows-room (gaugeOf (s .args .gauges .0)) _ _ (l .loop .inv .1) (c .before .loop-test .taken) (omega (arith, rows-length s)) (s .pre .1))
+    let room = rows-room (s .args .kind) (s .args .readings .now) (gaugeOf (s .args .gauges .0)) _ _ (l .loop .inv .1) (c .before .loop-test .taken)
+    (omega (arith, rows-length s)) (s .pre .2) in
+    (omega arith, omega arith, s .pre .1, room)
 
 add-i : tie.Need-add-i Inv-loop μ-loop
 add-i c = omega arith
@@ -49,14 +52,19 @@ loop-again c =
     let p = c .before .before in
     let l = p .before .before .before in
     let s = l .before .before in
-    let next = rows-next (gaugeOf (s .args .gauges .0)) (s .args .t3) (l .loop .i) (p .before .before .loop-test .taken) (omega (arith, rows-length s)) in
+    let next =
+    rows-next (s .args .kind) (s .args .readings .now) (gaugeOf (s .args .gauges .0)) (s .args .t4) (l .loop .i)
+    (p .before .before .loop-test .taken)
+    (omega (arith, rows-length s)) in
     (omega arith, writing-step (l .loop .inv .1) next (p .put-row .ensures))
 
 same-length : tie.Need-same-length Inv-loop μ-loop
 same-length c = c .before .loop .inv .1 .same
 
 returns : tie.Need-returns Inv-loop μ-loop
-returns c = writing-done (c .before .loop .inv .1) (rows-end _ _ _ (c .loop-test .left))
+returns c =
+    let s = c .before .before .before in
+    writing-done (c .before .loop .inv .1) (rows-end (s .args .kind) (s .args .readings .now) _ _ _ (c .loop-test .left))
 
 pub put-rows-spec : {M : Type 1} → statement M
 put-rows-spec =
@@ -67,7 +75,7 @@ put-rows-spec =
     loop-holds
     mul-row
     array-read-row
-    add-t15
+    add-t17
     put-row-requires
     add-i
     loop-less

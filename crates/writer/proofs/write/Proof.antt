@@ -1,42 +1,23 @@
--- `writer::write` meets its contract: a table that passes is legal, its file is counted before a byte is stored, and each return has its law.
-use Prim.Native.Nat.{_≤_}
-use mathlib.Core.Path.{_≡_, ap}
-use native.Mathlib.Omega.{arith}
+-- `writer::write` meets its contract: a table that passes is legal, and its file is the pattern file of its pairs (`table-file`).
+use mathlib.Core.Path.{_≡_}
+use mathlib.Core.List.{[]}
 use lib.ListN.{length}
-use Rattle.table.specs.Tables.{Legal, tableRefusal}
-use Rattle.table.specs.declared.Table.{Table}
-use Rattle.refusals.specs.declared.Refusal.the-variants.{BufferTooShort}
+use Rattle.table.specs.Tables.{tableRefusal}
 use Rattle.refusals.proofs.Answering.{verdict-refused, verdict-accepted}
 use Rattle.table.proofs.Legality.{legal-of}
+use Rattle.recorded.specs.declared.Kind.the-variants.{Pattern}
 use Rattle.writer.specs.Writing.{writeFile}
-use Rattle.writer.proofs.Counting.{Small}
-use Rattle.writer.proofs.Files.{table-refused, too-short, long-enough, write-refused, write-done, totals-small, file-is, wrote-is}
+use Rattle.writer.specs.TestFiles.{fileOf}
+use Rattle.writer.proofs.Files.{no-readings, table-file, check-refused, after-checks}
 use borrow.Author.Needs.{needs}
 use Rattle.writer.proofs.write.Statement.{statement}
 use Rattle.writer.proofs.write.Tie as tie
 
--- the table that passed its check, as its value is known there
-abbrev given : tie.After-enum-told → Table
-given c = c .before .before .before .before .args .t
-
-passes : (c : tie.After-enum-told) → tableRefusal (given c) ≡ 0
+passes : (c : tie.After-enum-told) → tableRefusal (c .before .before .before .before .args .t) ≡ 0
 passes c = verdict-accepted _ _ (c .enum-told .given .1) (c .before .before .check-table .ensures)
 
-legal : (c : tie.After-enum-told) → Legal (given c)
-legal c = legal-of _ (rows-length (c .before .before .before .before)) (passes c)
-  where
-    rows-length : (s : tie.Start) → length (s .args .t .rows) ≡ 64
-    rows-length s = search needs
-
--- the counts are small, and the file fits
-small : (c : tie.After-all-totals) → Small (c .all-totals .result .count) (c .all-totals .result .size)
-small c = totals-small (given (c .before)) (legal (c .before)) _ (c .all-totals .ensures)
-
-abbrev counted : tie.Else1 → tie.After-all-totals
-counted c = c .before .before
-
-fits : (c : tie.Else1) → length (writeFile (given (counted c .before))) ≤ length (counted c .before .before .before .before .before .args .out .now)
-fits c = omega (arith, c .before .file-size .ensures, c .if1 .left)
+rows-length : (s : tie.Start) → length (s .args .t .rows) ≡ 64
+rows-length s = search needs
 
 check-table-requires : tie.Need-check-table-requires
 check-table-requires c κs = search needs
@@ -48,43 +29,30 @@ returns : tie.Need-returns
 returns c =
     let k = c .before .before .before in
     let s = k .before .before in
-    let why = c .before .checked .given .0 .0 in
-    write-refused (s .args .t) (s .args .out .now) why
-    (table-refused (s .args .t) _ why (verdict-refused _ _ _ (c .before .checked .given .1) (k .check-table .ensures)))
+    check-refused (tableRefusal (s .args .t)) (writeFile (s .args .t)) (s .args .out .now) (c .before .checked .given .0 .0)
+    (verdict-refused _ _ _ (c .before .checked .given .1) (k .check-table .ensures))
 
 enum-told : tie.Need-enum-told
 enum-told c = search needs
 
-all-totals-requires : tie.Need-all-totals-requires
-all-totals-requires c κs = legal c .gauges-high
+slice-aggregate-write-kind : tie.Need-slice-aggregate-write-kind
+slice-aggregate-write-kind c = search needs
 
-file-size-requires : tie.Need-file-size-requires
-file-size-requires c κs = (legal (c .before), c .all-totals .ensures)
-
-returns-2 : tie.Need-returns-2
-returns-2 c =
-    let p = c .before .before .before in
-    let s = p .before .before .before .before in
-    write-refused (s .args .t) (s .args .out .now) BufferTooShort
-    (too-short (s .args .t) _ (passes p) (omega (arith, c .before .file-size .ensures, c .if1 .taken)))
-
-put-file-requires : tie.Need-put-file-requires
-put-file-requires c κs =
-    let a = c .before .before .before in
-    let e = ap length (file-is (given (a .before)) (legal (a .before)) _ (a .all-totals .ensures)) in
-    (legal (a .before) .gauges-high, legal (a .before) .cases-high, omega (arith, small a), omega (arith, fits (c .before), e))
+write-kind-requires : tie.Need-write-kind-requires
+write-kind-requires c κs =
+    let e = c .before .before in
+    (legal-of _ (rows-length (e .before .before .before .before)) (passes e), no-readings _)
 
 same-length : tie.Need-same-length
 same-length c = search needs
 
-returns-3 : tie.Need-returns-3
-returns-3 c =
-    let p = c .before .before in
-    let e = p .before .before in
-    let a = e .before .before in
-    let s = a .before .before .before .before .before in
-    write-done (s .args .t) (s .args .out .now) _ _ (long-enough (s .args .t) _ (passes (a .before)) (fits e)) (fits e)
-    (wrote-is (s .args .t) (legal (a .before)) _ (a .all-totals .ensures) (p .put-file .ensures))
+returns-2 : tie.Need-returns-2
+returns-2 c =
+    let w = c .before .before in
+    let e = w .before .before .before in
+    let s = e .before .before .before .before in
+    after-checks (fileOf Pattern [] (s .args .t)) (writeFile (s .args .t)) (s .args .out .now) _ _ (tableRefusal (s .args .t))
+    (passes e) (table-file [] (s .args .t)) (w .write-kind .ensures)
 
 pub write-spec : {M : Type 1} → statement M
 write-spec =
@@ -94,9 +62,7 @@ write-spec =
     enum-known-checked
     returns
     enum-told
-    all-totals-requires
-    file-size-requires
-    returns-2
-    put-file-requires
+    slice-aggregate-write-kind
+    write-kind-requires
     same-length
-    returns-3)
+    returns-2)

@@ -1,0 +1,4 @@
+-- Laws that belong to no one function. For users: `Words`, of the words of a line, `Signs`, of their values, and `OldFields`.
+pub mod Signs
+pub mod Words
+pub mod OldFields

@@ -1,0 +1,42 @@
+-- `entries::entry_fields` meets its contract.
+use borrow.Author.Needs.{needs}
+use Rattle.entries.proofs.Words.{line-blank, line-cuts, line-entry, line-other}
+use Rattle.entries.proofs.entry_fields.Statement.{statement}
+use Rattle.entries.proofs.entry_fields.Tie as tie
+
+three-words-requires : tie.Need-three-words-requires
+three-words-requires c κs = search needs
+
+enum-told : tie.Need-enum-told
+enum-told c = search needs
+
+enum-known-found : tie.Need-enum-known-found
+enum-known-found c = search needs
+
+entry-of-requires : tie.Need-entry-of-requires
+entry-of-requires c κs = line-cuts (c .before .before .before .three-words .ensures) (c .before .found .given .1)
+
+enum-told-2 : tie.Need-enum-told-2
+enum-told-2 c = search needs
+
+returns : tie.Need-returns
+returns c = line-blank (c .before .before .three-words .ensures) (c .enum-told .given .1)
+
+returns-2 : tie.Need-returns-2
+returns-2 c = line-entry (c .before .before .before .before .three-words .ensures) (c .before .before .found .given .1) (c .entry-of .ensures)
+
+returns-3 : tie.Need-returns-3
+returns-3 c = line-other (c .before .before .three-words .ensures) (c .enum-told2 .given .1)
+
+pub entry-fields-spec : {M : Type 1} → statement M
+entry-fields-spec =
+    tie.close
+    (tie.spec
+    three-words-requires
+    enum-told
+    enum-known-found
+    entry-of-requires
+    enum-told-2
+    returns
+    returns-2
+    returns-3)

@@ -1,0 +1,240 @@
+-- `reader::read_entries` meets its contract: what is still to be read, from the entries so far, is what the first entry line started with. In
+-- the answers `h` is the test for a repeated entry, `k` where the entry was taken apart, `l` the loop's end.
+use Prim.Native.Nat.{_≤_, _-_}
+use mathlib.Core.Path.{_≡_, _∙_}
+use borrow.Author.Needs.{needs, sfits-of}
+use mir.Facts.{toZ-ofZ}
+use native.Mathlib.Omega.{arith}
+use lib.ListN.{length, drop}
+use Rattle.text.specs.Lines.{lines}
+use Rattle.recorded.specs.Tests.{noReadings}
+use Rattle.reader.specs.Reading.{readEntries}
+use Rattle.table.specs.Tables.{noRows}
+use Rattle.kinds.proofs.KindOf.{Bounded}
+use Rattle.text.proofs.LineAt.{Inside, inside}
+use Rattle.reader.proofs.LineLoops.{EntryTurn, entries-done, entries-fewer, turn-skip, turn-bad, turn-range}
+use Rattle.reader.proofs.LineLoops.{turn-repeated, turn-more, turn-entry}
+use Rattle.reader.proofs.read_entries.Statement.{statement}
+use Rattle.reader.proofs.read_entries.Tie as tie
+
+abbrev Inv-loop : tie.InvT-loop
+Inv-loop file from kind gauges cases count rows₀ values₀ left₀ at₀ rows values left at =
+    (at ≤ length file)
+    × (readEntries kind gauges cases left rows values (lines (drop at file)) ≡ readEntries kind gauges cases count noRows noReadings (lines (drop from file)))
+
+abbrev μ-loop : tie.MeasureT-loop
+μ-loop file from kind gauges cases count rows₀ values₀ left₀ at₀ rows values left at = length file - at
+
+-- the line of a turn, and what the turn starts with
+bounds : (c : tie.After-line-at Inv-loop μ-loop)
+    → Inside (c .before .before .before .before .args .file .now) (c .before .before .loop .at) (c .line-at .result .end) (c .line-at .result .next)
+bounds c =
+    let l = c .before .before in
+    inside (l .before .before .args .file .now) (l .loop .at) (c .line-at .result) (c .line-at .ensures) (l .loop .inv .0)
+
+abbrev at-line : tie.After-entry-line Inv-loop μ-loop → tie.After-line-at Inv-loop μ-loop
+at-line c = c .before .before
+
+abbrev round : tie.After-entry-line Inv-loop μ-loop → tie.At-loop Inv-loop μ-loop
+round c = at-line c .before .before
+
+abbrev start : tie.After-entry-line Inv-loop μ-loop → tie.Start Inv-loop μ-loop
+start c = round c .before .before
+
+turn : (c : tie.After-entry-line Inv-loop μ-loop)
+    → EntryTurn (start c .args .file .now) (round c .loop .at) (at-line c .line-at .result)
+    (start c .args .kind) (start c .args .gauges) (start c .args .cases) (round c .loop .left)
+    (round c .loop .rows) (round c .loop .values) (c .entry-line .result)
+    (readEntries (start c .args .kind) (start c .args .gauges) (start c .args .cases) (start c .args .count) noRows noReadings
+    (lines (drop (start c .args .from) (start c .args .file .now))))
+turn c = record {
+  here = at-line c .before .loop-test .taken;
+  span = at-line c .line-at .ensures;
+  judged = c .entry-line .ensures;
+  goal = round c .loop .inv .1;
+}
+
+range : (c : tie.After-entry2 Inv-loop μ-loop)
+    → Bounded (start (c .before .before) .args .gauges) (start (c .before .before) .args .cases) (c .entry2 .given .0 .0) (c .entry2 .given .0 .1 .0)
+range c = turn-range (turn (c .before .before)) (c .entry2 .given .1)
+
+-- from the test for a repeated pair back to where the pair was taken apart
+abbrev taken : tie.After-has Inv-loop μ-loop → tie.After-entry2 Inv-loop μ-loop
+taken h = h .before .before .before .before .before
+
+loop-holds : tie.Need-loop-holds Inv-loop μ-loop
+loop-holds c = search needs
+
+line-at-requires : tie.Need-line-at-requires Inv-loop μ-loop
+line-at-requires c κs = search needs
+
+sub-entry-line : tie.Need-sub-entry-line Inv-loop μ-loop
+sub-entry-line c = bounds c .start
+
+part-entry-line-start : tie.Need-part-entry-line-start Inv-loop μ-loop
+part-entry-line-start c = bounds c .start
+
+part-entry-line-end : tie.Need-part-entry-line-end Inv-loop μ-loop
+part-entry-line-end c = omega (arith, bounds c)
+
+entry-line-requires : tie.Need-entry-line-requires Inv-loop μ-loop
+entry-line-requires c κs = search needs
+
+enum-told : tie.Need-enum-told Inv-loop μ-loop
+enum-told c = search needs
+
+loop-less : tie.Need-loop-less Inv-loop μ-loop
+loop-less c =
+    let l = at-line (c .before .before) in
+    omega (arith, bounds l .moves (l .before .loop-test .taken), bounds l)
+
+loop-again : tie.Need-loop-again Inv-loop μ-loop
+loop-again c = (bounds (c .before .before .before .before) .fits, turn-skip (turn (c .before .before)) (c .enum-told .given .1))
+
+enum-known-entry : tie.Need-enum-known-entry Inv-loop μ-loop
+enum-known-entry c = search needs
+
+refuse-requires : tie.Need-refuse-requires Inv-loop μ-loop
+refuse-requires c κs = search needs
+
+returns : tie.Need-returns Inv-loop μ-loop
+returns c = c .refuse .ensures ∙ turn-bad (turn (c .before .before .before .before)) (c .before .before .entry .given .1)
+
+enum-known-entry-2 : tie.Need-enum-known-entry-2 Inv-loop μ-loop
+enum-known-entry-2 c = search needs
+
+sub-i : tie.Need-sub-i Inv-loop μ-loop
+sub-i c = omega (arith, range (c .before .before))
+
+sub-k : tie.Need-sub-k Inv-loop μ-loop
+sub-k c = omega (arith, range (c .before .before .before))
+
+mul-row : tie.Need-mul-row Inv-loop μ-loop
+mul-row c = omega (arith, range (c .before .before .before))
+
+array-read-row : tie.Need-array-read-row Inv-loop μ-loop
+array-read-row c = omega (arith, range (c .before .before .before))
+
+sub-has : tie.Need-sub-has Inv-loop μ-loop
+sub-has c = omega (arith, range (c .before .before .before .before))
+
+has-requires : tie.Need-has-requires Inv-loop μ-loop
+has-requires c κs = search needs
+
+refuse-requires-2 : tie.Need-refuse-requires-2 Inv-loop μ-loop
+refuse-requires-2 c κs = search needs
+
+returns-2 : tie.Need-returns-2 Inv-loop μ-loop
+returns-2 c =
+    let h = c .before .before in
+    let k = taken h in
+    c .refuse2 .ensures ∙ turn-repeated (turn (k .before .before)) (k .entry2 .given .1) (h .has .ensures) (c .before .if1 .taken)
+
+refuse-requires-3 : tie.Need-refuse-requires-3 Inv-loop μ-loop
+refuse-requires-3 c κs = search needs
+
+returns-3 : tie.Need-returns-3 Inv-loop μ-loop
+returns-3 c =
+    let h = c .before .before .before in
+    let k = taken h in
+    c .refuse3 .ensures ∙ turn-more (turn (k .before .before)) (k .entry2 .given .1) (h .has .ensures) (c .before .before .if1 .left) (c .before .if2 .taken)
+
+with-case-requires : tie.Need-with-case-requires Inv-loop μ-loop
+with-case-requires c κs = omega (arith, range (taken (c .before .before)))
+
+mul-rows : tie.Need-mul-rows Inv-loop μ-loop
+mul-rows c = omega (arith, range (taken (c .before .before .before)))
+
+array-write-rows : tie.Need-array-write-rows Inv-loop μ-loop
+array-write-rows c = omega (arith, range (taken (c .before .before .before)))
+
+mul-p : tie.Need-mul-p Inv-loop μ-loop
+mul-p c = record { fits = omega (arith, range (taken (c .before .before .before))) }
+
+add-p : tie.Need-add-p Inv-loop μ-loop
+add-p c = record { fits = omega (arith, range (taken (c .before .before .before))) }
+
+mul-values : tie.Need-mul-values Inv-loop μ-loop
+mul-values c = omega (arith, range (taken (c .before .before .before)))
+
+array-set-from-values : tie.Need-array-set-from-values Inv-loop μ-loop
+array-set-from-values c = omega (arith, range (taken (c .before .before .before)))
+
+sub-left : tie.Need-sub-left Inv-loop μ-loop
+sub-left c = search needs
+
+loop-less-2 : tie.Need-loop-less-2 Inv-loop μ-loop
+loop-less-2 c =
+    let l = at-line (taken (c .before .before .before) .before .before) in
+    omega (arith, bounds l .moves (l .before .loop-test .taken), bounds l)
+
+loop-again-2 : tie.Need-loop-again-2 Inv-loop μ-loop
+loop-again-2 c =
+    let h = c .before .before .before in
+    let k = taken h in (
+      bounds (k .before .before .before .before) .fits,
+      turn-entry (turn (k .before .before)) (k .entry2 .given .1) (h .has .ensures) (c .before .before .if1 .left) (c .before .if2 .left)
+          _ (c .with-case .ensures) _ (toZ-ofZ (sfits-of (h .before .before .before .before .known-told2 .given .1 .1 .0 .1))),
+    )
+
+refuse-requires-4 : tie.Need-refuse-requires-4 Inv-loop μ-loop
+refuse-requires-4 c κs = search needs
+
+returns-4 : tie.Need-returns-4 Inv-loop μ-loop
+returns-4 c =
+    let l = c .before .before in
+    c .refuse4 .ensures
+    ∙ entries-fewer (l .before .before .before .args .file .now) _ _ _ _ _ _ _ _ (l .before .loop .inv .1) (l .loop-test .left) (c .before .if3 .taken)
+
+accept-requires : tie.Need-accept-requires Inv-loop μ-loop
+accept-requires c κs = search needs
+
+returns-5 : tie.Need-returns-5 Inv-loop μ-loop
+returns-5 c =
+    let l = c .before .before in
+    c .accept .ensures
+    ∙ entries-done (l .before .before .before .args .file .now) _ _ _ _ _ _ _ _ (l .before .loop .inv .1) (l .loop-test .left) (c .before .if3 .left)
+
+pub read-entries-spec : {M : Type 1} → statement M
+read-entries-spec =
+    tie.close
+    (tie.spec
+    Inv-loop
+    μ-loop
+    loop-holds
+    line-at-requires
+    sub-entry-line
+    part-entry-line-start
+    part-entry-line-end
+    entry-line-requires
+    enum-told
+    loop-less
+    loop-again
+    enum-known-entry
+    refuse-requires
+    returns
+    enum-known-entry-2
+    sub-i
+    sub-k
+    mul-row
+    array-read-row
+    sub-has
+    has-requires
+    refuse-requires-2
+    returns-2
+    refuse-requires-3
+    returns-3
+    with-case-requires
+    mul-rows
+    array-write-rows
+    mul-p
+    add-p
+    mul-values
+    array-set-from-values
+    sub-left
+    loop-less-2
+    loop-again-2
+    refuse-requires-4
+    returns-4
+    accept-requires
+    returns-5)

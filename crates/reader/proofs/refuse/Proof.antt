@@ -1,0 +1,15 @@
+-- `reader::refuse` meets its contract: the test is the blank one.
+use mathlib.Core.Path.{ap}
+use Rattle.refusals.specs.Answers.{refused}
+use borrow.Author.Needs.{needs}
+use Rattle.reader.proofs.refuse.Statement.{statement}
+use Rattle.reader.proofs.refuse.Tie as tie
+
+blank-requires : tie.Need-blank-requires
+blank-requires c κs = search needs
+
+returns : tie.Need-returns
+returns c = ap (refused (c .before .args .why)) (c .blank .ensures)
+
+pub refuse-spec : {M : Type 1} → statement M
+refuse-spec = tie.close (tie.spec blank-requires returns)

@@ -1,0 +1,62 @@
+-- `recorded::reaching_rows` meets its contract: the first `i` rows are made.
+use Prim.Native.Nat.{ℕ, _-_}
+use native.Mathlib.Omega.{arith}
+use lib.ListN.{length-replicate}
+use Rattle.sets.proofs.Tabulated.{Filled, filled-none, filled-more, filled-all}
+use Rattle.table.specs.Pairs.{row}
+use Rattle.recorded.specs.Tests.{rowAt}
+use Rattle.recorded.proofs.reaching_rows.Statement.{statement}
+use Rattle.recorded.proofs.reaching_rows.Tie as tie
+
+abbrev Inv-loop : tie.InvT-loop
+Inv-loop entries readings cutoff rows₀ i₀ rows i = Filled (λ j. rowAt cutoff (row entries j) readings j) 64 rows i
+
+abbrev μ-loop : tie.MeasureT-loop
+μ-loop entries readings cutoff rows₀ i₀ rows i = 64 - i
+
+loop-holds : tie.Need-loop-holds Inv-loop μ-loop
+loop-holds c = filled-none _ 64 _ (length-replicate {A = ℕ} 64 0)
+
+mul-entry : tie.Need-mul-entry Inv-loop μ-loop
+mul-entry c = omega arith
+
+element-copy-out-entry : tie.Need-element-copy-out-entry Inv-loop μ-loop
+element-copy-out-entry c = omega arith
+
+reaching-row-requires : tie.Need-reaching-row-requires Inv-loop μ-loop
+reaching-row-requires c κs = (c .before .loop-test .taken, c .before .before .before .pre .1)
+
+mul-rows : tie.Need-mul-rows Inv-loop μ-loop
+mul-rows c = omega arith
+
+array-write-rows : tie.Need-array-write-rows Inv-loop μ-loop
+array-write-rows c = omega arith
+
+add-i : tie.Need-add-i Inv-loop μ-loop
+add-i c = omega arith
+
+loop-less : tie.Need-loop-less Inv-loop μ-loop
+loop-less c = omega arith
+
+loop-again : tie.Need-loop-again Inv-loop μ-loop
+loop-again c = filled-more (c .reaching-row .result) (c .before .before .before .loop .inv) (c .before .before .loop-test .taken) (c .reaching-row .ensures)
+
+returns : tie.Need-returns Inv-loop μ-loop
+returns c = filled-all (c .before .loop .i) (c .before .loop .inv) (omega arith)
+
+pub reaching-rows-spec : {M : Type 1} → statement M
+reaching-rows-spec =
+    tie.close
+    (tie.spec
+    Inv-loop
+    μ-loop
+    loop-holds
+    mul-entry
+    element-copy-out-entry
+    reaching-row-requires
+    mul-rows
+    array-write-rows
+    add-i
+    loop-less
+    loop-again
+    returns)

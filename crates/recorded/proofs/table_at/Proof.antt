@@ -1,0 +1,63 @@
+-- `recorded::table_at` meets its contract: each answer is the definition's by the tests that led to it.
+use borrow.Author.Needs.{needs}
+use mathlib.Core.Path.{sym, _∙_}
+use borrow.Author.Tests.{not-true, not-false}
+use Rattle.refusals.proofs.Answering.{verdict-refused, verdict-accepted, answer-refused, answer-given}
+use Rattle.refusals.specs.declared.Refusal.the-variants.{CutoffRange}
+use Rattle.recorded.proofs.Checking.{cutoff-out, cutoff-in}
+use Rattle.recorded.proofs.table_at.Statement.{statement}
+use Rattle.recorded.proofs.table_at.Tie as tie
+
+in-range-requires : tie.Need-in-range-requires
+in-range-requires c κs = search needs
+
+refuse-requires : tie.Need-refuse-requires
+refuse-requires c κs = search needs
+
+returns : tie.Need-returns
+returns c = c .refuse .ensures ∙ answer-refused CutoffRange _ _ _ (cutoff-out _ _ _ (c .before .before .in-range .ensures) (not-true _ (c .before .if1 .taken)))
+
+check-test-requires : tie.Need-check-test-requires
+check-test-requires c κs = search needs
+
+enum-known-checked : tie.Need-enum-known-checked
+enum-known-checked c = search needs
+
+refuse-requires-2 : tie.Need-refuse-requires-2
+refuse-requires-2 c κs = search needs
+
+returns-2 : tie.Need-returns-2
+returns-2 c =
+    c .refuse2 .ensures ∙ answer-refused (c .before .before .checked .given .0 .0) _ _ _
+    (cutoff-in _ _ _ _ (c .before .before .before .before .before .before .in-range .ensures)
+    (not-false _ (c .before .before .before .before .before .if1 .left))
+    (verdict-refused _ _ _ (c .before .before .checked .given .1) (c .before .before .before .before .check-test .ensures)))
+
+enum-told : tie.Need-enum-told
+enum-told c = search needs
+
+rows-at-requires : tie.Need-rows-at-requires
+rows-at-requires c κs = search needs
+
+returns-3 : tie.Need-returns-3
+returns-3 c =
+    rw (c .rows-at .ensures)
+    (answer-given _ _ _
+    (sym (cutoff-in _ _ _ 0 (c .before .before .before .before .before .before .before .in-range .ensures)
+    (not-false _ (c .before .before .before .before .before .before .if1 .left))
+    (sym (verdict-accepted _ _ (c .before .before .before .enum-told .given .1) (c .before .before .before .before .before .check-test .ensures))))))
+
+pub table-at-spec : {M : Type 1} → statement M
+table-at-spec =
+    tie.close
+    (tie.spec
+    in-range-requires
+    refuse-requires
+    returns
+    check-test-requires
+    enum-known-checked
+    refuse-requires-2
+    returns-2
+    enum-told
+    rows-at-requires
+    returns-3)

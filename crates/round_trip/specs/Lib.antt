@@ -1,0 +1,1 @@
+-- The round trip speaks of the definitions of `reader` and `writer` alone; it has none of its own.

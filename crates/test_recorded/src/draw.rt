@@ -1,0 +1,175 @@
+// Tests drawn by a shift register, the same at every run. A reading is drawn as a code, of which `value` gives the reading and the plain
+// computation the magnitude: no signed arithmetic is shared with the library.
+use recorded::Kind;
+use recorded::Test;
+
+// A test, and the codes of its readings.
+pub struct Drawn {
+    pub test: Test,
+    pub integer: bool,
+    pub codes: [u8; 4096],
+}
+
+// The codes of readings in range; the others are out of range.
+const IN_RANGE: u64 = 13;
+
+const CODES: u64 = 17;
+
+// The reading of a code.
+pub fn value(code: u8) -> i32 {
+    match code {
+        1 => 1,
+        2 => -1,
+        3 => 7,
+        4 => -42,
+        5 => 123,
+        6 => -4567,
+        7 => 89012,
+        8 => -345678,
+        9 => 999999,
+        10 => -999999,
+        11 => 1000000,
+        12 => -1000000,
+        13 => 1000001,
+        14 => -1000001,
+        15 => 2147483647,
+        16 => -2147483648,
+        _ => 0,
+    }
+}
+
+// A test of a sort: 0 legal, 1 legal and of 64 by 64, 2 of pairs alone, 3 of a shape out of range, 4 with an entry outside, 5 with a reading
+// at an absent entry, 6 of pairs with a reading, 7 with a reading out of range, 8 with both 5 and 7.
+pub fn one(seed: u64, sort: u64) -> Drawn {
+    let x = shifted(shifted(88172645463325252 ^ (seed << 20) ^ sort));
+    let mut gauges = 1 + x % 9;
+    let mut cases = 1 + x / 16 % 9;
+    if sort == 1 {
+        gauges = 64;
+        cases = 64;
+    }
+    if sort == 3 {
+        gauges = x % 2 * 65;
+    }
+    let integer = sort != 2 && sort != 6;
+    let rows = rows_of(x, gauges, cases, sort);
+    let codes = codes_of(x, &rows, sort);
+    made(integer, gauges, cases, rows, codes)
+}
+
+// Three entries with the readings -42, 0 and 7; as a test of pairs without them.
+pub fn small(integer: bool) -> Drawn {
+    let mut rows = [0u64; 64];
+    rows[0] = 5;
+    rows[1] = 2;
+    let mut codes = [0u8; 4096];
+    if integer {
+        codes[0] = 4;
+        codes[65] = 3;
+    }
+    made(integer, 2, 3, rows, codes)
+}
+
+// Every place of 64 by 64 an entry with the reading -1,000,000.
+pub fn full() -> Drawn {
+    let rows = [18446744073709551615u64; 64];
+    let codes = [12u8; 4096];
+    made(true, 64, 64, rows, codes)
+}
+
+fn made(integer: bool, gauges: u64, cases: u64, rows: [u64; 64], codes: [u8; 4096]) -> Drawn {
+    let readings = readings_of(&codes);
+    let mut kind = Kind::Pattern;
+    if integer {
+        kind = Kind::Integer;
+    }
+    let test = Test {
+        kind: kind,
+        gauges: gauges,
+        cases: cases,
+        entries: rows,
+        readings: readings,
+    };
+    Drawn {
+        test: test,
+        integer: integer,
+        codes: codes,
+    }
+}
+
+// Rows within the shape; in sort 4 one row has a case too many, or is a row too many.
+fn rows_of(seed: u64, gauges: u64, cases: u64, sort: u64) -> [u64; 64] {
+    let mut rows = [0u64; 64];
+    let mut x = seed;
+    let mut i: u64 = 0;
+    while i < 64 {
+        let k = i as usize;
+        x = shifted(x);
+        rows[k] = within(x, i, gauges, cases);
+        i += 1;
+    }
+    if sort == 4 {
+        let far = (seed % 64) as usize;
+        rows[far] = rows[far] | (1u64 << 63);
+    }
+    rows
+}
+
+fn within(x: u64, i: u64, gauges: u64, cases: u64) -> u64 {
+    if gauges <= i {
+        return 0;
+    }
+    if 64 <= cases {
+        return x;
+    }
+    x & std::num::wrapping_sub_u64(1u64 << cases, 1)
+}
+
+// Codes at the entries; and what the sort wants elsewhere.
+fn codes_of(seed: u64, rows: &[u64; 64], sort: u64) -> [u8; 4096] {
+    let mut codes = [0u8; 4096];
+    let mut x = seed;
+    let mut p: usize = 0;
+    while p < 4096 {
+        x = shifted(x);
+        let i = p / 64;
+        let k = (p % 64) as u64;
+        codes[p] = code(x, rows[i] >> k & 1 == 1, sort);
+        p += 1;
+    }
+    codes
+}
+
+fn code(x: u64, entry: bool, sort: u64) -> u8 {
+    if entry {
+        if sort == 2 {
+            return 0;
+        }
+        if sort == 7 || sort == 8 {
+            return (x % CODES) as u8;
+        }
+        return (x % IN_RANGE) as u8;
+    }
+    if sort == 5 || sort == 8 {
+        if x % 512 == 0 {
+            return (x / 512 % IN_RANGE) as u8;
+        }
+    }
+    0
+}
+
+fn readings_of(codes: &[u8; 4096]) -> [i32; 4096] {
+    let mut readings = [0i32; 4096];
+    let mut p: usize = 0;
+    while p < 4096 {
+        readings[p] = value(codes[p]);
+        p += 1;
+    }
+    readings
+}
+
+fn shifted(x: u64) -> u64 {
+    let a = x ^ (x << 13);
+    let b = a ^ (a >> 7);
+    b ^ (b << 17)
+}
