@@ -23,7 +23,7 @@ use Rattle.table.proofs.Legality.{legal-of, legal-passes}
 use Rattle.rules.specs.Machine.{State}
 use Rattle.rules.specs.Calls.{Reply, refused, spent, handed, end, Call, mostBudget, answered}
 use Rattle.rules.proofs.Reports.{only18-by}
-use Rattle.lists.specs.Lists.{gaugeSide}
+use Rattle.lists.specs.Lists.{Side, gaugeSide}
 use Rattle.lists.specs.OnTable.{handOut}
 use Rattle.runs.specs.Paused.{Value, paused}
 use Rattle.runs.specs.Calling.{Step, byRules, told, movesOf, callOf, refusal, PausedAt, Called}
@@ -35,24 +35,24 @@ use Rattle.blocks.specs.private.Turning.{Checked, placed, Put, Turned}
 use Rattle.blocks.proofs.Chains.{pair-legal, handed-within}
 
 -- ---- what the rules give for a call
-told-answer : (t : Table) (omit : Bool) (a : Reply) (k : ℕ) (s : State) → byRules t omit a k s .answer ≡ a
-told-answer t omit (refused n) k s = refl
-told-answer t omit spent k s = refl
-told-answer t omit (handed x) k s = refl
-told-answer t omit end k s = refl
+told-answer : (t : Table) (y : Side) (omit : Bool) (a : Reply) (k : ℕ) (s : State) → byRules t y omit a k s .answer ≡ a
+told-answer t y omit (refused n) k s = refl
+told-answer t y omit spent k s = refl
+told-answer t y omit (handed x) k s = refl
+told-answer t y omit end k s = refl
 
 module _ (v : Value) (b : ℕ) (r : Step) (c : Called gaugeSide v b r) (ok : tableRefusal (v .table) ≡ 0) (s : State) (p : PausedAt gaugeSide v s) where
   abbrev made : Call
   made = callOf (v .table) (gaugeSide (v .table)) (v .omit) b s
 
-  by-rules : r ≡ told (v .table) (v .omit) made
+  by-rules : r ≡ told (v .table) (gaugeSide (v .table)) (v .omit) made
   by-rules = c .rules ok s p
 
   same-answer : made .answer ≡ r .answer
-  same-answer = sym (ap (λ (x : Step). x .answer) by-rules ∙ told-answer (v .table) (v .omit) (made .answer) (made .moves) (made .next))
+  same-answer = sym (ap (λ (x : Step). x .answer) by-rules ∙ told-answer (v .table) (gaugeSide (v .table)) (v .omit) (made .answer) (made .moves) (made .next))
 
-  as-answered : (a : Reply) → r .answer ≡ a → r ≡ byRules (v .table) (v .omit) a (made .moves) (made .next)
-  as-answered a e = by-rules ∙ ap (λ (x : Reply). byRules (v .table) (v .omit) x (made .moves) (made .next)) (same-answer ∙ e)
+  as-answered : (a : Reply) → r .answer ≡ a → r ≡ byRules (v .table) (gaugeSide (v .table)) (v .omit) a (made .moves) (made .next)
+  as-answered a e = by-rules ∙ ap (λ (x : Reply). byRules (v .table) (gaugeSide (v .table)) (v .omit) x (made .moves) (made .next)) (same-answer ∙ e)
 
   never-refused : b ≤ mostBudget → (n : ℕ) → r .answer ≡ refused n → ⊥
   never-refused l n e = only18-by (movesOf (v .table) (gaugeSide (v .table)) (v .omit)) (handOut (gaugeSide (v .table))) b s .else l n (same-answer ∙ e)
@@ -143,7 +143,8 @@ module _ (v : Value) (size : length (v .table .rows) ≡ 64) (r : Step) (called 
   placed-none = ap (λ (k : ℕ). take at before ++ drop k before) (add-zero at) ∙ take-append-drop at before
 
   -- an answer without a set, "spent" or "end"
-  pub turned-none : (a : Reply) → answered a [] ≡ [] → ((k : ℕ) (s : State) → byRules (v .table) (v .omit) a k s .next ≡ paused (v .table) (v .omit) s)
+  pub turned-none : (a : Reply) → answered a [] ≡ []
+      → ((k : ℕ) (s : State) → byRules (v .table) (gaugeSide (v .table)) (v .omit) a k s .next ≡ paused (v .table) (v .omit) s)
       → r .answer ≡ a
       → (w : Value) → w ≡ r .next → Turned v before at w at (isNone a) (isEnd a) before
   turned-none a none kept e w d = record {
@@ -172,7 +173,7 @@ module _ (v : Value) (size : length (v .table .rows) ≡ 64) (r : Step) (called 
         let t : Table = v .table in
         let c : Call = callOf t (gaugeSide t) (v .omit) mostBudget s in
         let a : c .answer ≡ handed x = same-answer v mostBudget r called ok s p ∙ e in
-        let told : r ≡ byRules t (v .omit) (handed x) (c .moves) (c .next) =
+        let told : r ≡ byRules t (gaugeSide t) (v .omit) (handed x) (c .moves) (c .next) =
         as-answered v mostBudget r called ok s p (handed x) e in
         let table : record { gauges = r .chain .gauges; cases = t .cases; rows = r .chain .rows } ≡ pairTable t x =
         ap (λ (y : Step). record { gauges = y .chain .gauges; cases = t .cases; rows = y .chain .rows }) told in

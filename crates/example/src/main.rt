@@ -1,6 +1,6 @@
-// The library by example: a file is read, its ladders are listed with a budget of moves, a chain is judged and grown, a table is made from
-// rows and listed by cases, one without the ladders that calibration never needs, and one is counted. Every answer is looked at before its
-// values are used.
+// The library by example: a file is read, its ladders are counted and listed with a budget of moves, the first says why it lacks a pair, a chain
+// is judged and grown, a table is made from rows and listed by cases, and one without the ladders that calibration never needs. Every answer
+// is looked at before its values are used.
 use count::Count;
 use judge::Judgement;
 use libc::STDOUT_FILENO;
@@ -27,6 +27,7 @@ fn main() {
             say(b"\n");
             count_them(t);
             list(t, false);
+            left_out(t);
             grow(t);
             by_cases();
             needed();
@@ -79,6 +80,36 @@ fn list(t: Table, omit: bool) {
         run = step.next;
         calls -= 1;
     }
+}
+
+// Says by which gauge the first ladder of a table begins, and which of its picks leaves the pair 3:3 out.
+fn left_out(t: Table) {
+    let start = runs::start_gauges(t, false);
+    let started = start.verdict;
+    if let Verdict::Refused(why) = started {
+        refused(why);
+        return;
+    }
+    let step = runs::run_gauges(start.run, 1_000);
+    let sequence = step.picks;
+    let picks = sequence.0;
+    say(b"picks from gauge ");
+    io::print_decimal(STDOUT_FILENO, wide(picks[0]));
+    let reason = explain::explain_gauge(step.next, Gauge(3), Case(3));
+    let verdict = reason.verdict;
+    let pick = reason.pick;
+    match verdict {
+        Verdict::Accepted => {
+            say(b"; 3:3 is left out by gauge ");
+            io::print_decimal(STDOUT_FILENO, pick.0);
+            say(b"\n");
+        }
+        Verdict::Refused(why) => refused(why),
+    }
+}
+
+fn wide(number: u8) -> u64 {
+    number as u64
 }
 
 // Judges the set of the one pair 3:2, and grows it to the first ladder that holds it.

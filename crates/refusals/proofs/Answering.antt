@@ -35,6 +35,7 @@ use Rattle.refusals.specs.declared.Refusal.the-variants.{
   PairAbsent,
   ReadingRange,
   CutoffRange,
+  PairInChain,
 }
 use Rattle.refusals.specs.declared.Verdict.{Verdict}
 use Rattle.refusals.specs.declared.Verdict.the-variants.{Accepted, Refused}
@@ -45,7 +46,7 @@ named n =
     getD
     (FileTooLong ∷ NotTheBanner ∷ LineTooLong ∷ SizeFields ∷ SizeRange ∷ PairFields ∷ PairRange ∷ PairRepeated ∷ PairCount
     ∷ TableShape ∷ TableRows ∷ ChainCount ∷ ChainPairs ∷ NotAChain ∷ NotReached ∷ BufferTooShort ∷ NoSuchComment ∷ BudgetTooLarge
-    ∷ PairAbsent ∷ ReadingRange ∷ CutoffRange ∷ [])
+    ∷ PairAbsent ∷ ReadingRange ∷ CutoffRange ∷ PairInChain ∷ [])
     (n - 1) FileTooLong
 
 pub named-number : (x : Refusal) → named (number x) ≡ x
@@ -71,6 +72,7 @@ named-number BudgetTooLarge = refl
 named-number PairAbsent = refl
 named-number ReadingRange = refl
 named-number CutoffRange = refl
+named-number PairInChain = refl
 
 pub number-injective : (x y : Refusal) → number x ≡ number y → x ≡ y
 number-injective x y e = sym (named-number x) ∙ ap named e ∙ named-number y

@@ -26,6 +26,7 @@ use Rattle.refusals.specs.declared.Refusal.the-variants.{
   PairAbsent,
   ReadingRange,
   CutoffRange,
+  PairInChain,
 }
 use Rattle.refusals.specs.declared.Verdict.{Verdict}
 use Rattle.refusals.specs.declared.Verdict.the-variants.{Accepted, Refused}
@@ -55,6 +56,8 @@ number PairAbsent = 19
 -- 02, R-5: "20: v out of range"; "21: cutoff out of range"
 number ReadingRange = 20
 number CutoffRange = 21
+-- 02, R-6: "the pair is in the ladder"
+number PairInChain = 22
 
 -- an answer: 01's number, 0 where nothing is refused, and the value
 pub record Answer (A : Type 0) : Type 0 where

@@ -27,6 +27,7 @@ pub enum Refusal {
     PairAbsent,
     ReadingRange,
     CutoffRange,
+    PairInChain,
 }
 
 // Whether a check passed, and if not, which refusal it was.
@@ -61,5 +62,6 @@ pub fn refusal_number(why: Refusal) -> u64
         Refusal::PairAbsent => 19,
         Refusal::ReadingRange => 20,
         Refusal::CutoffRange => 21,
+        Refusal::PairInChain => 22,
     }
 }

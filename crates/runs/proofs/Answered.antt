@@ -6,7 +6,7 @@ use mathlib.Core.List.{List, map}
 use Prim.Native.Nat.{ℕ, suc, _<_}
 use native.Mathlib.Omega.{arith}
 use lib.ListN.{length}
-use Rattle.table.specs.Tables.{tableRefusal, blankTable, padded, blankChain}
+use Rattle.table.specs.Tables.{tableRefusal, blankTable, noRows, padded, blankChain}
 use Rattle.refusals.specs.Answers.{number, answer}
 use Rattle.refusals.specs.declared.Refusal.{Refusal}
 use Rattle.table.specs.declared.Chain.{Chain}
@@ -67,7 +67,7 @@ called-refused side v b n e l r d = record {
 -- ---- refusals and fresh starts, as the thin functions put them together
 -- a refused step of either side: its chain and its value are blank
 pub refusal-step : (n : ℕ) (c : Chain) (v : Value) (t : Table) → c ≡ blankChain → t ≡ blankTable → v ≡ paused t false fresh
-    → record { answer = refused n; moves = 0; chain = c; next = v } ≡ refusal n
+    → record { answer = refused n; moves = 0; chain = c; picks = noRows; next = v } ≡ refusal n
 refusal-step n c v t e d w = rw (e, w, d)
 
 -- a refused start

@@ -70,7 +70,7 @@ module _ (side : Table → Side) (t : Table) (omit : Bool) (ok : tableRefusal t 
 
   -- the value that the next call gets is the paused value of the state that the rules lead to
   kept-value : (a : Reply) (k : ℕ) (s y : State) → ((n : ℕ) → a ≡ refused n → y ≡ s)
-      → kept (byRules t omit a k y .answer) (paused t omit s) (byRules t omit a k y .next) ≡ paused t omit y
+      → kept (byRules t here omit a k y .answer) (paused t omit s) (byRules t here omit a k y .next) ≡ paused t omit y
   kept-value (refused n) k s y h = ap (paused t omit) (sym (h n refl))
   kept-value spent k s y h = refl
   kept-value (handed x) k s y h = refl
@@ -79,7 +79,7 @@ module _ (side : Table → Side) (t : Table) (omit : Bool) (ok : tableRefusal t 
   reached-next : (b : ℕ) (s : State) → ReachedOn here s → ReachedOn here (made-by b s .next)
   reached-next b s h = reached-fits here (made-by b s .next) .1 (fits-next t here omit b s (reached-fits here s .0 h))
 
-  by-rule : (b : ℕ) (s : State) → ReachedOn here s → (r : Step) → Called side (paused t omit s) b r → r ≡ told t omit (made-by b s)
+  by-rule : (b : ℕ) (s : State) → ReachedOn here s → (r : Step) → Called side (paused t omit s) b r → r ≡ told t here omit (made-by b s)
   by-rule b s h r c = c .rules ok s (record { reached = h; stands = refl })
 
   kept-next : (b : ℕ) (s : State) → ReachedOn here s → (r : Step) → Called side (paused t omit s) b r
@@ -90,7 +90,7 @@ module _ (side : Table → Side) (t : Table) (omit : Bool) (ok : tableRefusal t 
 
   -- the answers are those of the rules
   by-rules : (s : State) → ReachedOn here s → (bs : List ℕ) (rs : List Step) → Calls side (paused t omit s) bs rs
-      → rs ≡ map (told t omit) (callsBy mv (handOut here) bs s)
+      → rs ≡ map (told t here omit) (callsBy mv (handOut here) bs s)
   by-rules s h [] [] c = refl
   by-rules s h [] (r ∷ rs) c = absurd c
   by-rules s h (b ∷ bs) [] c = absurd c
@@ -109,19 +109,19 @@ module _ (side : Table → Side) (t : Table) (omit : Bool) (ok : tableRefusal t 
       ap (λ (v : Value). left v rs) next ∙ left-value (made-by b s .next) (reached-next b s h) bs rs (subst (λ (v : Value). Calls side v bs rs) next (c .1))
 
   -- ---- what the rules give for a call is what `Called` asks, and for a list of budgets what `Calls` asks: neither is empty talk
-  called-made : (b : ℕ) (s : State) → ReachedOn here s → Called side (paused t omit s) b (told t omit (made-by b s))
+  called-made : (b : ℕ) (s : State) → ReachedOn here s → Called side (paused t omit s) b (told t here omit (made-by b s))
   called-made b s h = record {
     table = λ l. absurd (omega (arith, ok));
     value = λ z n. absurd (n s (record { reached = h; stands = refl }));
-    rules = λ z x p. ap (λ (y : State). told t omit (made-by b y)) (paused-state t omit s x (p .stands));
+    rules = λ z x p. ap (λ (y : State). told t here omit (made-by b y)) (paused-state t omit s x (p .stands));
   }
 
-  pub calls-made : (s : State) → ReachedOn here s → (bs : List ℕ) → Calls side (paused t omit s) bs (map (told t omit) (callsBy mv (handOut here) bs s))
+  pub calls-made : (s : State) → ReachedOn here s → (bs : List ℕ) → Calls side (paused t omit s) bs (map (told t here omit) (callsBy mv (handOut here) bs s))
   calls-made s h [] = tt
   calls-made s h (b ∷ bs) =
-      let made : List Step = map (told t omit) (callsBy mv (handOut here) bs (made-by b s .next)) in (
+      let made : List Step = map (told t here omit) (callsBy mv (handOut here) bs (made-by b s .next)) in (
         called-made b s h,
-        subst (λ (v : Value). Calls side v bs made) (sym (kept-next b s h (told t omit (made-by b s)) (called-made b s h)))
+        subst (λ (v : Value). Calls side v bs made) (sym (kept-next b s h (told t here omit (made-by b s)) (called-made b s h)))
             (calls-made (made-by b s .next) (reached-next b s h) bs),
       )
 
@@ -173,9 +173,9 @@ module _ (side : Table → Side) (t : Table) (l : Legal t) (f : Fair t (side t))
   -- where every maximal chain holds an essential pair, a run that omits makes the calls of demand 3
   pub omits-nothing : ((x : List ℕ) → IsMaximal (tableRows t) x → HoldsEssential (tableRows t) x) → (bs : List ℕ) (rs : List Step)
       → Calls side (paused t true fresh) bs rs
-      → (rs ≡ map (told t true) (callsOn (side t) bs)) × Demand t (side t) bs (callsOn (side t) bs)
+      → (rs ≡ map (told t (side t) true) (callsOn (side t) bs)) × Demand t (side t) bs (callsOn (side t) bs)
   omits-nothing a bs rs c = (
-    by-rules side t true (legal-passes t l) fresh (fresh-reached (side t)) bs rs c ∙ ap (map (told t true)) (nothing-omitted t l (side t) f a bs),
+    by-rules side t true (legal-passes t l) fresh (fresh-reached (side t)) bs rs c ∙ ap (map (told t (side t) true)) (nothing-omitted t l (side t) f a bs),
     demand3 t l (side t) f bs,
   )
 
@@ -193,34 +193,34 @@ carries-omits side v b r h c ok bs rs cs e =
     (calls-more side (paused (v .table) true fresh) bs rs b r cs (subst (λ (w : Value). Called side w b r) (sym e) c))
 
 -- ---- the two runs
-told-answer : (t : Table) (omit : Bool) (a : Reply) (k : ℕ) (s : State) → byRules t omit a k s .answer ≡ a
-told-answer t omit (refused n) k s = refl
-told-answer t omit spent k s = refl
-told-answer t omit (handed x) k s = refl
-told-answer t omit end k s = refl
+told-answer : (t : Table) (y : Side) (omit : Bool) (a : Reply) (k : ℕ) (s : State) → byRules t y omit a k s .answer ≡ a
+told-answer t y omit (refused n) k s = refl
+told-answer t y omit spent k s = refl
+told-answer t y omit (handed x) k s = refl
+told-answer t y omit end k s = refl
 
-sets-told : (t : Table) (cs : List Call) → sets (map (told t false) cs) ≡ handouts cs
-sets-told t [] = refl
-sets-told t (c ∷ cs) = ap₂ answered (told-answer t false (c .answer) (c .moves) (c .next)) (sets-told t cs)
+sets-told : (t : Table) (y : Side) (cs : List Call) → sets (map (told t y false) cs) ≡ handouts cs
+sets-told t y [] = refl
+sets-told t y (c ∷ cs) = ap₂ answered (told-answer t y false (c .answer) (c .moves) (c .next)) (sets-told t y cs)
 
 -- an answer of end is that of a call
-ends-told : (t : Table) (cs : List Call) → Ends (map (told t false) cs) → (c : Call) × List·Memᴰ c cs × (c .answer ≡ end)
-ends-told t cs (r, m, e) =
-    let k = Memᴰ·of-map (told t false) cs m in
-    (k .0, k .1, sym (told-answer t false (k .0 .answer) (k .0 .moves) (k .0 .next)) ∙ ap (λ (x : Step). x .answer) (k .2) ∙ e)
+ends-told : (t : Table) (y : Side) (cs : List Call) → Ends (map (told t y false) cs) → (c : Call) × List·Memᴰ c cs × (c .answer ≡ end)
+ends-told t y cs (r, m, e) =
+    let k = Memᴰ·of-map (told t y false) cs m in
+    (k .0, k .1, sym (told-answer t y false (k .0 .answer) (k .0 .moves) (k .0 .next)) ∙ ap (λ (x : Step). x .answer) (k .2) ∙ e)
 
 pub shares-set : (t : Table) → Legal t → (v w : Value) → v ≡ paused t false fresh → w ≡ paused t false fresh → SharesSet t v w
 shares-set t l v w e d ok bs cs rs qs x y ends-x ends-y =
     let a = run-demand gaugeSide t l (gauge-fair t l) v e bs rs x in
     let b = run-demand caseSide t l (case-fair t l) w d cs qs y in
-    let i = ends-told t (a .calls) (subst Ends (a .answers) ends-x) in
-    let j = ends-told t (b .calls) (subst Ends (b .answers) ends-y) in
-    rw (a .answers, b .answers, sets-told t (a .calls), sets-told t (b .calls))
+    let i = ends-told t (gaugeSide t) (a .calls) (subst Ends (a .answers) ends-x) in
+    let j = ends-told t (caseSide t) (b .calls) (subst Ends (b .answers) ends-y) in
+    rw (a .answers, b .answers, sets-told t (gaugeSide t) (a .calls), sets-told t (caseSide t) (b .calls))
     (one-set t (gaugeSide t) (caseSide t) bs cs (a .calls) (b .calls) (a .demand) (b .demand) (i .0) (i .1) (i .2) (j .0) (j .1) (j .2))
 
 -- ---- the promises, put to use: none of them is empty
 abbrev pub made : Side → Table → List ℕ → List Step
-made s t bs = map (told t false) (callsOn s bs)
+made s t bs = map (told t s false) (callsOn s bs)
 
 -- a fresh start's, for every list of budgets
 pub keeps-made : (side : Table → Side) (t : Table) → tableRefusal t ≡ 0 → KeepsDemand side t (paused t false fresh) → (bs : List ℕ)
@@ -236,8 +236,8 @@ carries-made side t ok bs b r h =
     h ok bs (made (side t) t bs) c (left-value side t false ok fresh (fresh-reached (side t)) bs (made (side t) t bs) c)
 
 -- that of the two runs: with enough calls both end
-ends-made : (t : Table) (cs : List Call) → (c : Call) × List·Memᴰ c cs × (c .answer ≡ end) → Ends (map (told t false) cs)
-ends-made t cs (c, m, e) = (told t false c, Memᴰ·map (told t false) m, told-answer t false (c .answer) (c .moves) (c .next) ∙ e)
+ends-made : (t : Table) (y : Side) (cs : List Call) → (c : Call) × List·Memᴰ c cs × (c .answer ≡ end) → Ends (map (told t y false) cs)
+ends-made t y cs (c, m, e) = (told t y false c, Memᴰ·map (told t y false) m, told-answer t y false (c .answer) (c .moves) (c .next) ∙ e)
 
 pub shares-made : (t : Table) → Legal t → SharesSet t (paused t false fresh) (paused t false fresh) → (bs cs : List ℕ) → All (Enough (t .gauges)) bs
     → All (Enough (t .cases)) cs
@@ -247,19 +247,19 @@ shares-made t l h bs cs a d m n =
     let ok = legal-passes t l in
     h ok bs cs (made (gaugeSide t) t bs) (made (caseSide t) t cs)
     (calls-made gaugeSide t false ok fresh (fresh-reached (gaugeSide t)) bs) (calls-made caseSide t false ok fresh (fresh-reached (caseSide t)) cs)
-    (ends-made t (callsOn (gaugeSide t) bs) (run-ends t l (gaugeSide t) (gauge-fair t l) bs a m))
-    (ends-made t (callsOn (caseSide t) cs) (run-ends t l (caseSide t) (case-fair t l) cs d n))
+    (ends-made t (gaugeSide t) (callsOn (gaugeSide t) bs) (run-ends t l (gaugeSide t) (gauge-fair t l) bs a m))
+    (ends-made t (caseSide t) (callsOn (caseSide t) cs) (run-ends t l (caseSide t) (case-fair t l) cs d n))
 
 -- and demand 3 leaves one list of answers, and one value after it
 pub demand-answers-unique : (side : Table → Side) (t : Table) (v : Value) (bs : List ℕ) (rs qs : List Step) → RunDemand side t v bs rs
     → RunDemand side t v bs qs → (rs ≡ qs) × (left v rs ≡ left v qs)
 demand-answers-unique side t v bs rs qs a b =
     let same = demand-unique t (side t) bs (a .calls) (b .calls) (a .demand) (b .demand) in
-    (a .answers ∙ ap (map (told t false)) same ∙ sym (b .answers), a .last ∙ sym (b .last))
+    (a .answers ∙ ap (map (told t (side t) false)) same ∙ sym (b .answers), a .last ∙ sym (b .last))
 
 -- ---- the same of the runs that omit
 abbrev pub madeOmitting : Side → Table → List ℕ → List Step
-madeOmitting s t bs = map (told t true) (omittingCalls t s bs)
+madeOmitting s t bs = map (told t s true) (omittingCalls t s bs)
 
 pub omits-made : (side : Table → Side) (t : Table) → tableRefusal t ≡ 0 → KeepsOmits side t (paused t true fresh) → (bs : List ℕ)
     → RunOmits side t (paused t true fresh) bs (madeOmitting (side t) t bs)
@@ -276,4 +276,4 @@ pub omits-answers-unique : (side : Table → Side) (t : Table) (v : Value) (bs :
     → RunOmits side t v bs qs → (rs ≡ qs) × (left v rs ≡ left v qs)
 omits-answers-unique side t v bs rs qs a b =
     let same = omits-unique t (side t) bs (a .calls) (b .calls) (a .omits) (b .omits) in
-    (a .answers ∙ ap (map (told t true)) same ∙ sym (b .answers), a .last ∙ sym (b .last))
+    (a .answers ∙ ap (map (told t (side t) true)) same ∙ sym (b .answers), a .last ∙ sym (b .last))

@@ -9,6 +9,7 @@ pub mod Checking
 pub mod Carrying
 pub mod Answered
 pub mod Sides
+pub mod HandOuts
 pub mod Wanting
 pub mod Demands
 pub mod SideCalls

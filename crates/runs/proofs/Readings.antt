@@ -97,17 +97,18 @@ value-same : (t u : Table) (p q : List ℕ) (n m : ℕ) (f e : Phase) (o z : Boo
     → _≡_ {A = Value} (record { table = t; picks = p; count = n; phase = f; omit = o }) (record { table = u; picks = q; count = m; phase = e; omit = z })
 value-same t u p q n m f e o z a b c d h = rw (a, b, c, d, h)
 
-step-same : (a b : Reply) (k l : ℕ) (c d : Chain) (v w : Value) → a ≡ b → k ≡ l → c ≡ d → v ≡ w
-    → _≡_ {A = Step} (record { answer = a; moves = k; chain = c; next = v }) (record { answer = b; moves = l; chain = d; next = w })
-step-same a b k l c d v w x y z u = rw (x, y, z, u)
+step-same : (a b : Reply) (k l : ℕ) (c d : Chain) (p q : List ℕ) (v w : Value) → a ≡ b → k ≡ l → c ≡ d → p ≡ q → v ≡ w
+    → _≡_ {A = Step} (record { answer = a; moves = k; chain = c; picks = p; next = v }) (record { answer = b; moves = l; chain = d; picks = q; next = w })
+step-same a b k l c d p q v w x y z o u = rw (x, y, z, o, u)
 
 -- two steps that are not different are equal
 step-settled : (r q : Step) → ¬ ¬ (r ≡ q) → r ≡ q
 step-settled r q n =
-    step-same (r .answer) (q .answer) (r .moves) (q .moves) (r .chain) (q .chain) (r .next) (q .next)
+    step-same (r .answer) (q .answer) (r .moves) (q .moves) (r .chain) (q .chain) (r .picks) (q .picks) (r .next) (q .next)
     (sym (answer-of (r .answer)) ∙ ap₂ answerOf (number (λ x. kind (x .answer))) (list (λ x. numbers (x .answer))) ∙ answer-of (q .answer))
     (number (λ x. x .moves))
     (ap₂ (λ (g : ℕ) (rows : List ℕ). record { gauges = g; rows = rows }) (number (λ x. x .chain .gauges)) (list (λ x. x .chain .rows)))
+    (list (λ x. x .picks))
     (value-same (r .next .table) (q .next .table) (r .next .picks) (q .next .picks) (r .next .count) (q .next .count) (r .next .phase) (q .next .phase)
     (r .next .omit) (q .next .omit)
     (table-same (r .next .table .gauges) (q .next .table .gauges) (r .next .table .cases) (q .next .table .cases) (r .next .table .rows) (q .next .table .rows)
@@ -183,8 +184,9 @@ gauge-started-injective s z e =
     (gauge-value-injective (s .run) (z .run) (ap (λ (a : Reading Value). a .value) e))
 
 pub gauge-step-injective : (r q : GaugeStep) → gaugeStep r ≡ gaugeStep q → r ≡ q
-gauge-step-injective = injective gaugeStep (λ s. record { outcome = outcomeOf (s .answer); moves = s .moves; chain = s .chain; next = gaugeRunOf (s .next) })
-    (λ r. ap₂ (λ (o : Outcome) (p : GaugeRun). record { outcome = o; moves = r .moves; chain = r .chain; next = p })
+gauge-step-injective = injective gaugeStep
+    (λ s. record { outcome = outcomeOf (s .answer); moves = s .moves; chain = s .chain; picks = record { 0 = s .picks }; next = gaugeRunOf (s .next) })
+    (λ r. ap₂ (λ (o : Outcome) (p : GaugeRun). record { outcome = o; moves = r .moves; chain = r .chain; picks = r .picks; next = p })
     (outcome-of (r .outcome) (chainRows (r .chain))) (gauge-run-of (r .next)))
 
 -- ---- the case run
@@ -217,8 +219,9 @@ case-started-injective s z e =
     (case-value-injective (s .run) (z .run) (ap (λ (a : Reading Value). a .value) e))
 
 pub case-step-injective : (r q : CaseStep) → caseStep r ≡ caseStep q → r ≡ q
-case-step-injective = injective caseStep (λ s. record { outcome = outcomeOf (s .answer); moves = s .moves; chain = s .chain; next = caseRunOf (s .next) })
-    (λ r. ap₂ (λ (o : Outcome) (p : CaseRun). record { outcome = o; moves = r .moves; chain = r .chain; next = p })
+case-step-injective = injective caseStep
+    (λ s. record { outcome = outcomeOf (s .answer); moves = s .moves; chain = s .chain; picks = record { 0 = s .picks }; next = caseRunOf (s .next) })
+    (λ r. ap₂ (λ (o : Outcome) (p : CaseRun). record { outcome = o; moves = r .moves; chain = r .chain; picks = r .picks; next = p })
     (outcome-of (r .outcome) (chainRows (r .chain))) (case-run-of (r .next)))
 
 -- ---- so a run call has one answer

@@ -11,18 +11,20 @@ use native.Mathlib.Omega.{arith}
 use lib.ListN.{length, take}
 use denote.Enum.Declared
 use Rattle.refusals.specs.Answers.{number}
-use Rattle.table.specs.Tables.{Legal, chainRows, blankChain, tableRefusal, padded}
+use Rattle.table.specs.Tables.{Legal, chainRows, noRows, blankChain, tableRefusal, padded}
 use Rattle.table.specs.declared.Table.{Table}
 use Rattle.table.specs.declared.Chain.{Chain}
 use Rattle.refusals.specs.declared.Refusal.{Refusal}
 use Rattle.rules.specs.Machine.{Phase, State, Move}
 use Rattle.rules.specs.Calls.{handed, mostBudget}
+use Rattle.rules.specs.private.Fitting.{Fits}
 use Rattle.rules.proofs.Calls.{above-by, within-by}
 use Rattle.lists.specs.Lists.{Side}
+use Rattle.lists.specs.Picks.{candidates}
 use Rattle.lists.specs.OnTable.{chainOf, handOut}
 use Rattle.lists.proofs.BothSides.{Fair}
 use Rattle.runs.specs.Paused.{Value, numbered, paused}
-use Rattle.runs.specs.Calling.{Step, outcome, refusal, byRules, told, movesOf, callOf, Called, CarriesDemand}
+use Rattle.runs.specs.Calling.{Step, outcome, refusal, sequence, byRules, told, movesOf, callOf, Called, CarriesDemand}
 use Rattle.runs.specs.Omitting.{CarriesOmits}
 use Rattle.runs.specs.private.Working.{modePhase, StandsFor, Went, CarriesOn, nextOf, stepBy}
 use Rattle.runs.specs.declared.Outcome.{Outcome}
@@ -33,6 +35,7 @@ use Rattle.runs.proofs.Outcome.{the-type}
 use Rattle.runs.proofs.Padding.{take-padded}
 use Rattle.runs.proofs.Answered.{stands-paused, paused-stands}
 use Rattle.runs.proofs.Sides.{Ladder}
+use Rattle.runs.proofs.HandOuts.{sequence-of, handed-out}
 use Rattle.runs.proofs.Demands.{carries-demand, carries-omits}
 
 -- the variant of an outcome, and that it is one of some
@@ -43,14 +46,24 @@ abbrev pub OneOf : List ℕ → ℕ → Type 0
 OneOf ks k = types.Run.OneOf ks k
 
 -- the report of moves as the public answer
-by-moves : (t : Table) (omit : Bool) (o : Report) (k rows x : List ℕ) (y : State) (oc : Outcome)
-    → (oc ≡ HandedOut → (rows ≡ padded x) × (length x ≡ t .gauges))
+abbrev handedWith : Table → Bool → Report → List ℕ → List ℕ → List ℕ → Step
+handedWith t omit o k rows picks = record {
+  answer = handed (take (t .gauges) rows);
+  moves = o .moves;
+  chain = record { gauges = t .gauges; rows = rows };
+  picks = picks;
+  next = nextOf t omit o k;
+}
+
+by-moves : (t : Table) (s : Side) (omit : Bool) (o : Report) (k rows x : List ℕ) (y : State) (oc : Outcome)
+    → (oc ≡ HandedOut → (rows ≡ padded x) × (length x ≡ t .gauges) × (k ≡ sequence s x))
     → nextOf t omit o k ≡ paused t omit y
-    → stepBy t omit o k rows oc ≡ byRules t omit (outcome oc x) (o .moves) y
-by-moves t omit o k rows x y HandedOut e w = let (a, n) = e refl in rw (a, w, take-padded x (t .gauges) (sym n))
-by-moves t omit o k rows x y Spent e w = rw w
-by-moves t omit o k rows x y End e w = rw w
-by-moves t omit o k rows x y (Refused why) e w = refl
+    → stepBy t omit o k rows oc ≡ byRules t s omit (outcome oc x) (o .moves) y
+by-moves t s omit o k rows x y HandedOut e w =
+    let (a, n, q) = e refl in ap (handedWith t omit o k rows) q ∙ rw (a, w, take-padded x (t .gauges) (sym n))
+by-moves t s omit o k rows x y Spent e w = rw w
+by-moves t s omit o k rows x y End e w = rw w
+by-moves t s omit o k rows x y (Refused why) e w = refl
 
 -- a call on the value v of a legal table, where the core left the chain c′ and the picks k′
 pub record Worked (side : Table → Side) (v : Value) (b : ℕ) (m : Mode) (c′ k′ : List ℕ) (o : Report) : Type 0 where
@@ -58,7 +71,8 @@ pub record Worked (side : Table → Side) (v : Value) (b : ℕ) (m : Mode) (c′
   pub mode-is : modePhase m ≡ v .phase
   pub carried : CarriesOn (movesOf (v .table) (side (v .table)) (v .omit)) (side (v .table) .rows) (v .picks) (v .count) (modePhase m) b c′ k′ o
 
-module _ (side : Table → Side) (v : Value) (b : ℕ) (m : Mode) (c′ k′ : List ℕ) (o : Report) (h : Worked side v b m c′ k′ o) where
+module _ (side : Table → Side) (v : Value) (b : ℕ) (m : Mode) (c′ k′ : List ℕ) (o : Report) (fair : Fair (v .table) (side (v .table)))
+    (h : Worked side v b m c′ k′ o) where
   abbrev t : Table
   t = v .table
 
@@ -78,18 +92,26 @@ module _ (side : Table → Side) (v : Value) (b : ℕ) (m : Mode) (c′ k′ : L
   }
     where
       by-rules : (s : State) → StandsFor (side t .rows) (v .picks) (v .count) (v .phase) s → Dec (b ≤ mostBudget)
-          → r ≡ told t (v .omit) (callOf t (side t) (v .omit) b s)
+          → r ≡ told t (side t) (v .omit) (callOf t (side t) (v .omit) b s)
       by-rules s l (no y) =
           e ∙ ap (stepBy t (v .omit) o k′ rows) (carries .large s l (omega arith))
-          ∙ sym (ap (told t (v .omit)) (above-by mv (handOut (side t)) b s (omega arith)))
+          ∙ sym (ap (told t (side t) (v .omit)) (above-by mv (handOut (side t)) b s (omega arith)))
       by-rules s l (yes y) =
           let w : Went mv (side t .rows) b s c′ k′ o = carries .moves s l y in
           e
-          ∙ by-moves t (v .omit) o k′ rows (handOut (side t) (w .to .picks)) (w .to) (o .outcome)
-          (λ d. let a = chain d (w .to .picks) (w .chained) in (a .rows-are, a .size))
+          ∙ by-moves t (side t) (v .omit) o k′ rows (handOut (side t) (w .to .picks)) (w .to) (o .outcome)
+          (λ d. let a = chain d (w .to .picks) (w .chained) in (a .rows-are, a .size, sequence-is d w))
           (value-of (w .to) (w .stands))
-          ∙ sym (ap (told t (v .omit)) (within-by mv (handOut (side t)) b s y ∙ w .comes (handOut (side t))))
+          ∙ sym (ap (told t (side t) (v .omit)) (within-by mv (handOut (side t)) b s y ∙ w .comes (handOut (side t))))
         where
+          -- the picks that the core left are the pick sequence of the chain handed out
+          sequence-is : o .outcome ≡ HandedOut → (w : Went mv (side t .rows) b s c′ k′ o) → k′ ≡ sequence (side t) (handOut (side t) (w .to .picks))
+          sequence-is d w =
+              w .stands .picked
+              ∙ sequence-of t (side t) fair (w .to .picks)
+              (subst (λ (f : Phase). Fits (candidates (side t .rows)) (w .to .picks) f)
+              (handed-out t (side t) (v .omit) b s (o .outcome) (o .moves) (w .to) d (w .comes (handOut (side t)))) (w .stands .fits))
+
           value-of : (y : State) → StandsFor (side t .rows) k′ (o .spot .count) (modePhase (o .spot .mode)) y → nextOf t (v .omit) o k′ ≡ paused t (v .omit) y
           value-of y g = same (o .spot .count) (modePhase (o .spot .mode)) k′ (g .picked) (g .counted) (g .phased)
             where
@@ -110,6 +132,7 @@ module _ (side : Table → Side) (v : Value) (b : ℕ) (m : Mode) (c′ k′ : L
           answer = handed (take (t .gauges) rows);
           moves = o .moves;
           chain = record { gauges = t .gauges; rows = rows };
+          picks = k′;
           next = next;
         })
     call-handed rows e chain =
@@ -118,21 +141,23 @@ module _ (side : Table → Side) (v : Value) (b : ℕ) (m : Mode) (c′ k′ : L
               (take (t .gauges) rows);
           moves = o .moves;
           chain = record { gauges = t .gauges; rows = rows };
+          picks = k′;
           next = next;
         })
         (rw ef (sym (ap (stepBy t (v .omit) o k′ rows) e)))
 
     pub call-other : (c : Chain) → c ≡ blankChain → OneOf (0 ∷ 1 ∷ 2 ∷ []) (tag (o .outcome)) → OneOf (1 ∷ 2 ∷ 3 ∷ []) (tag (o .outcome))
-        → Called side v b (record { answer = outcome (o .outcome) (chainRows c); moves = o .moves; chain = c; next = next })
+        → Called side v b (record { answer = outcome (o .outcome) (chainRows c); moves = o .moves; chain = c; picks = noRows; next = next })
     call-other c ec moved other =
         call-answer [] (λ e. absurd (not-handed (subst (λ (x : Outcome). OneOf (1 ∷ 2 ∷ 3 ∷ []) (tag x)) e other)))
-        (record { answer = outcome (o .outcome) (chainRows c); moves = o .moves; chain = c; next = next }) (as-step (o .outcome) moved other)
+        (record { answer = outcome (o .outcome) (chainRows c); moves = o .moves; chain = c; picks = noRows; next = next }) (as-step (o .outcome) moved other)
       where
         not-handed : OneOf (1 ∷ 2 ∷ 3 ∷ []) (tag HandedOut) → ⊥
         not-handed k = ⊎-elim (λ i. omega arith) (λ j. ⊎-elim (λ i. omega arith) (λ i. omega arith) j) k
 
         as-step : (oc : Outcome) → OneOf (0 ∷ 1 ∷ 2 ∷ []) (tag oc) → OneOf (1 ∷ 2 ∷ 3 ∷ []) (tag oc)
-            → _≡_ {A = Step} (record { answer = outcome oc (chainRows c); moves = o .moves; chain = c; next = next }) (stepBy t (v .omit) o k′ [] oc)
+            → _≡_ {A = Step} (record { answer = outcome oc (chainRows c); moves = o .moves; chain = c; picks = noRows; next = next })
+            (stepBy t (v .omit) o k′ [] oc)
         as-step HandedOut a d = absurd (not-handed d)
         as-step Spent a d = rw (ec, ef)
         as-step End a d = rw (ec, ef)

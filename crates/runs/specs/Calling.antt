@@ -8,13 +8,14 @@
 use mathlib.Core.Path.{_≡_}
 use mathlib.Core.Bool.{Bool, true, false}
 use mathlib.Core.List.{List, [], _∷_, _++_, map, List·Memᴰ}
-use Prim.Native.Nat.{ℕ, _<_}
-use Rattle.table.specs.Tables.{blankChain, chainRows, tableRefusal, padded}
+use Prim.Native.Nat.{ℕ, suc, _<_}
+use Rattle.table.specs.Tables.{noRows, blankChain, chainRows, tableRefusal, padded}
 use Rattle.refusals.specs.Answers.{number}
 use Rattle.table.specs.declared.Table.{Table}
 use Rattle.table.specs.declared.Chain.{Chain}
 use Rattle.rules.specs.Machine.{State, fresh, Move, move}
 use Rattle.rules.specs.Calls.{Reply, refused, spent, handed, end, Call, callBy, answered}
+use Rattle.lists.specs.PickSequence.{pickSeq}
 use Rattle.lists.specs.Lists.{Side, gaugeSide, caseSide}
 use Rattle.lists.specs.Picks.{candidates}
 use Rattle.lists.specs.OnTable.{ReachedOn, handOut, leftOn}
@@ -27,11 +28,13 @@ use Rattle.runs.specs.declared.Outcome.the-variants.{HandedOut, Spent, E
 use Rattle.runs.specs.declared.gauges.GaugeStep.{GaugeStep}
 use Rattle.runs.specs.declared.cases.CaseStep.{CaseStep}
 
--- the answer of a call: 01's answer, the moves, the chain by gauge rows, and the next paused value
+-- the answer of a call: 01's answer, the moves, the chain by gauge rows, its pick sequence (02, R-6: "Each handed-out ladder now carries its pick
+-- sequence, in the case run that of the cases"), by number in 64 places as a paused value has its picks, and the next paused value
 pub record Step : Type 0 where
   pub answer : Reply
   pub moves : ℕ
   pub chain : Chain
+  pub picks : List ℕ
   pub next : Value
 
 -- ---- how the two structs read
@@ -43,27 +46,43 @@ outcome End rows = end
 outcome (Refused x) rows = refused (number x)
 
 abbrev pub gaugeStep : GaugeStep → Step
-gaugeStep r = record { answer = outcome (r .outcome) (chainRows (r .chain)); moves = r .moves; chain = r .chain; next = gaugeValue (r .next) }
+gaugeStep r = record {
+  answer = outcome (r .outcome) (chainRows (r .chain));
+  moves = r .moves;
+  chain = r .chain;
+  picks = r .picks .0;
+  next = gaugeValue (r .next);
+}
 
 abbrev pub caseStep : CaseStep → Step
-caseStep r = record { answer = outcome (r .outcome) (chainRows (r .chain)); moves = r .moves; chain = r .chain; next = caseValue (r .next) }
+caseStep r = record {
+  answer = outcome (r .outcome) (chainRows (r .chain));
+  moves = r .moves;
+  chain = r .chain;
+  picks = r .picks .0;
+  next = caseValue (r .next);
+}
 
 -- ---- what a call answers
 -- "A refusal yields its number and nothing else"
 abbrev pub refusal : ℕ → Step
-refusal n = record { answer = refused n; moves = 0; chain = blankChain; next = blankValue }
+refusal n = record { answer = refused n; moves = 0; chain = blankChain; picks = noRows; next = blankValue }
 
--- what the rules give for a call on the table t: the chain stands by gauge rows where one is handed out, and is blank elsewhere; the next
--- value omits where the last one did
-abbrev pub byRules : Table → Bool → Reply → ℕ → State → Step
-byRules t omit (refused n) k s = refusal n
-byRules t omit spent k s = record { answer = spent; moves = k; chain = blankChain; next = paused t omit s }
-byRules t omit (handed x) k s =
-    record { answer = handed x; moves = k; chain = record { gauges = t .gauges; rows = padded x }; next = paused t omit s }
-byRules t omit end k s = record { answer = end; moves = k; chain = blankChain; next = paused t omit s }
+-- the pick sequence of the set x on the side s, "from the ladder alone" (01), by number with zeros behind it
+abbrev pub sequence : Side → List ℕ → List ℕ
+sequence s x = padded (map suc (pickSeq (s .key x)))
 
-abbrev pub told : Table → Bool → Call → Step
-told t omit c = byRules t omit (c .answer) (c .moves) (c .next)
+-- what the rules give for a call on the side s of the table t: the chain stands by gauge rows where one is handed out, with its pick sequence,
+-- and both are blank elsewhere; the next value omits where the last one did
+abbrev pub byRules : Table → Side → Bool → Reply → ℕ → State → Step
+byRules t s omit (refused n) k y = refusal n
+byRules t s omit spent k y = record { answer = spent; moves = k; chain = blankChain; picks = noRows; next = paused t omit y }
+byRules t s omit (handed x) k y =
+    record { answer = handed x; moves = k; chain = record { gauges = t .gauges; rows = padded x }; picks = sequence s x; next = paused t omit y }
+byRules t s omit end k y = record { answer = end; moves = k; chain = blankChain; picks = noRows; next = paused t omit y }
+
+abbrev pub told : Table → Side → Bool → Call → Step
+told t s omit c = byRules t s omit (c .answer) (c .moves) (c .next)
 
 -- the moves of a run on the side s of the table t: rules 1 to 5; of a run that omits the same ones, which give nothing at a set that holds no
 -- essential pair
@@ -86,7 +105,7 @@ pub record Called (side : Table → Side) (v : Value) (b : ℕ) (r : Step) : Typ
   pub table : 0 < tableRefusal (v .table) → r ≡ refusal (tableRefusal (v .table))
   pub value : tableRefusal (v .table) ≡ 0 → ((s : State) → PausedAt side v s → ⊥) → r ≡ refusal 15
   pub rules : tableRefusal (v .table) ≡ 0 → (s : State) → PausedAt side v s
-      → r ≡ told (v .table) (v .omit) (callOf (v .table) (side (v .table)) (v .omit) b s)
+      → r ≡ told (v .table) (side (v .table)) (v .omit) (callOf (v .table) (side (v .table)) (v .omit) b s)
 
 -- ---- a list of calls
 -- the value that the next call gets: a refused call changes nothing
@@ -111,7 +130,7 @@ left v (r ∷ rs) = left (kept (r .answer) v (r .next)) rs
 -- demand 3 of a list of calls on the side of the table t from the value v, with budgets bs and answers rs
 pub record RunDemand (side : Table → Side) (t : Table) (v : Value) (bs : List ℕ) (rs : List Step) : Type 0 where
   pub calls : List Call
-  pub answers : rs ≡ map (told t false) calls
+  pub answers : rs ≡ map (told t (side t) false) calls
   pub demand : Demand t (side t) bs calls
   -- "and after the list the value last returned"
   pub last : left v rs ≡ paused t false (leftOn (side t) bs)

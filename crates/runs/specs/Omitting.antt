@@ -20,7 +20,7 @@ use Rattle.runs.specs.Calling.{Step, told, Calls, left}
 -- call has answered end
 pub record RunOmits (side : Table → Side) (t : Table) (v : Value) (bs : List ℕ) (rs : List Step) : Type 0 where
   pub calls : List Call
-  pub answers : rs ≡ map (told t true) calls
+  pub answers : rs ≡ map (told t (side t) true) calls
   pub omits : Omits t (side t) bs calls
   -- the value last returned
   pub last : left v rs ≡ paused t true (leftKeeping (side t) (keepsOf t) bs)

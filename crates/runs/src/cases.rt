@@ -45,11 +45,13 @@ pub struct CaseRun {
     pub omit: bool,
 }
 
-// The answer of a case run call: the moves made, the maximal chain where one is handed out, by gauge rows, and the next paused value.
+// The answer of a case run call: the moves made, the maximal chain where one is handed out, by gauge rows, its pick sequence, and the next
+// paused value.
 pub struct CaseStep {
     pub outcome: Outcome,
     pub moves: u64,
     pub chain: Chain,
+    pub picks: CasePicks,
     pub next: CaseRun,
 }
 
@@ -127,6 +129,7 @@ pub fn run_cases(p: CaseRun, budget: u64) -> CaseStep
     };
     if let Outcome::HandedOut = outcome {
         let turned = turn::turned(&chain, t.cases as usize, t.gauges as usize);
+        let made = CasePicks(picks);
         return CaseStep {
             outcome: Outcome::HandedOut,
             moves: report.moves,
@@ -134,6 +137,7 @@ pub fn run_cases(p: CaseRun, budget: u64) -> CaseStep
                 gauges: t.gauges,
                 rows: turned,
             },
+            picks: made,
             next: next,
         };
     }
@@ -142,6 +146,7 @@ pub fn run_cases(p: CaseRun, budget: u64) -> CaseStep
         outcome: outcome,
         moves: report.moves,
         chain: none,
+        picks: CasePicks([0u8; 64]),
         next: next,
     }
 }
@@ -201,6 +206,7 @@ fn case_refusal(why: Refusal) -> CaseStep
         outcome: Outcome::Refused(why),
         moves: 0,
         chain: none,
+        picks: CasePicks([0u8; 64]),
         next: case_run(engine::blank_table(), false),
     }
 }

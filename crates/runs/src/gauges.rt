@@ -43,11 +43,13 @@ pub struct GaugeRun {
     pub omit: bool,
 }
 
-// The answer of a gauge run call: the moves made, the maximal chain where one is handed out, by gauge rows, and the next paused value.
+// The answer of a gauge run call: the moves made, the maximal chain where one is handed out, by gauge rows, its pick sequence, and the next
+// paused value.
 pub struct GaugeStep {
     pub outcome: Outcome,
     pub moves: u64,
     pub chain: Chain,
+    pub picks: GaugePicks,
     pub next: GaugeRun,
 }
 
@@ -122,6 +124,7 @@ pub fn run_gauges(p: GaugeRun, budget: u64) -> GaugeStep
         omit: p.omit,
     };
     if let Outcome::HandedOut = outcome {
+        let made = GaugePicks(picks);
         return GaugeStep {
             outcome: Outcome::HandedOut,
             moves: report.moves,
@@ -129,6 +132,7 @@ pub fn run_gauges(p: GaugeRun, budget: u64) -> GaugeStep
                 gauges: t.gauges,
                 rows: chain,
             },
+            picks: made,
             next: next,
         };
     }
@@ -137,6 +141,7 @@ pub fn run_gauges(p: GaugeRun, budget: u64) -> GaugeStep
         outcome: outcome,
         moves: report.moves,
         chain: none,
+        picks: GaugePicks([0u8; 64]),
         next: next,
     }
 }
@@ -194,6 +199,7 @@ fn gauge_refusal(why: Refusal) -> GaugeStep
         outcome: Outcome::Refused(why),
         moves: 0,
         chain: none,
+        picks: GaugePicks([0u8; 64]),
         next: gauge_run(engine::blank_table(), false),
     }
 }

@@ -205,7 +205,13 @@ nextOf t omit o k = record { table = t; picks = k; count = o .spot .count; phase
 
 abbrev pub stepBy : Table → Bool → Report → List ℕ → List ℕ → Outcome → Step
 stepBy t omit o k rows HandedOut =
-    record { answer = handed (take (t .gauges) rows); moves = o .moves; chain = record { gauges = t .gauges; rows = rows }; next = nextOf t omit o k }
-stepBy t omit o k rows Spent = record { answer = spent; moves = o .moves; chain = blankChain; next = nextOf t omit o k }
-stepBy t omit o k rows End = record { answer = end; moves = o .moves; chain = blankChain; next = nextOf t omit o k }
+    record {
+      answer = handed (take (t .gauges) rows);
+      moves = o .moves;
+      chain = record { gauges = t .gauges; rows = rows };
+      picks = k;
+      next = nextOf t omit o k;
+    }
+stepBy t omit o k rows Spent = record { answer = spent; moves = o .moves; chain = blankChain; picks = noRows; next = nextOf t omit o k }
+stepBy t omit o k rows End = record { answer = end; moves = o .moves; chain = blankChain; picks = noRows; next = nextOf t omit o k }
 stepBy t omit o k rows (Refused why) = refusal (number why)

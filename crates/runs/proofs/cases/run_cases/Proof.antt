@@ -9,7 +9,7 @@ use Rattle.table.specs.Tables.{Legal, tableRefusal}
 use Rattle.refusals.proofs.Answering.{number-pos, verdict-refused, verdict-accepted}
 use Rattle.table.proofs.Legality.{legal-of}
 use Rattle.lists.specs.Lists.{caseSide}
-use Rattle.lists.proofs.BothSides.{case-fair}
+use Rattle.lists.proofs.BothSides.{Fair, case-fair}
 use Rattle.runs.specs.Paused.{caseValue}
 use Rattle.runs.specs.Calling.{Step, movesOf, Called, CarriesDemand}
 use Rattle.runs.specs.Omitting.{CarriesOmits}
@@ -50,6 +50,9 @@ passed c = verdict-accepted _ _ (c .enum-told .given .1) (checked c .check-table
 
 legal : (c : tie.After-enum-told) → Legal (start (checked c) .args .p .table)
 legal c = legal-of (start (checked c) .args .p .table) (rows-length (start (checked c))) (passed c)
+
+fair : (c : tie.After-enum-told) → Fair (start (checked c) .args .p .table) (caseSide (start (checked c) .args .p .table))
+fair c = case-fair (start (checked c) .args .p .table) (legal c)
 
 -- an answer that is what `Called` says carries the promises on
 answered : (c : tie.Start) (r : Step) → Called caseSide (caseValue (c .args .p)) (c .args .budget) r
@@ -110,8 +113,8 @@ returns-2 : tie.Need-returns-2
 returns-2 c =
     let o = c .before .before in
     let k = o .before .before in
-    answered (start (checked (told (moded k)))) _ (call-refused _ _ _ _ _ _ _ (worked k (k .call-cases .ensures)) _ (o .outcome .given .1) _
-    (c .case-refusal2 .ensures))
+    answered (start (checked (told (moded k)))) _
+    (call-refused _ _ _ _ _ _ _ (fair (told (moded k))) (worked k (k .call-cases .ensures)) _ (o .outcome .given .1) _ (c .case-refusal2 .ensures))
 
 case-phase-requires : tie.Need-case-phase-requires
 case-phase-requires c κs = search needs
@@ -128,7 +131,7 @@ returns-3 c =
     let f = e .before .before in
     let k = begun f in
     answered (start (checked (told (moded k)))) _
-    (call-handed _ _ _ _ _ _ _ (worked k (k .call-cases .ensures)) _ (f .case-phase .ensures) _ (e .enum-told2 .given .1)
+    (call-handed _ _ _ _ _ _ _ (fair (told (moded k))) (worked k (k .call-cases .ensures)) _ (f .case-phase .ensures) _ (e .enum-told2 .given .1)
     (λ p d. case-chain _ (legal (told (moded k))) p _ _ d (c .turned2 .ensures)))
 
 blank-chain-requires : tie.Need-blank-chain-requires
@@ -139,8 +142,8 @@ returns-4 c =
     let f = c .before .before in
     let k = begun f in
     answered (start (checked (told (moded k)))) _
-    (call-other _ _ _ _ _ _ _ (worked k (k .call-cases .ensures)) _ (f .case-phase .ensures) _ (c .blank-chain .ensures) (f .before .before .match2 .keys2)
-    (c .before .match3 .keys2))
+    (call-other _ _ _ _ _ _ _ (fair (told (moded k))) (worked k (k .call-cases .ensures)) _ (f .case-phase .ensures) _ (c .blank-chain .ensures)
+    (f .before .before .match2 .keys2) (c .before .match3 .keys2))
 
 pub run-cases-spec : {M : Type 1} → statement M
 run-cases-spec =

@@ -9,7 +9,7 @@ use Rattle.table.specs.Tables.{Legal, tableRefusal}
 use Rattle.refusals.proofs.Answering.{number-pos, verdict-refused, verdict-accepted}
 use Rattle.table.proofs.Legality.{legal-of}
 use Rattle.lists.specs.Lists.{gaugeSide}
-use Rattle.lists.proofs.BothSides.{gauge-fair}
+use Rattle.lists.proofs.BothSides.{Fair, gauge-fair}
 use Rattle.runs.specs.Paused.{gaugeValue}
 use Rattle.runs.specs.Calling.{Step, movesOf, Called, CarriesDemand}
 use Rattle.runs.specs.Omitting.{CarriesOmits}
@@ -47,6 +47,9 @@ passed c = verdict-accepted _ _ (c .enum-told .given .1) (checked c .check-table
 
 legal : (c : tie.After-enum-told) → Legal (start (checked c) .args .p .table)
 legal c = legal-of (start (checked c) .args .p .table) (rows-length (start (checked c))) (passed c)
+
+fair : (c : tie.After-enum-told) → Fair (start (checked c) .args .p .table) (gaugeSide (start (checked c) .args .p .table))
+fair c = gauge-fair (start (checked c) .args .p .table) (legal c)
 
 -- an answer that is what `Called` says carries the promises on
 answered : (c : tie.Start) (r : Step) → Called gaugeSide (gaugeValue (c .args .p)) (c .args .budget) r
@@ -104,8 +107,8 @@ returns-2 : tie.Need-returns-2
 returns-2 c =
     let o = c .before .before in
     let k = o .before .before in
-    answered (start (checked (told (moded k)))) _ (call-refused _ _ _ _ _ _ _ (worked k (k .call-gauges .ensures)) _ (o .outcome .given .1) _
-    (c .gauge-refusal2 .ensures))
+    answered (start (checked (told (moded k)))) _
+    (call-refused _ _ _ _ _ _ _ (fair (told (moded k))) (worked k (k .call-gauges .ensures)) _ (o .outcome .given .1) _ (c .gauge-refusal2 .ensures))
 
 gauge-phase-requires : tie.Need-gauge-phase-requires
 gauge-phase-requires c κs = search needs
@@ -119,7 +122,7 @@ returns-3 c =
     let f = e .before .before in
     let k = begun f in
     answered (start (checked (told (moded k)))) _
-    (call-handed _ _ _ _ _ _ _ (worked k (k .call-gauges .ensures)) _ (f .gauge-phase .ensures) _ (e .enum-told2 .given .1)
+    (call-handed _ _ _ _ _ _ _ (fair (told (moded k))) (worked k (k .call-gauges .ensures)) _ (f .gauge-phase .ensures) _ (e .enum-told2 .given .1)
     (λ p d. gauge-chain _ (legal (told (moded k))) p _ d))
 
 blank-chain-requires : tie.Need-blank-chain-requires
@@ -130,8 +133,8 @@ returns-4 c =
     let f = c .before .before in
     let k = begun f in
     answered (start (checked (told (moded k)))) _
-    (call-other _ _ _ _ _ _ _ (worked k (k .call-gauges .ensures)) _ (f .gauge-phase .ensures) _ (c .blank-chain .ensures) (f .before .before .match2 .keys2)
-    (c .before .match3 .keys2))
+    (call-other _ _ _ _ _ _ _ (fair (told (moded k))) (worked k (k .call-gauges .ensures)) _ (f .gauge-phase .ensures) _ (c .blank-chain .ensures)
+    (f .before .before .match2 .keys2) (c .before .match3 .keys2))
 
 pub run-gauges-spec : {M : Type 1} → statement M
 run-gauges-spec =

@@ -1,0 +1,346 @@
+-- What the entries answer, for either side: a run call that makes no move refuses what 10, 11 and 15 refuse, and no other value
+-- (`refused-explained`); the question put to a value that passes (`Asked`), whose picks are numbers of rows (`numbers`); the answer that the
+-- search gives (`named-explained`), and the claim of R-6 beside it (`has-reasons`). Last, one answer (`explained-unique`), for every value
+-- (`explained-made`), and no two answers of the code read alike.
+use mathlib.Core.Path.{_≡_, refl, sym, ap, ap₂, _∙_, subst}
+use mathlib.Core.Logic.{⊎-elim, _↔_}
+use mathlib.Core.Bool.{Bool, true, false, cond}
+use mathlib.Core.List.{List, [], _∷_, _++_, map, List·Memᴰ, List·Memᴰ·cases-cons, List·Memᴰ·not-nil}
+use Prim.Native.Nat.{ℕ, zero, suc, _-_, _≤_, _<_}
+use native.Mathlib.Decide.{ℕ-discrete, decLe}
+use native.Mathlib.Omega.{arith}
+use lib.Dec.{T, not-T}
+use lib.ListN.{length, getD, take}
+use lib.Seq.{getD-take, length-take-le}
+use borrow.Author.Tests.{ne-eqb}
+use Rattle.sets.specs.Sets.{bit}
+use Rattle.sets.proofs.Tests.{is-true, is-false}
+use Rattle.table.specs.declared.Table.{Table}
+use Rattle.table.specs.Pairs.{row, Has}
+use Rattle.table.specs.Tables.{Legal, tableRefusal, padded}
+use Rattle.table.proofs.Legality.{legal-of}
+use Rattle.table.proofs.Padding.{pad-getD}
+use Rattle.refusals.specs.Answers.{Answer, answer, number}
+use Rattle.refusals.specs.declared.Refusal.{Refusal}
+use Rattle.refusals.specs.declared.Verdict.{Verdict}
+use Rattle.refusals.proofs.Answering.{number-pos, verdict-injective}
+use Rattle.rules.specs.Machine.{Phase, Down, Handed, Back, Ended, State, at}
+use Rattle.rules.specs.Calls.{Reply, refused, spent, handed, end, Call}
+use Rattle.rules.proofs.Calls.{within-by}
+use Rattle.lists.specs.Lists.{Side}
+use Rattle.lists.specs.OnTable.{handOut, ReachedOn}
+use Rattle.lists.proofs.Candidates.{LeafFrom, IsLeaf, leaf-from}
+use Rattle.lists.proofs.CandidateTree.{candidate-tree, reached-fits}
+use Rattle.conflicts.specs.Tests.{hasPair}
+use Rattle.conflicts.proofs.Testing.{has-test}
+use Rattle.conflicts.proofs.SamePairs.{table-pairs}
+use Rattle.essentials.specs.Answers.{pairRefusal}
+use Rattle.essentials.proofs.Answers.{pair-absent, pair-present}
+use Rattle.replay.proofs.Numbers.{length-numbers, getD-numbers}
+use Rattle.runs.specs.Paused.{Value, numbered as byNumber, paused}
+use Rattle.runs.specs.Calling.{Step, outcome, told, movesOf, PausedAt, Called}
+use Rattle.runs.specs.private.Working.{Works}
+use Rattle.runs.specs.declared.Outcome.{Outcome}
+use Rattle.runs.specs.declared.Outcome.the-variants.{HandedOut, Spent, End, Refused}
+use Rattle.runs.proofs.Padding.{take-padded}
+use Rattle.runs.proofs.Answered.{paused-state}
+use Rattle.explain.specs.declared.GaugeReason.{GaugeReason}
+use Rattle.explain.specs.declared.CaseReason.{CaseReason}
+use Rattle.explain.specs.Reasons.{Question, firstLacking, reasonRefusal, noPick, Explained, madeBefore, HasReasons, gaugeReason, caseReason}
+use Rattle.explain.specs.private.Asking.{isHanded, unasked, keptBy, Numbered, rowHas, foundIn}
+use Rattle.explain.proofs.Picks.{first-same, None, Found, search-before}
+use Rattle.explain.proofs.Reasoning.{Sees, place, none-kept, lacking-out, reasoned}
+
+stable : {P : Type 0} → Dec P → ((P → ⊥) → ⊥) → P
+stable (yes p) n = p
+stable (no p) n = absurd (n p)
+
+-- ---- tests
+-- the table's test of a pair, as the code asks it
+pub has-is : (s : List ℕ) (g c : ℕ) → (hasPair s g c ≡ true) ↔ Has s g c
+has-is s g c = (λ e. has-test s g c .0 (subst T (sym e) tt), λ h. is-true (hasPair s g c) (has-test s g c .1 h))
+
+has-not : (s : List ℕ) (g c : ℕ) → (Has s g c → ⊥) → hasPair s g c ≡ false
+has-not s g c n = is-false (hasPair s g c) (not-T (hasPair s g c) (λ t. n (has-test s g c .0 t)))
+
+-- two tests of one statement
+pub same-test : (P : Type 0) (a b : Bool) → (a ≡ true) ↔ P → (b ≡ true) ↔ P → a ≡ b
+same-test P true b f h = sym (h .1 (f .0 refl))
+same-test P false true f h = f .1 (h .0 refl)
+same-test P false false f h = refl
+
+-- ---- the number for the pair
+module _ (t : Table) (s : Side) (p : List ℕ) (g c : ℕ) where
+  reason-pair : pairRefusal t g c ≡ 0 → (b : Bool) → hasPair (handOut s p) g c ≡ b → reasonRefusal t s p g c ≡ cond b 22 0
+  unfolding reasonRefusal
+  reason-pair e b d = rw (e, d)
+
+  reason-absent : pairRefusal t g c ≡ 19 → reasonRefusal t s p g c ≡ 19
+  unfolding reasonRefusal
+  reason-absent e = rw e
+
+-- ---- picks that are left without a candidate are numbers of rows
+module _ (rows : List ℕ) where
+  leaf-at : (q p : List ℕ) → LeafFrom rows q p → (i : ℕ) → i < length p → getD p i 0 < length rows
+  leaf-at q [] l i b = absurd (omega arith)
+  leaf-at q (g ∷ p) l zero b = l .0 .below
+  leaf-at q (g ∷ p) l (suc i) b = leaf-at (q ++ (g ∷ [])) p (l .1) i (omega arith)
+
+  leaf-mem : (q p : List ℕ) → LeafFrom rows q p → (j : ℕ) → List·Memᴰ j p → j < length rows
+  leaf-mem q [] l j m = absurd (List·Memᴰ·not-nil m)
+  leaf-mem q (g ∷ p) l j m =
+      ⊎-elim (λ e. subst (λ (x : ℕ). x < length rows) (sym e) (l .0 .below)) (leaf-mem (q ++ (g ∷ [])) p (l .1) j) (List·Memᴰ·cases-cons m)
+
+-- ---- the answers as records
+kept-answer : (n m x w : ℕ) → n ≡ 22 → m ≡ 22 → x ≡ 0 → record { refusal = n; value = x } ≡ answer m w 0
+kept-answer n m x w a b d = rw (a, b, d)
+
+named-answer : (n m x w : ℕ) → n ≡ 0 → m ≡ 0 → w ≡ x → record { refusal = n; value = x } ≡ answer m w 0
+named-answer n m x w a b d = rw (a, b, d)
+
+-- ---- what a call that makes no move says
+-- it is not refused
+abbrev Unrefused : Step → Type 0
+Unrefused r = (n : ℕ) → r .answer ≡ refused n → ⊥
+
+unrefused-by : (r : Step) (a : Reply) → r .answer ≡ a → ((n : ℕ) → a ≡ refused n → ⊥) → Unrefused r
+unrefused-by r a d f n z = f n (sym d ∙ z)
+
+-- the question may be put: the value is not refused, its phase is Handed, and the pair is in the table
+pub record Asked (v : Value) (r : Step) (g c : ℕ) : Type 0 where
+  pub unrefused : (n : ℕ) → r .answer ≡ refused n → ⊥
+  pub handed : isHanded (v .phase) ≡ true
+  pub present : hasPair (v .table .rows) g c ≡ true
+
+-- the rows of a side, in the array that the core has them in
+pub works-row : (s : Side) (n : ℕ) (R : List ℕ) → Works s n R → (j : ℕ) → j < length (s .rows) → row R j ≡ row (s .rows) j
+works-row s n R w j l =
+    sym (getD-take n R j 0 (omega (arith, ap length (w .rows-are), length-take-le n R (omega (arith, w .sized .few, w .sized .size)))))
+    ∙ ap (λ (x : List ℕ). row x j) (w .rows-are)
+
+-- ---- a value of either side
+module _ (side : Table → Side) (v : Value) where
+  abbrev t : Table
+  t = v .table
+
+  abbrev Stands : List ℕ → Type 0
+  Stands p = PausedAt side v (at p Handed)
+
+  leaf-of : (p : List ℕ) → Stands p → IsLeaf (side t .rows) p
+  leaf-of p h = reached-fits (side t) (at p Handed) .0 (h .reached)
+
+  picks-are : (p : List ℕ) → Stands p → v .picks ≡ padded (map suc p)
+  picks-are p h = ap (λ (y : Value). y .picks) (h .stands)
+
+  count-is : (p : List ℕ) → Stands p → v .count ≡ length p
+  count-is p h = ap (λ (y : Value). y .count) (h .stands)
+
+  taken : (p : List ℕ) → Stands p → take (v .count) (v .picks) ≡ map suc p
+  taken p h = ap (take (v .count)) (picks-are p h) ∙ take-padded (map suc p) (v .count) (count-is p h ∙ sym (length-numbers p))
+
+  number-at : (p : List ℕ) → Stands p → (i : ℕ) → i < v .count → getD (v .picks) i 0 ≡ suc (getD p i 0)
+  number-at p h i l =
+      ap (λ (x : List ℕ). getD x i 0) (picks-are p h) ∙ pad-getD (map suc p) i ∙ getD-numbers p i (omega (arith, count-is p h))
+
+  -- ---- a call that makes no move
+  module _ (r : Step) (called : Called side v 0 r) where
+    spent-at : tableRefusal t ≡ 0 → (s : State) → PausedAt side v s → r .answer ≡ spent
+    spent-at z s p =
+        ap (λ (x : Step). x .answer) (called .rules z s p)
+        ∙ ap (λ (x : Call). told t (side t) (v .omit) x .answer) (within-by (movesOf t (side t) (v .omit)) (handOut (side t)) 0 s (omega arith))
+
+    passes : Unrefused r → tableRefusal t ≡ 0
+    passes o = go (ℕ-discrete (tableRefusal t) 0)
+      where
+        go : Dec (tableRefusal t ≡ 0) → tableRefusal t ≡ 0
+        go (yes e) = e
+        go (no e) = absurd (o (tableRefusal t) (ap (λ (x : Step). x .answer) (called .table (omega arith))))
+
+    by-number : (n m : ℕ) → r .answer ≡ refused n → r .answer ≡ refused m → n ≡ m
+    by-number n m a b = cc
+
+    never-both : (n : ℕ) {P : Type 0} → r .answer ≡ refused n → r .answer ≡ spent → P
+    never-both n a b = let z : _≡_ {A = ℕ} 0 1 = cc in absurd (omega arith)
+
+    -- of a value that is not refused, in the phase Handed, there is a state: it cannot be that there is none
+    handed-some : Unrefused r → isHanded (v .phase) ≡ true → ((p : List ℕ) → Stands p → ⊥) → ⊥
+    handed-some o e none = o 15 (ap (λ (x : Step). x .answer) (called .value (passes o) (λ s h. at-phase (s .phase) (s .picks) h)))
+      where
+        no-phase : (f : Phase) → v .phase ≡ byNumber f → isHanded (byNumber f) ≡ false → ⊥
+        no-phase f d w = let b : true ≡ false = sym e ∙ ap isHanded d ∙ w in let z : _≡_ {A = ℕ} 0 1 = cc in omega arith
+
+        at-phase : (f : Phase) (p : List ℕ) → PausedAt side v (at p f) → ⊥
+        at-phase Down p h = no-phase Down (ap (λ (y : Value). y .phase) (h .stands)) refl
+        at-phase Handed p h = none p h
+        at-phase (Back k) p h = no-phase (Back k) (ap (λ (y : Value). y .phase) (h .stands)) refl
+        at-phase Ended p h = no-phase Ended (ap (λ (y : Value). y .phase) (h .stands)) refl
+
+    module _ (g c : ℕ) (size : length (t .rows) ≡ 64) where
+      -- ---- refusals
+      module _ (question : Table → ℕ → ℕ → Question) where
+        call-refused : (n : ℕ) → r .answer ≡ refused n → Explained side question v g c (noPick n)
+        call-refused n e = record {
+          table = λ l. ap noPick (by-number n (tableRefusal t) e (ap (λ (x : Step). x .answer) (called .table l)));
+          value = λ z none. ap noPick (by-number n 15 e (ap (λ (x : Step). x .answer) (called .value z (λ s p. never-both n e (spent-at z s p)))));
+          pick = λ z p h. never-both n e (spent-at z (at p Handed) h);
+        }
+
+        unasked-refused : Unrefused r → (n : ℕ) → 0 < n → n ≡ cond (isHanded (v .phase)) (cond (hasPair (t .rows) g c) 0 19) 15
+            → Explained side question v g c (noPick n)
+        unasked-refused o n l e = by-phase (isHanded (v .phase)) refl (hasPair (t .rows) g c) refl
+          where
+            by-phase : (h : Bool) → isHanded (v .phase) ≡ h → (b : Bool) → hasPair (t .rows) g c ≡ b → Explained side question v g c (noPick n)
+            by-phase false w b d =
+                let n15 : n ≡ 15 = e ∙ ap (λ (x : Bool). cond x (cond (hasPair (t .rows) g c) 0 19) 15) w in record {
+                  table = λ y. absurd (omega (arith, passes o));
+                  value = λ z none. ap noPick n15;
+                  pick = λ z p h. let y : true ≡ false = sym (ap (λ (x : Value). isHanded (x .phase)) (h .stands)) ∙ w in
+                      let q : _≡_ {A = ℕ} 0 1 = cc in absurd (omega arith);
+                }
+            by-phase true w false d =
+                let n19 : n ≡ 19 = e ∙ ap₂ (λ (x y : Bool). cond x (cond y 0 19) 15) w d in record {
+                  table = λ y. absurd (omega (arith, passes o));
+                  value = λ z none. absurd (handed-some o w none);
+                  pick = λ z p h. rw (n19, reason-absent t (side t) p g c (sym (pair-absent t g c size z (hasPair (t .rows) g c) (has-is (t .rows) g c) d)));
+                }
+            by-phase true w true d = let n0 : n ≡ 0 = e ∙ ap₂ (λ (x y : Bool). cond x (cond y 0 19) 15) w d in absurd (omega arith)
+
+        -- any refusal of the checks, after a call whose outcome is o
+        pub refused-explained : (o : Outcome) (w : List ℕ) → r .answer ≡ outcome o w → (k : Bool) → k ≡ isHanded (v .phase) → (x : Refusal)
+            → number x ≡ unasked o k (hasPair (t .rows) g c) → Explained side question v g c (noPick (number x))
+        refused-explained o w says k phase x e = go o says (e ∙ ap (λ (z : Bool). unasked o z (hasPair (t .rows) g c)) phase)
+          where
+            go : (y : Outcome) → r .answer ≡ outcome y w → number x ≡ unasked y (isHanded (v .phase)) (hasPair (t .rows) g c)
+                → Explained side question v g c (noPick (number x))
+            go HandedOut d z = unasked-refused (unrefused-by r (handed w) d (λ n y. let q : _≡_ {A = ℕ} 0 1 = cc in omega arith)) (number x) (number-pos x) z
+            go Spent d z = unasked-refused (unrefused-by r spent d (λ n y. let q : _≡_ {A = ℕ} 0 1 = cc in omega arith)) (number x) (number-pos x) z
+            go End d z = unasked-refused (unrefused-by r end d (λ n y. let q : _≡_ {A = ℕ} 0 1 = cc in omega arith)) (number x) (number-pos x) z
+            go (Refused y) d z = call-refused (number x) (d ∙ ap refused (sym z))
+
+      -- ---- a value that passes
+      pub asked : (o : Outcome) (w : List ℕ) → r .answer ≡ outcome o w → (k : Bool) → k ≡ isHanded (v .phase)
+          → unasked o k (hasPair (t .rows) g c) ≡ 0 → Asked v r g c
+      asked o w says k phase e = go o says (sym (ap (λ (z : Bool). unasked o z (hasPair (t .rows) g c)) phase) ∙ e)
+        where
+          both : (h b : Bool) → _≡_ {A = ℕ} (cond h (cond b 0 19) 15) 0 → (h ≡ true) × (b ≡ true)
+          both true true z = (refl, refl)
+          both true false z = absurd (omega arith)
+          both false b z = absurd (omega arith)
+
+          facts : (a : Reply) → r .answer ≡ a → ((n : ℕ) → a ≡ refused n → ⊥)
+              → _≡_ {A = ℕ} (cond (isHanded (v .phase)) (cond (hasPair (t .rows) g c) 0 19) 15) 0 → Asked v r g c
+          facts a d f z = let m = both (isHanded (v .phase)) (hasPair (t .rows) g c) z in
+              record { unrefused = unrefused-by r a d f; handed = m .0; present = m .1 }
+
+          go : (y : Outcome) → r .answer ≡ outcome y w → unasked y (isHanded (v .phase)) (hasPair (t .rows) g c) ≡ 0 → Asked v r g c
+          go HandedOut d z = facts (handed w) d (λ n y. let q : _≡_ {A = ℕ} 0 1 = cc in omega arith) z
+          go Spent d z = facts spent d (λ n y. let q : _≡_ {A = ℕ} 0 1 = cc in omega arith) z
+          go End d z = facts end d (λ n y. let q : _≡_ {A = ℕ} 0 1 = cc in omega arith) z
+          go (Refused y) d z = absurd (omega (arith, number-pos y))
+
+      module _ (a : Asked v r g c) where
+        pub legal : Legal t
+        legal = legal-of t size (passes (a .unrefused))
+
+        pub pair : Has (t .rows) g c
+        pair = has-is (t .rows) g c .0 (a .present)
+
+        -- the picks are numbers of the side's rows: what is false of every state is false
+        pub numbers : length (v .picks) ≡ 64 → length (side t .rows) ≤ 64 → Numbered (v .picks) (v .count)
+        numbers wide few = record {
+          size = wide;
+          few = stable (decLe (v .count) 64) (λ n. some (λ p h. n (omega (arith, count-is p h, candidate-tree (side t .rows) .depth p (leaf-of p h .0)))));
+          low = λ i l. stable (decLe 1 (getD (v .picks) i 0)) (λ n. some (λ p h. n (omega (arith, number-at p h i l))));
+          high = λ i l. stable (decLe (getD (v .picks) i 0) 64) (λ n. some (λ p h. n
+              (omega (arith, number-at p h i l, leaf-at (side t .rows) [] p (leaf-from (side t .rows) p (leaf-of p h)) i (omega (arith, count-is p h))))));
+        }
+          where
+            some : ((p : List ℕ) → Stands p → ⊥) → ⊥
+            some = handed-some (a .unrefused) (a .handed)
+
+        -- the pick that the search found on the side's rows, which stand in the array R
+        module _ (question : Table → ℕ → ℕ → Question) (other : ℕ) (sees : Sees t (side t) (question t g c) g c other) (R : List ℕ)
+            (rows-are : (j : ℕ) → j < length (side t .rows) → row R j ≡ row (side t .rows) j) (x : ℕ)
+            (is : x ≡ foundIn R (other - 1) (v .picks) (v .count) (question t g c .own)) where
+          abbrev q : Question
+          q = question t g c
+
+          x-is : (p : List ℕ) → Stands p → x ≡ firstLacking (q .meets) (madeBefore (q .own) (map suc p))
+          x-is p h =
+              is ∙ ap (λ (y : List ℕ). firstLacking (rowHas R (other - 1)) (madeBefore (q .own) y)) (taken p h)
+              ∙ first-same (rowHas R (other - 1)) (q .meets) (q .own) p
+              (λ j m. agree j (leaf-mem (side t .rows) [] p (leaf-from (side t .rows) p (leaf-of p h)) j m))
+            where
+              agree : (j : ℕ) → j < length (side t .rows) → rowHas R (other - 1) (suc j) ≡ q .meets (suc j)
+              agree j l =
+                  ap (λ (y : ℕ). bit (row R y) (other - 1)) (place j) ∙ ap (λ (y : ℕ). bit y (other - 1)) (rows-are j l) ∙ sym (sees .agrees j l)
+
+          pub named-explained : (n : ℕ) → n ≡ keptBy x → Explained side question v g c (record { refusal = n; value = x })
+          named-explained n e = record {
+            table = λ l. absurd (omega (arith, passes (a .unrefused)));
+            value = λ z none. absurd (handed-some (a .unrefused) (a .handed) none);
+            pick = λ z p h. ⊎-elim (kept z p h) (λ f. found z p h (f .0) (f .1)) (search-before (q .meets) (q .own) p);
+          }
+            where
+              free : tableRefusal t ≡ 0 → pairRefusal t g c ≡ 0
+              free z = sym (pair-present t g c size z (hasPair (t .rows) g c) (has-is (t .rows) g c) (a .present))
+
+              kept : tableRefusal t ≡ 0 → (p : List ℕ) → Stands p → None (q .meets) (q .own) (map suc p)
+                  → record { refusal = n; value = x } ≡ answer (reasonRefusal t (side t) p g c) (firstLacking (q .meets) (map suc p)) 0
+              kept z p h f =
+                  let x0 : x ≡ 0 = x-is p h ∙ f .blank in
+                  kept-answer n (reasonRefusal t (side t) p g c) x (firstLacking (q .meets) (map suc p)) (e ∙ ap keptBy x0)
+                  (reason-pair t (side t) p g c (free z) true (has-is (handOut (side t) p) g c .1
+                  (none-kept t (side t) q g c other p (leaf-of p h) sees f (table-pairs t legal g c .0 pair)))) x0
+
+              found : tableRefusal t ≡ 0 → (p : List ℕ) → Stands p → (y : ℕ) → Found (q .meets) (q .own) (map suc p) y
+                  → record { refusal = n; value = x } ≡ answer (reasonRefusal t (side t) p g c) (firstLacking (q .meets) (map suc p)) 0
+              found z p h y f =
+                  let xy : x ≡ y = x-is p h ∙ f .front in
+                  let pos : ¬ (x ≡ 0) = λ d. omega (arith, f .positive) in
+                  named-answer n (reasonRefusal t (side t) p g c) x (firstLacking (q .meets) (map suc p))
+                  (e ∙ ap (λ (b : Bool). cond b 22 0) (ne-eqb x 0 pos))
+                  (reason-pair t (side t) p g c (free z) false (has-not (handOut (side t) p) g c
+                  (lacking-out t (side t) q g c other p (leaf-of p h) sees y (f .among) (f .first .lacks)))) (f .whole ∙ sym xy)
+
+  -- ---- the claim of R-6, of the value's ladder
+  pub has-reasons : (question : Table → ℕ → ℕ → Question) (other : ℕ → ℕ → ℕ)
+      → (Legal t → (g c : ℕ) → 1 ≤ g → 1 ≤ c → Sees t (side t) (question t g c) g c (other g c)) → length (t .rows) ≡ 64 → HasReasons side question v
+  has-reasons question other sees size z p h g c = reasoned t (side t) (question t g c) g c (other g c) p (leaf-of p h) (sees (legal-of t size z) g c)
+
+-- ---- one answer, for every value
+pub explained-unique : (side : Table → Side) (question : Table → ℕ → ℕ → Question) (v : Value) (g c : ℕ) (a b : Answer ℕ) → Explained side question v g c a
+    → Explained side question v g c b → a ≡ b
+explained-unique side question v g c a b x y =
+    ap₂ (λ (n m : ℕ). record { refusal = n; value = m }) (settle (λ z. z .refusal)) (settle (λ z. z .value))
+  where
+    same : ¬ (a ≡ b) → Dec (tableRefusal (v .table) ≡ 0) → ⊥
+    same n (no z) = n (x .table (omega (arith, z)) ∙ sym (y .table (omega (arith, z))))
+    same n (yes z) =
+        let none : (p : List ℕ) → PausedAt side v (at p Handed) → ⊥ = λ p h. n (x .pick z p h ∙ sym (y .pick z p h)) in
+        n (x .value z none ∙ sym (y .value z none))
+
+    settle : (f : Answer ℕ → ℕ) → f a ≡ f b
+    settle f = stable (ℕ-discrete (f a) (f b)) (λ n. same (λ e. n (ap f e)) (ℕ-discrete (tableRefusal (v .table)) 0))
+
+pub explained-made : (side : Table → Side) (question : Table → ℕ → ℕ → Question) (t : Table) (omit : Bool) (p : List ℕ) (g c : ℕ) → tableRefusal t ≡ 0
+    → ReachedOn (side t) (at p Handed)
+    → Explained side question (paused t omit (at p Handed)) g c
+    (answer (reasonRefusal t (side t) p g c) (firstLacking (question t g c .meets) (map suc p)) 0)
+explained-made side question t omit p g c ok h = record {
+  table = λ l. absurd (omega arith);
+  value = λ z none. absurd (none p (record { reached = h; stands = refl }));
+  pick = λ z k w. ap (λ (s : State). answer (reasonRefusal t (side t) (s .picks) g c) (firstLacking (question t g c .meets) (map suc (s .picks))) 0)
+      (paused-state t omit (at p Handed) (at k Handed) (w .stands));
+}
+
+-- ---- no two answers of the code read alike
+pub gauge-reason-injective : (x y : GaugeReason) → gaugeReason x ≡ gaugeReason y → x ≡ y
+gauge-reason-injective x y e =
+    ap₂ (λ (v : Verdict) (n : ℕ). record { verdict = v; pick = record { 0 = n } })
+    (verdict-injective (x .verdict) (y .verdict) (ap (λ (a : Answer ℕ). a .refusal) e)) (ap (λ (a : Answer ℕ). a .value) e)
+
+pub case-reason-injective : (x y : CaseReason) → caseReason x ≡ caseReason y → x ≡ y
+case-reason-injective x y e =
+    ap₂ (λ (v : Verdict) (n : ℕ). record { verdict = v; pick = record { 0 = n } })
+    (verdict-injective (x .verdict) (y .verdict) (ap (λ (a : Answer ℕ). a .refusal) e)) (ap (λ (a : Answer ℕ). a .value) e)

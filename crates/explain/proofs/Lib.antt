@@ -1,0 +1,5 @@
+-- Laws that belong to no one function: the search among the picks, the code's checks and loop, the claim of R-6, and what the entries answer.
+pub mod Picks
+pub mod Searching
+pub mod Reasoning
+pub mod Answers

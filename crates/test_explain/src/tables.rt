@@ -1,0 +1,87 @@
+// All tables of a shape, and some of a larger one, each asked about by both runs.
+use super::asked;
+use super::tally;
+use super::tally::Tally;
+use table::Table;
+
+const SEED: u64 = 88172645463325252;
+
+// Every table of a shape of at most 12 pairs.
+pub fn shape(t: Tally, gauges: u64, cases: u64) -> Tally {
+    let all = full(gauges, cases);
+    let mut after = t;
+    let mut set: u64 = 0;
+    let mut turns: u64 = 0;
+    while turns < 4096 {
+        after = one(after, gauges, cases, set);
+        set = std::num::wrapping_sub_u64(set, all) & all;
+        if set == 0 {
+            return after;
+        }
+        turns += 1;
+    }
+    after
+}
+
+// The full table of a shape, and at each draw of a shift register, the same at every run, two others, the second denser.
+pub fn sample(t: Tally, gauges: u64, cases: u64, draws: u64) -> Tally {
+    let all = full(gauges, cases);
+    let mut after = one(t, gauges, cases, all);
+    let mut x: u64 = SEED;
+    let mut i: u64 = 0;
+    while i < draws {
+        x = shifted(shifted(x));
+        after = one(after, gauges, cases, all & x);
+        after = one(after, gauges, cases, all & (x | shifted(x)));
+        i += 1;
+    }
+    after
+}
+
+fn shifted(x: u64) -> u64 {
+    let a = x ^ (x << 13);
+    let b = a ^ (a >> 7);
+    b ^ (b << 17)
+}
+
+// One table, whose pairs are `set`.
+fn one(t: Tally, gauges: u64, cases: u64, set: u64) -> Tally {
+    let table = Table {
+        gauges: gauges,
+        cases: cases,
+        rows: rows_of(set),
+    };
+    let after = asked::gauges(tally::about(t, set), table, set);
+    asked::cases(after, table, set)
+}
+
+// The 64 rows of a set of pairs.
+pub fn rows_of(set: u64) -> [u64; 64] {
+    let mut rows = [0u64; 64];
+    let mut i: usize = 0;
+    while i < 8 {
+        rows[i] = (set >> (8 * i)) % 256;
+        i += 1;
+    }
+    rows
+}
+
+// All pairs of a shape.
+fn full(gauges: u64, cases: u64) -> u64 {
+    let mut all: u64 = 0;
+    let mut i: u64 = 0;
+    while i < 8 {
+        if i < gauges {
+            all = all | (row(cases) << (8 * i));
+        }
+        i += 1;
+    }
+    all
+}
+
+fn row(cases: u64) -> u64 {
+    if 8 <= cases {
+        return 255;
+    }
+    std::num::wrapping_sub_u64(1u64 << cases, 1)
+}
