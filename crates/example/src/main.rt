@@ -1,9 +1,10 @@
-// The library by example: a file is read, its ladders are counted and listed with a budget of moves, the first says why it lacks a pair, a chain
-// is judged and grown, a table is made from rows and listed by cases, and one without the ladders that calibration never needs. Every answer
-// is looked at before its values are used.
+// The library by example: a file is read, its ladders are counted and listed with a budget of moves, the first says why it lacks a pair, the
+// fewest that hold every pair are found, a chain is judged and grown, a table is made from rows and listed by cases, and one without the ladders
+// that calibration never needs. Every answer is looked at before its values are used.
 use count::Count;
 use judge::Judgement;
 use libc::STDOUT_FILENO;
+use mechanisms::CoverOutcome;
 use refusals::Refusal;
 use refusals::Verdict;
 use runs::Outcome;
@@ -28,6 +29,7 @@ fn main() {
             count_them(t);
             list(t, false);
             left_out(t);
+            cover(t);
             grow(t);
             by_cases();
             needed();
@@ -110,6 +112,22 @@ fn left_out(t: Table) {
 
 fn wide(number: u8) -> u64 {
     number as u64
+}
+
+// Says how few ladders hold every pair of a table of up to 8 by 8: the search tries at most 1,000 here. The ladders stand in `found.cover`.
+fn cover(t: Table) {
+    let found = mechanisms::fewest_ladders(t, 1_000);
+    let outcome = found.outcome;
+    match outcome {
+        CoverOutcome::Covered => {
+            io::print_decimal(STDOUT_FILENO, found.number);
+            say(b" ladders hold every pair, ");
+            io::print_decimal(STDOUT_FILENO, found.tried);
+            say(b" tried\n");
+        }
+        CoverOutcome::Spent => say(b"more than 1,000 to try\n"),
+        CoverOutcome::Refused(why) => refused(why),
+    }
 }
 
 // Judges the set of the one pair 3:2, and grows it to the first ladder that holds it.

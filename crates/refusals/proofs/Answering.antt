@@ -36,6 +36,8 @@ use Rattle.refusals.specs.declared.Refusal.the-variants.{
   ReadingRange,
   CutoffRange,
   PairInChain,
+  CoverShape,
+  TooManyChains,
 }
 use Rattle.refusals.specs.declared.Verdict.{Verdict}
 use Rattle.refusals.specs.declared.Verdict.the-variants.{Accepted, Refused}
@@ -46,7 +48,7 @@ named n =
     getD
     (FileTooLong ∷ NotTheBanner ∷ LineTooLong ∷ SizeFields ∷ SizeRange ∷ PairFields ∷ PairRange ∷ PairRepeated ∷ PairCount
     ∷ TableShape ∷ TableRows ∷ ChainCount ∷ ChainPairs ∷ NotAChain ∷ NotReached ∷ BufferTooShort ∷ NoSuchComment ∷ BudgetTooLarge
-    ∷ PairAbsent ∷ ReadingRange ∷ CutoffRange ∷ PairInChain ∷ [])
+    ∷ PairAbsent ∷ ReadingRange ∷ CutoffRange ∷ PairInChain ∷ CoverShape ∷ TooManyChains ∷ [])
     (n - 1) FileTooLong
 
 pub named-number : (x : Refusal) → named (number x) ≡ x
@@ -73,6 +75,8 @@ named-number PairAbsent = refl
 named-number ReadingRange = refl
 named-number CutoffRange = refl
 named-number PairInChain = refl
+named-number CoverShape = refl
+named-number TooManyChains = refl
 
 pub number-injective : (x y : Refusal) → number x ≡ number y → x ≡ y
 number-injective x y e = sym (named-number x) ∙ ap named e ∙ named-number y

@@ -27,6 +27,8 @@ use Rattle.refusals.specs.declared.Refusal.the-variants.{
   ReadingRange,
   CutoffRange,
   PairInChain,
+  CoverShape,
+  TooManyChains,
 }
 use Rattle.refusals.specs.declared.Verdict.{Verdict}
 use Rattle.refusals.specs.declared.Verdict.the-variants.{Accepted, Refused}
@@ -58,6 +60,9 @@ number ReadingRange = 20
 number CutoffRange = 21
 -- 02, R-6: "the pair is in the ladder"
 number PairInChain = 22
+-- 02, R-7: "G or L above 8"; "more than 1,024 ladders"
+number CoverShape = 23
+number TooManyChains = 24
 
 -- an answer: 01's number, 0 where nothing is refused, and the value
 pub record Answer (A : Type 0) : Type 0 where

@@ -28,6 +28,8 @@ pub enum Refusal {
     ReadingRange,
     CutoffRange,
     PairInChain,
+    CoverShape,
+    TooManyChains,
 }
 
 // Whether a check passed, and if not, which refusal it was.
@@ -63,5 +65,7 @@ pub fn refusal_number(why: Refusal) -> u64
         Refusal::ReadingRange => 20,
         Refusal::CutoffRange => 21,
         Refusal::PairInChain => 22,
+        Refusal::CoverShape => 23,
+        Refusal::TooManyChains => 24,
     }
 }

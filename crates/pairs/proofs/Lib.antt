@@ -1,0 +1,2 @@
+-- Laws of the list of a set's pairs.
+pub mod Pairs

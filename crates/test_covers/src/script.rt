@@ -1,0 +1,69 @@
+// The parts of the cases on standard input: bytes, parts and numbers. Every place may be asked for: past the end there is a zero byte and an
+// empty number.
+
+// The byte at a place; zero past the end.
+pub fn byte(s: &[u8], at: usize) -> u8 {
+    if at < s.len() {
+        return s[at];
+    }
+    0
+}
+
+// The place behind a place.
+pub fn after(at: usize) -> usize {
+    std::num::wrapping_add_usize(at, 1)
+}
+
+// Where a byte stands first from a place on; the end where it does not.
+pub fn find(s: &[u8], from: usize, wanted: u8) -> usize {
+    let mut i = from;
+    while i < s.len() {
+        if s[i] == wanted {
+            return i;
+        }
+        i += 1;
+    }
+    s.len()
+}
+
+// The bytes from a place up to another; all where there is no such part.
+pub fn part(s: &[u8], from: usize, to: usize) -> &[u8] {
+    if s.len() < to {
+        return s;
+    }
+    if to < from {
+        return s;
+    }
+    &s[from..to]
+}
+
+// The decimal number that starts at a place, modulo 2^64.
+pub fn number(s: &[u8], from: usize) -> u64 {
+    let mut n: u64 = 0;
+    let mut i = from;
+    while i < s.len() {
+        let d = digit(s[i]);
+        if 9 < d {
+            return n;
+        }
+        n = plus(plus(n << 3, n << 1), d);
+        i += 1;
+    }
+    n
+}
+
+// The value of a digit; 10 where the byte is none.
+pub fn digit(b: u8) -> u64 {
+    match b {
+        b'0'..=b'9' => wide(b - b'0'),
+        _ => 10,
+    }
+}
+
+pub fn wide(b: u8) -> u64 {
+    b as u64
+}
+
+pub fn plus(a: u64, b: u64) -> u64 {
+    std::num::wrapping_add_u64(a, b)
+}
