@@ -42,6 +42,10 @@ module _ (r : List ℕ) where
         (grown x, Memᴰ·map grown m, grown-first x (h .chains x m) .contains .inside g c q);
   }
 
+  -- maximal chains are chains
+  pub cover-chains : (xs : List (List ℕ)) → Cover r xs → ChainCover r xs
+  cover-chains xs h = record { chains = λ x m. let k = h .maximal x m in record { within = k .within; chain = k .chain }; together = h .together }
+
   -- R-7: "no cover by any chains, ladders or not, is smaller"
   pub none-smaller : (k : ℕ) → LeastNumber r k → (xs : List (List ℕ)) → ChainCover r xs → k ≤ length xs
   none-smaller k l xs h = subst (λ (n : ℕ). k ≤ n) (length-map xs grown) (l .least (map grown xs) (cover-grown xs h))

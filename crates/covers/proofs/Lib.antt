@@ -5,3 +5,4 @@ pub mod Covers
 pub mod Sides
 pub mod Fewest
 pub mod Samples
+pub mod Replacing
