@@ -1,6 +1,6 @@
 // The library by example: a file is read, its ladders are counted and listed with a budget of moves, the first says why it lacks a pair, the
-// fewest that hold every pair are found, a chain is judged and grown, a table is made from rows and listed by cases, and one without the ladders
-// that calibration never needs. Every answer is looked at before its values are used.
+// fewest that hold every pair are found, a chain is judged, grown and wired pair by pair, a table is made from rows and listed by cases, and one
+// without the ladders that calibration never needs. Every answer is looked at before its values are used.
 use count::Count;
 use judge::Judgement;
 use libc::STDOUT_FILENO;
@@ -12,6 +12,7 @@ use table::Case;
 use table::Chain;
 use table::Gauge;
 use table::Table;
+use wiring::Ordered;
 use writer::Written;
 
 fn main() {
@@ -130,7 +131,7 @@ fn cover(t: Table) {
     }
 }
 
-// Judges the set of the one pair 3:2, and grows it to the first ladder that holds it.
+// Judges the set of the one pair 3:2, grows it to the first ladder that holds it, and says how to wire the rest.
 fn grow(t: Table) {
     let mut rows = [0u64; 64];
     rows[2] = 0b010;
@@ -148,8 +149,28 @@ fn grow(t: Table) {
     let verdict = grown.verdict;
     let ladder = grown.chain;
     match verdict {
-        Verdict::Accepted => show(ladder, t.cases),
+        Verdict::Accepted => {
+            show(ladder, t.cases);
+            wire(t, chain, ladder);
+        }
         Verdict::Refused(why) => refused(why),
+    }
+}
+
+// Says how many pairs a crew has to wire from a chain to a ladder, and which comes first; two bytes a pair, gauge then case.
+fn wire(t: Table, chain: Chain, ladder: Chain) {
+    let mut order = [0u8; 18];
+    let ordered = wiring::write_order(t, chain, ladder, &mut order);
+    match ordered {
+        Ordered::Pairs(n) => {
+            io::print_decimal(STDOUT_FILENO, n as u64);
+            say(b" pairs to wire, the first ");
+            io::print_decimal(STDOUT_FILENO, wide(order[0]));
+            say(b":");
+            io::print_decimal(STDOUT_FILENO, wide(order[1]));
+            say(b"\n");
+        }
+        Ordered::Refused(why) => refused(why),
     }
 }
 

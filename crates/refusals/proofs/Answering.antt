@@ -38,6 +38,7 @@ use Rattle.refusals.specs.declared.Refusal.the-variants.{
   PairInChain,
   CoverShape,
   TooManyChains,
+  NotMaximal,
 }
 use Rattle.refusals.specs.declared.Verdict.{Verdict}
 use Rattle.refusals.specs.declared.Verdict.the-variants.{Accepted, Refused}
@@ -48,7 +49,7 @@ named n =
     getD
     (FileTooLong ∷ NotTheBanner ∷ LineTooLong ∷ SizeFields ∷ SizeRange ∷ PairFields ∷ PairRange ∷ PairRepeated ∷ PairCount
     ∷ TableShape ∷ TableRows ∷ ChainCount ∷ ChainPairs ∷ NotAChain ∷ NotReached ∷ BufferTooShort ∷ NoSuchComment ∷ BudgetTooLarge
-    ∷ PairAbsent ∷ ReadingRange ∷ CutoffRange ∷ PairInChain ∷ CoverShape ∷ TooManyChains ∷ [])
+    ∷ PairAbsent ∷ ReadingRange ∷ CutoffRange ∷ PairInChain ∷ CoverShape ∷ TooManyChains ∷ NotMaximal ∷ [])
     (n - 1) FileTooLong
 
 pub named-number : (x : Refusal) → named (number x) ≡ x
@@ -77,6 +78,7 @@ named-number CutoffRange = refl
 named-number PairInChain = refl
 named-number CoverShape = refl
 named-number TooManyChains = refl
+named-number NotMaximal = refl
 
 pub number-injective : (x y : Refusal) → number x ≡ number y → x ≡ y
 number-injective x y e = sym (named-number x) ∙ ap named e ∙ named-number y

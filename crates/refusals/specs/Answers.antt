@@ -29,6 +29,7 @@ use Rattle.refusals.specs.declared.Refusal.the-variants.{
   PairInChain,
   CoverShape,
   TooManyChains,
+  NotMaximal,
 }
 use Rattle.refusals.specs.declared.Verdict.{Verdict}
 use Rattle.refusals.specs.declared.Verdict.the-variants.{Accepted, Refused}
@@ -63,6 +64,8 @@ number PairInChain = 22
 -- 02, R-7: "G or L above 8"; "more than 1,024 ladders"
 number CoverShape = 23
 number TooManyChains = 24
+-- 02, R-9: "the second is no ladder or lacks a pair of the first"
+number NotMaximal = 25
 
 -- an answer: 01's number, 0 where nothing is refused, and the value
 pub record Answer (A : Type 0) : Type 0 where

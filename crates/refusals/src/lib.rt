@@ -30,6 +30,7 @@ pub enum Refusal {
     PairInChain,
     CoverShape,
     TooManyChains,
+    NotMaximal,
 }
 
 // Whether a check passed, and if not, which refusal it was.
@@ -67,5 +68,6 @@ pub fn refusal_number(why: Refusal) -> u64
         Refusal::PairInChain => 22,
         Refusal::CoverShape => 23,
         Refusal::TooManyChains => 24,
+        Refusal::NotMaximal => 25,
     }
 }

@@ -1,0 +1,18 @@
+-- `test_orders::refused::firsts` is safe and ends: the measure is what its loop still has to go through.
+use Prim.Native.Nat.{_-_}
+use native.Mathlib.Omega.{arith}
+use Rattle.test_orders.proofs.refused.firsts.Statement.{statement}
+use Rattle.test_orders.proofs.refused.firsts.Tie as tie
+
+pub firsts-spec : {M : Type 1} → statement M
+firsts-spec =
+    tie.close
+    (tie.spec
+    (λ chains all now₀ s₀ now s. Unit {0})
+    (λ chains all now₀ s₀ now s. 512 - s)
+    (λ c. tt)
+    (λ c κs. tt)
+    (λ c. omega arith)
+    (λ c. omega arith)
+    (λ c. tt)
+    (λ c. tt))
