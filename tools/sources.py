@@ -38,15 +38,23 @@ def files(crate, folder, ending):
     return sorted(found)
 
 
-def public_sources(crate):
-    """The source files whose public functions other crates can call: the root, and the modules that it declares `pub`."""
-    found, todo = [], [os.path.join(ROOT, "crates", crate, "src", "lib.rt")]
+def public_parts(crate):
+    """(file, names) of what other crates can call: the root and the modules that it declares `pub`, with None for all their public names, and
+    the modules that a file above gives names of on by `pub use`, with these names."""
+    found, todo = [], [(os.path.join(ROOT, "crates", crate, "src", "lib.rt"), None)]
     while todo:
-        path = todo.pop()
-        found.append(path)
-        for name in re.findall(r"^pub mod (\w+);", read(path), re.M):
-            todo.append(os.path.join(os.path.dirname(path), name + ".rt"))
-    return sorted(found)
+        path, names = todo.pop()
+        found.append((path, names))
+        text, beside = read(path), os.path.dirname(path)
+        for name in re.findall(r"^pub mod (\w+);", text, re.M):
+            todo.append((os.path.join(beside, name + ".rt"), None))
+        given = {}
+        for module, name in re.findall(r"^pub use (\w+)::(\w+);", text, re.M):
+            given.setdefault(module, set()).add(name)
+        for module, inner in given.items():
+            if os.path.exists(os.path.join(beside, module + ".rt")):
+                todo.append((os.path.join(beside, module + ".rt"), inner))
+    return found
 
 
 def read(path):
