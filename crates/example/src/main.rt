@@ -1,6 +1,7 @@
 // The library by example: a file is read, its ladders are counted and listed with a budget of moves, the first says why it lacks a pair, the
-// fewest that hold every pair are found, a chain is judged, grown and wired pair by pair, a table is made from rows and listed by cases, and one
-// without the ladders that calibration never needs. Every answer is looked at before its values are used.
+// fewest that hold every pair are found, a chain is judged, grown and wired pair by pair, the flip of one entry is tried and committed, a table is
+// made from rows and listed by cases, and one without the ladders that calibration never needs. Every answer is looked at before its values
+// are used.
 use count::Count;
 use judge::Judgement;
 use libc::STDOUT_FILENO;
@@ -12,6 +13,7 @@ use table::Case;
 use table::Chain;
 use table::Gauge;
 use table::Table;
+use trials::Effect;
 use wiring::Ordered;
 use writer::Written;
 
@@ -32,6 +34,7 @@ fn main() {
             left_out(t);
             cover(t);
             grow(t);
+            flip(t);
             by_cases();
             needed();
         }
@@ -171,6 +174,42 @@ fn wire(t: Table, chain: Chain, ladder: Chain) {
             say(b"\n");
         }
         Ordered::Refused(why) => refused(why),
+    }
+}
+
+// Shows what wiring gauge 3 under case 1 would do to the first ladder, and commits it. The proposal stands for the old table alone: on the new one it
+// is refused.
+fn flip(t: Table) {
+    let none = Chain {
+        gauges: t.gauges,
+        rows: [0u64; 64],
+    };
+    let grown = extend::extend_chain(t, none);
+    let ladder = grown.chain;
+    let tried = trials::trial(t, ladder, Gauge(3), Case(1));
+    let verdict = tried.verdict;
+    if let Verdict::Refused(why) = verdict {
+        refused(why);
+        return;
+    }
+    let proposal = tried.proposal;
+    let effect = proposal.effect;
+    match effect {
+        Effect::StillMaximal => say(b"with 3:1 still a ladder\n"),
+        Effect::OnlyChain => say(b"with 3:1 only a chain\n"),
+        Effect::NotWithin => say(b"with 3:1 no longer within the table\n"),
+    }
+    let made = trials::commit(proposal, t);
+    let committed = made.verdict;
+    if let Verdict::Refused(why) = committed {
+        refused(why);
+        return;
+    }
+    let again = trials::commit(proposal, made.table);
+    let second = again.verdict;
+    match second {
+        Verdict::Accepted => say(b"committed twice\n"),
+        Verdict::Refused(why) => refused(why),
     }
 }
 

@@ -39,6 +39,7 @@ use Rattle.refusals.specs.declared.Refusal.the-variants.{
   CoverShape,
   TooManyChains,
   NotMaximal,
+  OtherProposal,
 }
 use Rattle.refusals.specs.declared.Verdict.{Verdict}
 use Rattle.refusals.specs.declared.Verdict.the-variants.{Accepted, Refused}
@@ -49,7 +50,7 @@ named n =
     getD
     (FileTooLong ∷ NotTheBanner ∷ LineTooLong ∷ SizeFields ∷ SizeRange ∷ PairFields ∷ PairRange ∷ PairRepeated ∷ PairCount
     ∷ TableShape ∷ TableRows ∷ ChainCount ∷ ChainPairs ∷ NotAChain ∷ NotReached ∷ BufferTooShort ∷ NoSuchComment ∷ BudgetTooLarge
-    ∷ PairAbsent ∷ ReadingRange ∷ CutoffRange ∷ PairInChain ∷ CoverShape ∷ TooManyChains ∷ NotMaximal ∷ [])
+    ∷ PairAbsent ∷ ReadingRange ∷ CutoffRange ∷ PairInChain ∷ CoverShape ∷ TooManyChains ∷ NotMaximal ∷ OtherProposal ∷ [])
     (n - 1) FileTooLong
 
 pub named-number : (x : Refusal) → named (number x) ≡ x
@@ -79,6 +80,7 @@ named-number PairInChain = refl
 named-number CoverShape = refl
 named-number TooManyChains = refl
 named-number NotMaximal = refl
+named-number OtherProposal = refl
 
 pub number-injective : (x y : Refusal) → number x ≡ number y → x ≡ y
 number-injective x y e = sym (named-number x) ∙ ap named e ∙ named-number y

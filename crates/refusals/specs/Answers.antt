@@ -30,6 +30,7 @@ use Rattle.refusals.specs.declared.Refusal.the-variants.{
   CoverShape,
   TooManyChains,
   NotMaximal,
+  OtherProposal,
 }
 use Rattle.refusals.specs.declared.Verdict.{Verdict}
 use Rattle.refusals.specs.declared.Verdict.the-variants.{Accepted, Refused}
@@ -64,8 +65,10 @@ number PairInChain = 22
 -- 02, R-7: "G or L above 8"; "more than 1,024 ladders"
 number CoverShape = 23
 number TooManyChains = 24
--- 02, R-9: "the second is no ladder or lacks a pair of the first"
+-- 02, R-9: "the second is no ladder or lacks a pair of the first"; R-10: "not a ladder of the table"
 number NotMaximal = 25
+-- 02, R-10: "the proposal is not what the trial of its ladder and place on that table gives"
+number OtherProposal = 26
 
 -- an answer: 01's number, 0 where nothing is refused, and the value
 pub record Answer (A : Type 0) : Type 0 where

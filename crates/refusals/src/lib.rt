@@ -31,6 +31,7 @@ pub enum Refusal {
     CoverShape,
     TooManyChains,
     NotMaximal,
+    OtherProposal,
 }
 
 // Whether a check passed, and if not, which refusal it was.
@@ -69,5 +70,6 @@ pub fn refusal_number(why: Refusal) -> u64
         Refusal::CoverShape => 23,
         Refusal::TooManyChains => 24,
         Refusal::NotMaximal => 25,
+        Refusal::OtherProposal => 26,
     }
 }
