@@ -1,32 +1,41 @@
--- Comparing two tests at a cutoff. In order: lists that agree so far (the loop of `same_rows`); two tables of 64 rows hold the same pairs
--- exactly when their rows are the same; which test's refusal it is; the answers of `same_at`, one law for each; `compared-unique`.
+-- Comparing two tests. In order: lists that agree so far (the loops of `same_rows` and `same_readings`), and readings by their bits; two tests by their
+-- parts (the answers of `same_parts`); equal tests, by 02's words, are the same value where they are legal (`equal-value`); the answers of
+-- `equal_tests`, one law for each; one answer (`compared-unique`).
+--
+-- Elsewhere: what follows for equal tests, Equivalence.antt; what follows for their files, crate `round_trip`.
 use mathlib.Core.Path.{_≡_, refl, sym, ap, ap₂, _∙_, subst}
-use mathlib.Core.Bool.{Bool, true, false, cond}
+use mathlib.Core.Bool.{Bool, true, false}
 use mathlib.Core.List.{List}
-use mathlib.Core.Logic.{_↔_}
-use Prim.Native.Nat.{ℕ, zero, suc, _+_, _≤_, _<_}
+use mathlib.Core.Logic.{_↔_, _⊎_, inl, inr}
+use Prim.Native.Nat.{ℕ, suc, _+_, _-_, _*_, _/_, _%_, _≤_, _<_}
 use native.Mathlib.Nat.{not-suc-le-zero}
 use native.Mathlib.Decide.{ℕ-discrete}
 use native.Mathlib.Omega.{arith}
-use lib.Dec.{T, eqb, eqb·suc-zero}
+use lib.Dec.{T}
+use lib.IntN.{ℤ, pos}
 use lib.ListN.{length, getD}
 use lib.Seq.{ext-getD}
+use mir.Syntax.{w32}
+use mir.Val.{SFits, toZ, ofZ}
+use mir.Facts.{toZ-ofZ}
+use borrow.Author.Tests.{ne-eqb}
 use Rattle.sets.specs.Sets.{bit}
 use Rattle.sets.proofs.Order.{bits-sub, sub-antisym}
 use Rattle.table.specs.Pairs.{row, Has}
-use Rattle.table.specs.Tables.{inRange, made}
-use Rattle.table.specs.declared.Table.{Table}
-use Rattle.table.specs.declared.Made.{Made}
 use Rattle.table.proofs.Places.{has-place, place-has}
-use Rattle.refusals.specs.Answers.{Answer, number, verdict}
+use Rattle.refusals.specs.Answers.{number}
 use Rattle.refusals.specs.declared.Refusal.{Refusal}
 use Rattle.refusals.specs.declared.Verdict.{Verdict}
-use Rattle.refusals.specs.declared.Verdict.the-variants.{Accepted, Refused}
-use Rattle.refusals.proofs.Answering.{number-pos, verdict-refused, verdict-accepted, verdict-injective}
-use Rattle.recorded.specs.Tests.{testRefusal, tableOf, tableAt, cutoffRefusal}
-use Rattle.recorded.specs.Equality.{SamePairs, twoRefusal, ComparedAs, comparedNo}
+use Rattle.refusals.specs.declared.Verdict.the-variants.{Accepted}
+use Rattle.refusals.proofs.Answering.{number-pos, verdict-injective}
+use Rattle.recorded.specs.Tests.{reading, LegalTest, testRefusal}
+use Rattle.recorded.specs.Equality.{EqualTests, twoRefusal, ComparedAs, comparedNo}
+use Rattle.recorded.specs.private.KindNumbers.{kindNumber}
+use Rattle.recorded.specs.declared.Kind.{Kind}
+use Rattle.recorded.specs.declared.Kind.the-variants.{Pattern, Integer}
 use Rattle.recorded.specs.declared.Test.{Test}
 use Rattle.recorded.specs.declared.Compared.{Compared}
+use Rattle.recorded.proofs.Legality.{test-legal, zero-or-entry}
 
 -- ---- the first i of the n elements agree
 pub record Agreeing {A : Type 0} (d : A) (n : ℕ) (a b : List A) (i : ℕ) : Type 0 where
@@ -52,85 +61,118 @@ same-all d n a b i p q r h = (λ x. ext-getD d a b (p ∙ sym q) (λ j k. r .agr
 pub same-not : {A : Type 0} (d : A) (a b : List A) (i : ℕ) → (getD a i d ≡ getD b i d → ⊥) → (false ≡ true) ↔ (a ≡ b)
 same-not d a b i n = (λ x. no-yes x, λ e. absurd (n (ap (λ (l : List _). getD l i d) e)))
 
--- ---- the same rows, the same pairs
+-- the code compares readings by their bits
+pub bits-is : (x y : ℤ) → SFits w32 x → SFits w32 y → ofZ w32 x ≡ ofZ w32 y → x ≡ y
+bits-is x y h k e = sym (toZ-ofZ h) ∙ ap (toZ w32) e ∙ toZ-ofZ k
+
+pub bits-not : (x y : ℤ) → (ofZ w32 x ≡ ofZ w32 y → ⊥) → x ≡ y → ⊥
+bits-not x y n e = n (ap (ofZ w32) e)
+
+-- ---- two tests by their parts
+kind-is : (k l : Kind) → kindNumber k ≡ kindNumber l → k ≡ l
+kind-is Pattern Pattern e = refl
+kind-is Pattern Integer e = absurd (omega arith)
+kind-is Integer Pattern e = absurd (omega arith)
+kind-is Integer Integer e = refl
+
+test-is : (a b : Test) → a .kind ≡ b .kind → a .gauges ≡ b .gauges → a .cases ≡ b .cases → a .entries ≡ b .entries → a .readings ≡ b .readings → a ≡ b
+test-is a b k g c e v = λ i. record { kind = k i; gauges = g i; cases = c i; entries = e i; readings = v i }
+
+pub part-differs : {B : Type 0} (f : Test → B) (a b : Test) → ¬ (f a ≡ f b) → (false ≡ true) ↔ (a ≡ b)
+part-differs f a b n = (λ x. no-yes x, λ e. absurd (n (ap f e)))
+
+module _ (a b : Test) where
+  pub other-kind : (m n : ℕ) → m ≡ kindNumber (a .kind) → n ≡ kindNumber (b .kind) → (m ≡ n → ⊥) → (false ≡ true) ↔ (a ≡ b)
+  other-kind m n p q f = part-differs (λ (t : Test). kindNumber (t .kind)) a b (λ e. f (p ∙ e ∙ sym q))
+
+  pub other-entries : (t : Bool) → (t ≡ true) ↔ (a .entries ≡ b .entries) → t ≡ false → (false ≡ true) ↔ (a ≡ b)
+  other-entries t i f = part-differs (λ (x : Test). x .entries) a b (λ e. let y : t ≡ true = i .1 e in let z : _≡_ {A = ℕ} 0 1 = cc in omega arith)
+
+  pub by-readings : (m n : ℕ) → m ≡ kindNumber (a .kind) → n ≡ kindNumber (b .kind) → m ≡ n → a .gauges ≡ b .gauges → a .cases ≡ b .cases
+      → (t : Bool) → (t ≡ true) ↔ (a .entries ≡ b .entries) → t ≡ true → (u : Bool) → (u ≡ true) ↔ (a .readings ≡ b .readings) → (u ≡ true) ↔ (a ≡ b)
+  by-readings m n p q k g c t i y u j = (
+    λ x. test-is a b (kind-is (a .kind) (b .kind) (sym p ∙ k ∙ q)) g c (i .0 y) (j .0 x),
+    λ e. j .1 (ap (λ (x : Test). x .readings) e),
+  )
+
+-- ---- the same entries, the same rows
 row-within : (r s : List ℕ) → ((g c : ℕ) → Has r g c → Has s g c) → (i k : ℕ) → T (bit (row r i) k) → T (bit (row s i) k)
 row-within r s f i k t = has-place s i k (f (suc i) (suc k) (place-has r i k t))
 
-same-pairs-rows : (r s : List ℕ) → length r ≡ length s → ((g c : ℕ) → Has r g c ↔ Has s g c) → r ≡ s
+pub same-pairs-rows : (r s : List ℕ) → length r ≡ length s → ((g c : ℕ) → Has r g c ↔ Has s g c) → r ≡ s
 same-pairs-rows r s e f =
     ext-getD 0 r s e (λ i h.
     sub-antisym (row r i) (row s i)
     (bits-sub (row r i) (row s i) (row-within r s (λ g c. f g c .0) i))
     (bits-sub (row s i) (row r i) (row-within s r (λ g c. f g c .1) i)))
 
-same-rows-pairs : (r s : List ℕ) → r ≡ s → (g c : ℕ) → Has r g c ↔ Has s g c
-same-rows-pairs r s e g c = (subst (λ (l : List ℕ). Has l g c) e, subst (λ (l : List ℕ). Has l g c) (sym e))
+-- ---- equal tests
+pub same-equal : (a b : Test) → a ≡ b → EqualTests a b
+same-equal a b e = subst (EqualTests a) e (record {
+  kind = refl;
+  gauges = refl;
+  cases = refl;
+  entries = λ g c. (λ h. h, λ h. h);
+  readings = λ g c h. refl;
+})
 
-pub pairs-by-rows : (a b : Table) → length (a .rows) ≡ 64 → length (b .rows) ≡ 64 → (t : Bool) → (t ≡ true) ↔ (a .rows ≡ b .rows) → (t ≡ true) ↔ SamePairs a b
-pairs-by-rows a b p q t i = (
-  λ e. same-rows-pairs (a .rows) (b .rows) (i .0 e),
-  λ f. i .1 (same-pairs-rows (a .rows) (b .rows) (p ∙ sym q) f),
-)
+-- legal tests have a reading at an entry alone, so equal ones are the same value
+module _ (a b : Test) (la : LegalTest a) (lb : LegalTest b) where
+  module _ (e : EqualTests a b) where
+    at-entry : (p : ℕ) → T (bit (row (a .entries) (p / 64)) (p % 64)) → reading (a .readings) p ≡ reading (b .readings) p
+    at-entry p t =
+        let s : (suc (p / 64) - 1) * 64 + (suc (p % 64) - 1) ≡ p = omega arith in
+        ap (reading (a .readings)) (sym s) ∙ e .readings (suc (p / 64)) (suc (p % 64)) (place-has (a .entries) (p / 64) (p % 64) t)
+        ∙ ap (reading (b .readings)) s
 
--- ---- whose refusal it is
-first-number : (b : Bool) (m n : ℕ) → (cond b m 21 ≡ 0 → ⊥) → cond b (cond (eqb m 0) n m) 21 ≡ cond b m 21
-first-number false m n h = refl
-first-number true zero n h = absurd (h refl)
-first-number true (suc m) n h = rw (eqb·suc-zero m)
+    at-place : (p : ℕ) → (reading (a .readings) p ≡ pos 0) ⊎ T (bit (row (a .entries) (p / 64)) (p % 64))
+        → (reading (b .readings) p ≡ pos 0) ⊎ T (bit (row (b .entries) (p / 64)) (p % 64)) → reading (a .readings) p ≡ reading (b .readings) p
+    at-place p (inl x) (inl y) = x ∙ sym y
+    at-place p (inr x) y = at-entry p x
+    at-place p (inl x) (inr y) =
+        at-entry p (has-place (a .entries) (p / 64) (p % 64)
+        (e .entries (suc (p / 64)) (suc (p % 64)) .1 (place-has (b .entries) (p / 64) (p % 64) y)))
 
-second-number : (b : Bool) (m n : ℕ) → cond b m 21 ≡ 0 → cond b (cond (eqb m 0) n m) 21 ≡ cond b n 21
-second-number false m n e = absurd (omega arith)
-second-number true m n e = rw e
+    pub equal-same : a ≡ b
+    equal-same =
+        test-is a b (e .kind) (e .gauges) (e .cases)
+        (same-pairs-rows (a .entries) (b .entries) (la .entries-legal .rows-length ∙ sym (lb .entries-legal .rows-length)) (e .entries))
+        (ext-getD (pos 0) (a .readings) (b .readings) (la .readings-length ∙ sym (lb .readings-length)) (λ p h.
+        at-place p (zero-or-entry a la p (omega (arith, la .readings-length))) (zero-or-entry b lb p (omega (arith, la .readings-length)))))
 
-module _ (a b : Test) (cutoff : ℕ) where
-  two-first : (cutoffRefusal a cutoff ≡ 0 → ⊥) → twoRefusal a b cutoff ≡ cutoffRefusal a cutoff
-  unfolding twoRefusal cutoffRefusal
-  two-first h = first-number (inRange 1000000 cutoff) (testRefusal a) (testRefusal b) h
-
-  two-second : cutoffRefusal a cutoff ≡ 0 → twoRefusal a b cutoff ≡ cutoffRefusal b cutoff
-  unfolding twoRefusal cutoffRefusal
-  two-second e = second-number (inRange 1000000 cutoff) (testRefusal a) (testRefusal b) e
-
--- ---- what `table_at` gave
-made-number : (t : Test) (cutoff : ℕ) (m : Made) → made m ≡ tableAt t cutoff → verdict (m .verdict) ≡ cutoffRefusal t cutoff
-made-number t cutoff m e = ap (λ (x : Answer Table). x .refusal) e
-
-made-table : (t : Test) (cutoff : ℕ) (m : Made) → made m ≡ tableAt t cutoff → cutoffRefusal t cutoff ≡ 0 → m .table ≡ tableOf t cutoff
-made-table t cutoff m e z = ap (λ (x : Answer Table). x .value) e ∙ rw z refl
+  pub equal-value : EqualTests a b ↔ (a ≡ b)
+  equal-value = (equal-same, same-equal a b)
 
 -- ---- the answers
-module _ (a b : Test) (cutoff : ℕ) where
-  no-answer : (why : Refusal) (r : Compared) → r ≡ comparedNo why → number why ≡ twoRefusal a b cutoff → ComparedAs a b cutoff r
+module _ (a b : Test) where
+  two-first : ¬ (testRefusal a ≡ 0) → testRefusal a ≡ twoRefusal a b
+  unfolding twoRefusal
+  two-first n = rw (ne-eqb (testRefusal a) 0 n)
+
+  two-second : testRefusal a ≡ 0 → testRefusal b ≡ twoRefusal a b
+  unfolding twoRefusal
+  two-second z = rw z
+
+  no-answer : (why : Refusal) (r : Compared) → r ≡ comparedNo why → number why ≡ twoRefusal a b → ComparedAs a b r
   no-answer why r e n =
-      subst (ComparedAs a b cutoff) (sym e)
-      (record { refusal = n; refused = λ x. refl; same = λ z. absurd (omega (arith, number-pos why)) })
+      subst (ComparedAs a b) (sym e) (record { refusal = n; refused = λ x. refl; same = λ z. absurd (omega (arith, number-pos why)) })
 
-  module _ (m : Made) (e : made m ≡ tableAt a cutoff) where
-    pub first-refused : (why : Refusal) → m .verdict ≡ Refused why → (r : Compared) → r ≡ comparedNo why → ComparedAs a b cutoff r
-    first-refused why v r d =
-        let n : number why ≡ cutoffRefusal a cutoff = verdict-refused (m .verdict) why (cutoffRefusal a cutoff) v (made-number a cutoff m e) in
-        no-answer why r d (n ∙ sym (two-first a b cutoff (λ z. omega (arith, number-pos why))))
+  pub first-refused : (why : Refusal) → number why ≡ testRefusal a → (r : Compared) → r ≡ comparedNo why → ComparedAs a b r
+  first-refused why n r e = no-answer why r e (n ∙ two-first (λ z. omega (arith, number-pos why)))
 
-    module _ (v : m .verdict ≡ Accepted) (o : Made) (f : made o ≡ tableAt b cutoff) where
-      first-zero : cutoffRefusal a cutoff ≡ 0
-      first-zero = verdict-accepted (m .verdict) (cutoffRefusal a cutoff) v (made-number a cutoff m e)
+  module _ (z : testRefusal a ≡ 0) where
+    pub second-refused : (why : Refusal) → number why ≡ testRefusal b → (r : Compared) → r ≡ comparedNo why → ComparedAs a b r
+    second-refused why n r e = no-answer why r e (n ∙ two-second z)
 
-      pub second-refused : (why : Refusal) → o .verdict ≡ Refused why → (r : Compared) → r ≡ comparedNo why → ComparedAs a b cutoff r
-      second-refused why w r d =
-          no-answer why r d
-          (verdict-refused (o .verdict) why (cutoffRefusal b cutoff) w (made-number b cutoff o f) ∙ sym (two-second a b cutoff first-zero))
-
-      pub both-pass : o .verdict ≡ Accepted → (t : Bool) → (t ≡ true) ↔ SamePairs (m .table) (o .table)
-          → ComparedAs a b cutoff (record { verdict = Accepted; same = t })
-      both-pass w t i =
-          let z : cutoffRefusal b cutoff ≡ 0 = verdict-accepted (o .verdict) (cutoffRefusal b cutoff) w (made-number b cutoff o f) in
-          let n : twoRefusal a b cutoff ≡ 0 = two-second a b cutoff first-zero ∙ z in
-          let x : m .table ≡ tableOf a cutoff = made-table a cutoff m e first-zero in
-          let y : o .table ≡ tableOf b cutoff = made-table b cutoff o f z in
-          record {
+    module _ (y : testRefusal b ≡ 0) (la : length (a .entries) ≡ 64) (ra : length (a .readings) ≡ 4096) (lb : length (b .entries) ≡ 64)
+        (rb : length (b .readings) ≡ 4096) where
+      pub both-pass : (t : Bool) → (t ≡ true) ↔ (a ≡ b) → ComparedAs a b (record { verdict = Accepted; same = t })
+      both-pass t i =
+          let n : twoRefusal a b ≡ 0 = sym (two-second z) ∙ y in
+          let v : EqualTests a b ↔ (a ≡ b) = equal-value a b (test-legal a la ra z) (test-legal b lb rb y) in record {
             refusal = sym n;
-            refused = λ c. absurd (c n);
-            same = λ c. subst (λ (p : Table). (t ≡ true) ↔ SamePairs p (tableOf b cutoff)) x (subst (λ (p : Table). (t ≡ true) ↔ SamePairs (m .table) p) y i);
+            refused = λ m. absurd (m n);
+            same = λ m. (λ x. v .1 (i .0 x), λ x. i .1 (v .0 x));
           }
 
 -- ---- one answer
@@ -139,12 +181,12 @@ same-tests true y f g = sym (f refl)
 same-tests false true f g = g refl
 same-tests false false f g = refl
 
-pub compared-unique : (a b : Test) (cutoff : ℕ) (r s : Compared) → ComparedAs a b cutoff r → ComparedAs a b cutoff s → r ≡ s
-compared-unique a b cutoff r s p q =
+pub compared-unique : (a b : Test) (r s : Compared) → ComparedAs a b r → ComparedAs a b s → r ≡ s
+compared-unique a b r s p q =
     ap₂ (λ (v : Verdict) (t : Bool). record { verdict = v; same = t })
     (verdict-injective (r .verdict) (s .verdict) (p .refusal ∙ sym (q .refusal)))
-    (go (ℕ-discrete (twoRefusal a b cutoff) 0))
+    (go (ℕ-discrete (twoRefusal a b) 0))
   where
-    go : Dec (twoRefusal a b cutoff ≡ 0) → r .same ≡ s .same
+    go : Dec (twoRefusal a b ≡ 0) → r .same ≡ s .same
     go (yes z) = same-tests (r .same) (s .same) (λ x. q .same z .1 (p .same z .0 x)) (λ x. p .same z .1 (q .same z .0 x))
     go (no n) = p .refused n ∙ sym (q .refused n)

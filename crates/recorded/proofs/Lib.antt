@@ -5,3 +5,4 @@ pub mod Checking
 pub mod Reaching
 pub mod Legality
 pub mod Equal
+pub mod Equivalence

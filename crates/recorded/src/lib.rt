@@ -1,6 +1,6 @@
 // Recorded tests with readings in microstrain, and the table that a cutoff gives (02, R-5): the check of a test handed in (10, 11, 20), its
-// table at a cutoff (21 before all else), and whether two tests are equal at a cutoff. No public function has a `requires`, and none is
-// lent memory; a refusal has blank values beside it. Signed arithmetic is done in `magnitude` alone.
+// table at a cutoff (21 before all else), and whether two tests are equal (02, R-11), which no cutoff enters. No public function has a `requires`,
+// and none is lent memory; a refusal has blank values beside it. Signed arithmetic is done in `magnitude` alone.
 use refusals::Refusal;
 use refusals::Verdict;
 use sets;
@@ -19,7 +19,8 @@ ghost use Rattle.table.specs.Tables.{made};
 ghost use Rattle.refusals.specs.Answers.{verdict};
 ghost use Rattle.recorded.specs.Tests.{readable as readableOf, placeFits, fitsAt, withinAt, testRefusal};
 ghost use Rattle.recorded.specs.Tests.{reaches as reachesOf, rowAt, rowsAt, tableAt};
-ghost use Rattle.recorded.specs.Equality.{SamePairs, ComparedAs, comparedNo};
+ghost use Rattle.recorded.specs.Equality.{ComparedAs, comparedNo};
+ghost use Rattle.recorded.specs.private.KindNumbers.{kindNumber};
 
 // The greatest magnitude of a reading, and the greatest cutoff.
 const MOST_READING: u64 = 1_000_000;
@@ -106,23 +107,20 @@ pub fn table_at(t: Test, cutoff: u64) -> Made
     }
 }
 
-// Whether two tests are equal at a cutoff; 21, then 10, 11 and 20 of the first test and then of the second are refused.
-pub fn same_at(a: Test, b: Test, cutoff: u64) -> Compared
-    ensures { λ r. ⌜ ComparedAs a b cutoff r ⌝ }
+// Whether two tests are equal: of one kind and shape, with the same entries and the same readings; no cutoff enters. 10, 11 and 20 of the first test
+// and then of the second are refused.
+pub fn equal_tests(a: Test, b: Test) -> Compared
+    ensures { λ r. ⌜ ComparedAs a b r ⌝ }
 {
-    let first = table_at(a, cutoff);
-    let passed = first.verdict;
-    if let Verdict::Refused(why) = passed {
+    let first = check_test(a);
+    if let Verdict::Refused(why) = first {
         return refuse_compared(why);
     }
-    let second = table_at(b, cutoff);
-    let checked = second.verdict;
-    if let Verdict::Refused(why) = checked {
+    let second = check_test(b);
+    if let Verdict::Refused(why) = second {
         return refuse_compared(why);
     }
-    let table = first.table;
-    let other = second.table;
-    let same = same_pairs(table, other);
+    let same = same_parts(a, b);
     Compared {
         verdict: Verdict::Accepted,
         same: same,
@@ -250,13 +248,52 @@ fn reaches(row: u64, k: u64, v: i32, cutoff: u64) -> bool
     cutoff <= magnitude(v)
 }
 
-// Whether two tables hold the same pairs.
-fn same_pairs(a: Table, b: Table) -> bool
-    ensures { λ r. ⌜ ((r ≡ true) ↔ SamePairs a b) ⌝ }
+// Whether two tests are the same in every part. A listed zero is an entry, so the entries are compared too, and not the readings alone.
+fn same_parts(a: Test, b: Test) -> bool
+    ensures { λ r. ⌜ ((r ≡ true) ↔ (a ≡ b)) ⌝ }
 {
-    let rows = a.rows;
-    let others = b.rows;
-    same_rows(&rows, &others)
+    let kind = a.kind;
+    let other = b.kind;
+    if kind_number(kind) != kind_number(other) {
+        return false;
+    }
+    if a.gauges != b.gauges {
+        return false;
+    }
+    if a.cases != b.cases {
+        return false;
+    }
+    if !same_entries(a, b) {
+        return false;
+    }
+    same_values(a, b)
+}
+
+fn kind_number(kind: Kind) -> u64
+    ensures { λ r. ⌜ r ≡ kindNumber kind ⌝ }
+{
+    match kind {
+        Kind::Pattern => 0,
+        Kind::Integer => 1,
+    }
+}
+
+// Whether two tests have the same entries.
+fn same_entries(a: Test, b: Test) -> bool
+    ensures { λ r. ⌜ ((r ≡ true) ↔ (a .entries ≡ b .entries)) ⌝ }
+{
+    let entries = a.entries;
+    let others = b.entries;
+    same_rows(&entries, &others)
+}
+
+// Whether two tests have the same readings.
+fn same_values(a: Test, b: Test) -> bool
+    ensures { λ r. ⌜ ((r ≡ true) ↔ (a .readings ≡ b .readings)) ⌝ }
+{
+    let readings = a.readings;
+    let values = b.readings;
+    same_readings(&readings, &values)
 }
 
 // Whether two lists of rows are the same.
@@ -270,6 +307,23 @@ fn same_rows(a: &[u64; 64], b: &[u64; 64]) -> bool
             return false;
         }
         i += 1;
+    }
+    true
+}
+
+// Whether two lists of readings are the same.
+fn same_readings(a: &[i32; 4096], b: &[i32; 4096]) -> bool
+    requires { ⌜ (length (now a) ≡ 4096) × (length (now b) ≡ 4096) ⌝ }
+    ensures { λ r. ⌜ ((r ≡ true) ↔ (now (a .entry) ≡ now (b .entry))) ⌝ }
+{
+    let mut p: usize = 0;
+    while p < READINGS {
+        let x = a[p];
+        let y = b[p];
+        if x != y {
+            return false;
+        }
+        p += 1;
     }
     true
 }

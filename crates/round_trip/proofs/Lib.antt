@@ -1,4 +1,5 @@
--- How the reader takes what the writer writes: lines and their words, readings gathered entry by entry, and whole files.
+-- How the reader takes what the writer writes: lines and their words, readings gathered entry by entry, whole files, and files of equal tests.
 pub mod ReadBack
 pub mod Gathered
 pub mod RoundTrip
+pub mod EqualFiles

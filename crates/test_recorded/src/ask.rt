@@ -1,4 +1,5 @@
-// The library asked about one test and the next: the check, the table and equality at cutoffs in range and out of it, and the file.
+// The library asked about one test and the next: the check, the table at cutoffs in range and out of it, equality, and the file.
+use super::draw;
 use super::draw::Drawn;
 use super::file;
 use super::plain;
@@ -20,10 +21,23 @@ pub fn both(t: Tally, a: Drawn, b: Drawn) -> Tally {
     );
     let mut i: u64 = 0;
     while i < 7 {
-        after = at(after, a, b, refused, cutoff(i));
+        after = at(after, a, refused, cutoff(i));
         i += 1;
     }
+    after = equal(after, a, b);
+    after = variants(after, a);
     file::round_trip(after, a, refused)
+}
+
+// Every two of the test's variants.
+fn variants(t: Tally, a: Drawn) -> Tally {
+    let mut after = t;
+    let mut i: u64 = 0;
+    while i < 81 {
+        after = equal(after, draw::settled(a, i / 9), draw::settled(a, i % 9));
+        i += 1;
+    }
+    after
 }
 
 fn cutoff(i: u64) -> u64 {
@@ -38,8 +52,8 @@ fn cutoff(i: u64) -> u64 {
     }
 }
 
-// The table and equality at a cutoff.
-fn at(t: Tally, a: Drawn, b: Drawn, refused: u64, cutoff: u64) -> Tally {
+// The table at a cutoff.
+fn at(t: Tally, a: Drawn, refused: u64, cutoff: u64) -> Tally {
     let want = plain::at(refused, cutoff);
     let test = a.test;
     let rows = plain::rows(a, cutoff);
@@ -54,26 +68,28 @@ fn at(t: Tally, a: Drawn, b: Drawn, refused: u64, cutoff: u64) -> Tally {
     let made = recorded::table_at(test, cutoff);
     let verdict = made.verdict;
     let got = made.table;
-    let mut after = tally::same(t, b"table_at", want, number(verdict));
-    after = tally::same(after, b"table", 0, differ(table, got));
-    after = equal(after, a, b, want, cutoff);
-    equal(after, a, a, want, cutoff)
+    let after = tally::same(t, b"table_at", want, number(verdict));
+    tally::same(after, b"table", 0, differ(table, got))
 }
 
-// Equality of the two: the first test's number, then the second's, then whether the rows agree.
-fn equal(t: Tally, a: Drawn, b: Drawn, first: u64, cutoff: u64) -> Tally {
-    let mut want = first;
+// Equality of the two: the first test's number, then the second's, then whether they are the same place by place.
+fn equal(t: Tally, a: Drawn, b: Drawn) -> Tally {
+    let mut want = plain::refusal(a);
     if want == 0 {
-        want = plain::at(plain::refusal(b), cutoff);
+        want = plain::refusal(b);
     }
-    let apart = rows_differ(plain::rows(a, cutoff), plain::rows(b, cutoff));
     let first_test = a.test;
     let second_test = b.test;
-    let answer = recorded::same_at(first_test, second_test, cutoff);
+    let answer = recorded::equal_tests(first_test, second_test);
     let verdict = answer.verdict;
     let same = answer.same;
-    let after = tally::same(t, b"same_at", want, number(verdict));
-    tally::same(after, b"same", truth(want == 0 && apart == 0), truth(same))
+    let after = tally::same(t, b"equal_tests", want, number(verdict));
+    tally::same(
+        after,
+        b"same",
+        truth(want == 0 && plain::equal(a, b)),
+        truth(same),
+    )
 }
 
 // How many fields and rows of two tables differ.

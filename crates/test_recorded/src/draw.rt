@@ -57,6 +57,70 @@ pub fn one(seed: u64, sort: u64) -> Drawn {
     made(integer, gauges, cases, rows, codes)
 }
 
+// A variant of a test: 1 and 2 have readings of one magnitude at 1:1, 3 a listed zero there, 4 no entry there; 5 has a case more, 6 a gauge more; 7 and
+// 8 have no reading but zero, as an integer test and as one of pairs; any other is the test as it is.
+pub fn settled(d: Drawn, how: u64) -> Drawn {
+    let test = d.test;
+    let rows = test.entries;
+    let codes = d.codes;
+    made(
+        settled_kind(d.integer, how),
+        std::num::wrapping_add_u64(test.gauges, only(how, 6)),
+        std::num::wrapping_add_u64(test.cases, only(how, 5)),
+        settled_rows(rows, how),
+        settled_codes(codes, how),
+    )
+}
+
+fn only(how: u64, wanted: u64) -> u64 {
+    if how == wanted {
+        return 1;
+    }
+    0
+}
+
+fn settled_kind(integer: bool, how: u64) -> bool {
+    match how {
+        7 => true,
+        8 => false,
+        _ => integer,
+    }
+}
+
+fn settled_rows(rows: [u64; 64], how: u64) -> [u64; 64] {
+    let mut after = rows;
+    let first = settled_row(rows[0], how);
+    after[0] = first;
+    after
+}
+
+fn settled_row(row: u64, how: u64) -> u64 {
+    match how {
+        1 | 2 | 3 => row | 1,
+        4 => row / 2 * 2,
+        _ => row,
+    }
+}
+
+fn settled_codes(codes: [u8; 4096], how: u64) -> [u8; 4096] {
+    if how == 7 || how == 8 {
+        return [0u8; 4096];
+    }
+    let mut after = codes;
+    let first = settled_code(codes[0], how);
+    after[0] = first;
+    after
+}
+
+fn settled_code(code: u8, how: u64) -> u8 {
+    match how {
+        1 => 9,
+        2 => 10,
+        3 | 4 => 0,
+        _ => code,
+    }
+}
+
 // Three entries with the readings -42, 0 and 7; as a test of pairs without them.
 pub fn small(integer: bool) -> Drawn {
     let mut rows = [0u64; 64];

@@ -1,12 +1,10 @@
-// Recorded tests against a plain computation (02, R-5): the check of a test handed in, its table at a cutoff, equality at a cutoff, and what
-// is written and read back. Each group writes one line with what it compared; the first disagreement of a group is written before it.
+// Recorded tests against a plain computation (02, R-5 and R-11): the check of a test handed in, its table at a cutoff, equality, and what is
+// written and read back. Each group writes one line with what it compared; the first disagreement of a group is written before it.
 mod ask;
 mod draw;
 mod file;
 mod plain;
 mod tally;
-
-use tally::Tally;
 
 fn main() {
     group(b"legal integer tests: ", 0);

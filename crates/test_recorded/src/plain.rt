@@ -1,5 +1,5 @@
-// The plain computation, from 02's words: the refusal of a test, its table at a cutoff, and the length of its file. Every place of 64 by 64
-// is looked at, bit by bit.
+// The plain computation, from 02's words: the refusal of a test, its table at a cutoff, equality, and the length of its file. Every place of 64
+// by 64 is looked at, bit by bit.
 use super::draw::Drawn;
 ghost use Prim.Native.Nat.{_≤_};
 
@@ -110,6 +110,42 @@ fn reached(entry: bool, integer: bool, cutoff: u64, far: u64) -> bool {
         return true;
     }
     cutoff <= far
+}
+
+// "the same shape, the same entries present and the same readings", and one kind. Two codes are the same exactly when their readings are.
+pub fn equal(a: Drawn, b: Drawn) -> bool {
+    let first = a.test;
+    let second = b.test;
+    if a.integer != b.integer {
+        return false;
+    }
+    if first.gauges != second.gauges {
+        return false;
+    }
+    if first.cases != second.cases {
+        return false;
+    }
+    let rows = first.entries;
+    let others = second.entries;
+    let codes = a.codes;
+    let values = b.codes;
+    alike(&rows, &others, &codes, &values)
+}
+
+fn alike(rows: &[u64; 64], others: &[u64; 64], codes: &[u8; 4096], values: &[u8; 4096]) -> bool {
+    let mut p: usize = 0;
+    while p < 4096 {
+        let i = p / 64;
+        let k = (p % 64) as u64;
+        if bit(rows[i], k) != bit(others[i], k) {
+            return false;
+        }
+        if codes[p] != values[p] {
+            return false;
+        }
+        p += 1;
+    }
+    true
 }
 
 // The length of the file.

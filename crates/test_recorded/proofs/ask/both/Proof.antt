@@ -9,4 +9,4 @@ both-spec =
     tie.close
     (tie.spec (λ a b after₀ refused i₀ after i. Unit {0}) (λ a b after₀ refused i₀ after i. 7 - i) (λ c κs. tt) (λ c κs. tt)
     (λ c. omega arith) (λ c κs. tt) (λ c κs. tt) (λ c κs. tt) (λ c. tt) (λ c κs. tt) (λ c κs. tt) (λ c. omega arith) (λ c. omega arith)
-    (λ c. tt) (λ c κs. tt) (λ c. tt))
+    (λ c. tt) (λ c κs. tt) (λ c κs. tt) (λ c κs. tt) (λ c. tt))
