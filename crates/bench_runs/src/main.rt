@@ -1,9 +1,12 @@
 // What bench/run measures: a table from standard input is listed whole, by gauges or by cases, one public run call a ladder, some times over.
 // Arguments: the side, `gauges` or `cases`, the budget of a call with the number of repeats, as one word of two numbers, and `omit` for a run
-// that omits the ladders with no essential pair. It writes the number of ladders and a sum that depends on every row of each and on their
-// order. The plain lister in bench/plain.rs writes the same, and never omits.
+// that omits the ladders with no essential pair, or `reversed` for one that prefers the last number to the first. It writes the number of
+// ladders and a sum that depends on every row of each and on their order. The plain lister in bench/plain.rs writes the same, never omits and
+// goes by number.
 use libc::STDIN_FILENO;
 use libc::STDOUT_FILENO;
+use preference::CaseOrder;
+use preference::GaugeOrder;
 use refusals::Verdict;
 use runs::Outcome;
 use table::Chain;
@@ -38,7 +41,10 @@ fn answer(t: Table) {
     match fields {
         Fields::Two(budget, repeats) => tell(measured(t, budget, repeats)),
         _ => {
-            io::write_all(STDOUT_FILENO, b"usage: SIDE 'BUDGET REPEATS' [omit]\n");
+            io::write_all(
+                STDOUT_FILENO,
+                b"usage: SIDE 'BUDGET REPEATS' [omit|reversed]\n",
+            );
         }
     }
 }
@@ -85,9 +91,37 @@ fn repeat_cases(t: Table, omit: bool, budget: u64, repeats: u64) -> Tally {
     tally
 }
 
+// The numbers of an order: 1, 2, 3 and on, or from the last to the first.
+fn numbers(n: u64) -> [u8; 64] {
+    if is_given(3, b"reversed") {
+        return reversed(n);
+    }
+    let plain = GaugeOrder::plain(n);
+    plain.0
+}
+
+fn reversed(n: u64) -> [u8; 64] {
+    let mut out = [0u8; 64];
+    let mut left = n;
+    let mut i: usize = 0;
+    while i < 64 {
+        out[i] = (left % 256) as u8;
+        left = less(left);
+        i += 1;
+    }
+    out
+}
+
+fn less(n: u64) -> u64 {
+    if n == 0 {
+        return 0;
+    }
+    n - 1
+}
+
 // The gauge run from its fresh start to its end, or to a refusal.
 fn list_gauges(t: Table, omit: bool, budget: u64, before: Tally) -> Tally {
-    let start = runs::start_gauges(t, omit);
+    let start = runs::start_gauges(t, GaugeOrder(numbers(t.gauges)), omit);
     let mut run = start.run;
     let mut tally = before;
     let mut calls = u64::MAX;
@@ -119,7 +153,7 @@ fn list_gauges(t: Table, omit: bool, budget: u64, before: Tally) -> Tally {
 
 // The case run likewise.
 fn list_cases(t: Table, omit: bool, budget: u64, before: Tally) -> Tally {
-    let start = runs::start_cases(t, omit);
+    let start = runs::start_cases(t, CaseOrder(numbers(t.cases)), omit);
     let mut run = start.run;
     let mut tally = before;
     let mut calls = u64::MAX;

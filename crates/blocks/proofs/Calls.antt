@@ -14,17 +14,14 @@ use native.Mathlib.Nat.{zero-add, suc-add}
 use native.Mathlib.Omega.{arith}
 use lib.ListN.{length, length-append}
 use Rattle.table.specs.declared.Table.{Table}
-use Rattle.table.specs.Tables.{Legal, tableRows}
 use Rattle.rules.specs.Machine.{State}
 use Rattle.rules.specs.Calls.{Reply, refused, spent, handed, end, Call, mostBudget, answered, handouts}
 use Rattle.rules.proofs.Calls.{answered-append}
-use Rattle.rules.proofs.Reports.{call-only18}
+use Rattle.rules.proofs.Reports.{only18-by}
 use Rattle.lists.specs.Lists.{gaugeSide}
-use Rattle.lists.specs.Picks.{candidates}
 use Rattle.lists.specs.OnTable.{handOut, ReachedOn}
-use Rattle.lists.proofs.CandidateTree.{reached-fits}
-use Rattle.runs.specs.Calling.{callOf}
-use Rattle.runs.proofs.Demands.{fits-next}
+use Rattle.runs.specs.Calling.{arrangement, movesOf, callOf}
+use Rattle.runs.proofs.Demands.{Started, reached-next}
 use Rattle.writer.specs.Writing.{writeFile}
 use Rattle.blocks.specs.Filling.{pairTable, files, calls, after, text, isEnd, isNone, has, Stops}
 use Rattle.blocks.proofs.Chains.{never-spent}
@@ -69,89 +66,92 @@ added-some t spent e = let q : _≡_ {A = ℕ} 0 1 = cc in absurd (omega arith)
 added-some t (handed x) e = omega (arith, length-append (writeFile (pairTable t x)) [], file-pos (pairTable t x))
 added-some t end e = let q : _≡_ {A = ℕ} 0 1 = cc in absurd (omega arith)
 
-module _ (t : Table) (omit : Bool) where
+module _ (t : Table) (order : List ℕ) (omit : Bool) where
   abbrev made : State → Call
-  made s = callOf t (gaugeSide t) omit mostBudget s
+  made s = callOf t (gaugeSide t) (arrangement (gaugeSide t) order) omit mostBudget s
 
   abbrev next : State → State
   next s = made s .next
 
   -- ---- n calls, and m more
-  pub calls-more : (n m : ℕ) (s : State) → calls t omit (n + m) s ≡ calls t omit n s ++ calls t omit m (after t omit n s)
-  calls-more zero m s = ap (λ (k : ℕ). calls t omit k s) (zero-add m)
-  calls-more (suc n) m s = ap (λ (k : ℕ). calls t omit k s) (suc-add n m) ∙ ap (λ (cs : List Call). made s ∷ cs) (calls-more n m (next s))
+  pub calls-more : (n m : ℕ) (s : State) → calls t order omit (n + m) s ≡ calls t order omit n s ++ calls t order omit m (after t order omit n s)
+  calls-more zero m s = ap (λ (k : ℕ). calls t order omit k s) (zero-add m)
+  calls-more (suc n) m s = ap (λ (k : ℕ). calls t order omit k s) (suc-add n m) ∙ ap (λ (cs : List Call). made s ∷ cs) (calls-more n m (next s))
 
   -- ---- one call more
-  calls-one : (n : ℕ) (s : State) → calls t omit (suc n) s ≡ calls t omit n s ++ (made (after t omit n s) ∷ [])
+  calls-one : (n : ℕ) (s : State) → calls t order omit (suc n) s ≡ calls t order omit n s ++ (made (after t order omit n s) ∷ [])
   calls-one zero s = refl
   calls-one (suc n) s = ap (λ (cs : List Call). made s ∷ cs) (calls-one n (next s))
 
-  pub after-one : (n : ℕ) (s : State) → after t omit (suc n) s ≡ made (after t omit n s) .next
+  pub after-one : (n : ℕ) (s : State) → after t order omit (suc n) s ≡ made (after t order omit n s) .next
   after-one zero s = refl
   after-one (suc n) s = after-one n (next s)
 
-  pub text-one : (n : ℕ) (s : State) → text t omit (suc n) s ≡ text t omit n s ++ files t (answered (made (after t omit n s) .answer) [])
+  pub text-one : (n : ℕ) (s : State) → text t order omit (suc n) s ≡ text t order omit n s ++ files t (answered (made (after t order omit n s) .answer) [])
   text-one n s =
-      let c : Call = made (after t omit n s) in
-      ap (λ (cs : List Call). files t (handouts cs)) (calls-one n s) ∙ ap (files t) (handouts-append (calls t omit n s) (c ∷ []))
-      ∙ files-append t (handouts (calls t omit n s)) (answered (c .answer) [])
+      let c : Call = made (after t order omit n s) in
+      ap (λ (cs : List Call). files t (handouts cs)) (calls-one n s) ∙ ap (files t) (handouts-append (calls t order omit n s) (c ∷ []))
+      ∙ files-append t (handouts (calls t order omit n s)) (answered (c .answer) [])
 
-  pub has-one : (q : Reply → Bool) (n : ℕ) (s : State) → has q (calls t omit n s) ≡ false
-      → has q (calls t omit (suc n) s) ≡ q (made (after t omit n s) .answer)
+  pub has-one : (q : Reply → Bool) (n : ℕ) (s : State) → has q (calls t order omit n s) ≡ false
+      → has q (calls t order omit (suc n) s) ≡ q (made (after t order omit n s) .answer)
   has-one q n s e =
-      let c : Call = made (after t omit n s) in
-      ap (has q) (calls-one n s) ∙ has-append q (calls t omit n s) (c ∷ []) ∙ ap (λ (b : Bool). b || has q (c ∷ [])) e ∙ or-false (q (c .answer))
+      let c : Call = made (after t order omit n s) in
+      ap (has q) (calls-one n s) ∙ has-append q (calls t order omit n s) (c ∷ []) ∙ ap (λ (b : Bool). b || has q (c ∷ [])) e ∙ or-false (q (c .answer))
     where
       or-false : (a : Bool) → (a || false) ≡ a
       or-false true = refl
       or-false false = refl
 
   -- ---- the state after them
-  pub reached-after : (n : ℕ) (s : State) → ReachedOn (gaugeSide t) s → ReachedOn (gaugeSide t) (after t omit n s)
+  pub reached-after : (n : ℕ) (s : State) → ReachedOn (gaugeSide t) (arrangement (gaugeSide t) order) s
+      → ReachedOn (gaugeSide t) (arrangement (gaugeSide t) order) (after t order omit n s)
   reached-after zero s h = h
-  reached-after (suc n) s h =
-      reached-after n (next s) (reached-fits (gaugeSide t) (next s) .1 (fits-next t (gaugeSide t) omit mostBudget s (reached-fits (gaugeSide t) s .0 h)))
+  reached-after (suc n) s h = reached-after n (next s) (reached-next t (gaugeSide t) (arrangement (gaugeSide t) order) omit mostBudget s h)
 
   -- ---- calls that all hand something out have a file each, so they stop
-  grows : (n : ℕ) (s : State) → (has isNone (calls t omit n s) ≡ true) ⊎ (n ≤ length (text t omit n s))
+  grows : (n : ℕ) (s : State) → (has isNone (calls t order omit n s) ≡ true) ⊎ (n ≤ length (text t order omit n s))
   grows zero s = inr (omega arith)
-  grows (suc n) s = go (grows n s) (has isNone (calls t omit n s)) refl (isNone (made (after t omit n s) .answer)) refl
+  grows (suc n) s = go (grows n s) (has isNone (calls t order omit n s)) refl (isNone (made (after t order omit n s) .answer)) refl
     where
-      go : (has isNone (calls t omit n s) ≡ true) ⊎ (n ≤ length (text t omit n s)) → (b : Bool) → has isNone (calls t omit n s) ≡ b
-          → (d : Bool) → isNone (made (after t omit n s) .answer) ≡ d
-          → (has isNone (calls t omit (suc n) s) ≡ true) ⊎ (suc n ≤ length (text t omit (suc n) s))
+      go : (has isNone (calls t order omit n s) ≡ true) ⊎ (n ≤ length (text t order omit n s)) → (b : Bool) → has isNone (calls t order omit n s) ≡ b
+          → (d : Bool) → isNone (made (after t order omit n s) .answer) ≡ d
+          → (has isNone (calls t order omit (suc n) s) ≡ true) ⊎ (suc n ≤ length (text t order omit (suc n) s))
       go h true e d f =
-          inl (ap (has isNone) (calls-one n s) ∙ has-append isNone (calls t omit n s) (made (after t omit n s) ∷ [])
-          ∙ ap (λ (b : Bool). b || has isNone (made (after t omit n s) ∷ [])) e)
+          inl (ap (has isNone) (calls-one n s) ∙ has-append isNone (calls t order omit n s) (made (after t order omit n s) ∷ [])
+          ∙ ap (λ (b : Bool). b || has isNone (made (after t order omit n s) ∷ [])) e)
       go h false e true f = inl (has-one isNone n s e ∙ f)
       go (inl h) false e false f = let q : _≡_ {A = ℕ} 0 1 = cc in absurd (omega arith)
       go (inr h) false e false f =
           inr (omega (
             arith,
             h,
-            added-some t (made (after t omit n s) .answer) f,
-            length-append (text t omit n s) (files t (answered (made (after t omit n s) .answer) [])),
+            added-some t (made (after t order omit n s) .answer) f,
+            length-append (text t order omit n s) (files t (answered (made (after t order omit n s) .answer) [])),
             ap length (text-one n s),
           ))
 
-  pub calls-stop-at : (room : ℕ) (s : State) → Stops t omit s room room
+  pub calls-stop-at : (room : ℕ) (s : State) → Stops t order omit s room room
   calls-stop-at room s = go (grows room s)
     where
-      go : (has isNone (calls t omit room s) ≡ true) ⊎ (room ≤ length (text t omit room s)) → Stops t omit s room room
+      go : (has isNone (calls t order omit room s) ≡ true) ⊎ (room ≤ length (text t order omit room s)) → Stops t order omit s room room
       go (inl h) = inl h
       go (inr h) = inr (omega arith)
 
 -- ---- a run that omits nothing
-pub stop-ends : (t : Table) → Legal t → (n : ℕ) (s : State) → ReachedOn (gaugeSide t) s → has isNone (calls t false n s) ≡ true
-    → has isEnd (calls t false n s) ≡ true
-stop-ends t l zero s h e = e
-stop-ends t l (suc n) s h e =
-    go (made t false s .answer) (never-spent t l s h) (call-only18 (candidates (tableRows t)) (handOut (gaugeSide t)) mostBudget s .else (omega arith)) e
-    (stop-ends t l n (next t false s) (reached-after t false 1 s h))
+pub stop-ends : (t : Table) (order : List ℕ) → Started gaugeSide t order → (n : ℕ) (s : State)
+    → ReachedOn (gaugeSide t) (arrangement (gaugeSide t) order) s → has isNone (calls t order false n s) ≡ true → has isEnd (calls t order false n s) ≡ true
+stop-ends t order g zero s h e = e
+stop-ends t order g (suc n) s h e =
+    go (made t order false s .answer) (never-spent t order g s h)
+    (only18-by (movesOf t (gaugeSide t) (arrangement (gaugeSide t) order) false) (handOut (gaugeSide t)) mostBudget s .else (omega arith)) e
+    (stop-ends t order g n (next t order false s) (reached-after t order false 1 s h))
   where
-    go : (a : Reply) → (a ≡ spent → ⊥) → ((k : ℕ) → a ≡ refused k → ⊥) → (isNone a || has isNone (calls t false n (next t false s))) ≡ true
-        → (has isNone (calls t false n (next t false s)) ≡ true → has isEnd (calls t false n (next t false s)) ≡ true)
-        → (isEnd a || has isEnd (calls t false n (next t false s))) ≡ true
+    rest : List Call
+    rest = calls t order false n (next t order false s)
+
+    go : (a : Reply) → (a ≡ spent → ⊥) → ((k : ℕ) → a ≡ refused k → ⊥) → (isNone a || has isNone rest) ≡ true
+        → (has isNone rest ≡ true → has isEnd rest ≡ true) → (isEnd a || has isEnd rest) ≡ true
     go (refused k) x r e more = absurd (r k refl)
     go spent x r e more = absurd (x refl)
     go (handed y) x r e more = more e

@@ -1,5 +1,5 @@
 -- A set that a call hands out is a set of pairs of the table, so the table of its pairs is legal, and its file has room where the longest has.
-use mathlib.Core.Path.{_≡_, sym, _∙_, subst}
+use mathlib.Core.Path.{_≡_, sym, ap, _∙_, subst}
 use mathlib.Core.Bool.{Bool}
 use mathlib.Core.List.{List, [], _∷_}
 use Prim.Native.Nat.{ℕ, _^_, _≤_, _<_}
@@ -15,17 +15,23 @@ use Rattle.table.specs.Tables.{Legal, tableRows}
 use Rattle.table.proofs.Padding.{pad-length, pad-getD}
 use Rattle.table.proofs.Places.{row-past, within-sub}
 use Rattle.table.proofs.Legality.{length-rows, row-tableRows}
-use Rattle.rules.specs.Machine.{State, Move, Given, nothing, hands, ends}
-use Rattle.rules.specs.Calls.{spent, handed, Call, mostBudget}
+use Rattle.rules.specs.Machine.{State, Move, Given, nothing, hands, ends, move}
+use Rattle.rules.specs.private.Fitting.{Fits}
+use Rattle.rules.specs.Calls.{spent, handed, Call, mostBudget, callBy}
 use Rattle.rules.specs.Reports.{says, lastBy}
 use Rattle.rules.proofs.Calls.{Paid, cost, cost-lap, cost-pos, call-law}
 use Rattle.rules.proofs.Reports.{all-whole, calls-spent}
-use Rattle.lists.specs.Lists.{gaugeSide}
+use Rattle.rules.proofs.Renaming.{renamedCall, call-renamed}
+use Rattle.lists.specs.Lists.{Side, gaugeSide}
 use Rattle.lists.specs.Picks.{candidates}
 use Rattle.lists.specs.OnTable.{handOut, callOn, ReachedOn}
-use Rattle.lists.proofs.CandidateTree.{candidate-tree, reached-fits}
+use Rattle.lists.specs.private.Arranging.{indexAt, prefer}
+use Rattle.lists.proofs.Arranging.{length-arrange}
+use Rattle.lists.proofs.CandidateTree.{candidate-tree}
 use Rattle.lists.proofs.ChainRows.{chainOf-within}
-use Rattle.runs.specs.Calling.{movesOf, callOf}
+use Rattle.lists.proofs.PlacedRuns.{follows, same-out, reached-placed}
+use Rattle.runs.specs.Calling.{arrangement, movesOf, callOf}
+use Rattle.runs.proofs.Demands.{Started}
 use Rattle.blocks.specs.Filling.{pairTable}
 
 below : (a b n : ℕ) → n ≤ 64 → a ⊆ b → b < 2 ^ n → a < 2 ^ n
@@ -55,31 +61,52 @@ says-handed out nothing x e = let z : _≡_ {A = ℕ} 0 1 = cc in absurd (omega 
 says-handed out (hands p) x e = (p, cc)
 says-handed out ends x e = let z : _≡_ {A = ℕ} 0 1 = cc in absurd (omega arith)
 
-pub handed-within : (t : Table) (omit : Bool) (s : State) (x : List ℕ) → callOf t (gaugeSide t) omit mostBudget s .answer ≡ handed x
-    → Within (tableRows t) x
-handed-within t omit s x e =
-    let mv : State → Move = movesOf t (gaugeSide t) omit in
+pub handed-within : (t : Table) (order : List ℕ) (omit : Bool) (s : State) (x : List ℕ)
+    → callOf t (gaugeSide t) (arrangement (gaugeSide t) order) omit mostBudget s .answer ≡ handed x → Within (tableRows t) x
+handed-within t order omit s x e =
+    let mv : State → Move = movesOf t (gaugeSide t) (arrangement (gaugeSide t) order) omit in
     let w = all-whole mv (handOut (gaugeSide t)) (mostBudget ∷ []) s .0 (omega arith) in
-    let p = says-handed (handOut (gaugeSide t)) (lastBy mv (callOf t (gaugeSide t) omit mostBudget s .moves) s) x (sym (w .last) ∙ e) in
+    let c : Call = callOf t (gaugeSide t) (arrangement (gaugeSide t) order) omit mostBudget s in
+    let p = says-handed (handOut (gaugeSide t)) (lastBy mv (c .moves) s) x (sym (w .last) ∙ e) in
     subst (Within (tableRows t)) (p .1) (chainOf-within (tableRows t) (p .0))
 
--- a run that omits nothing is never spent by the greatest budget
-pub never-spent : (t : Table) → Legal t → (s : State) → ReachedOn (gaugeSide t) s → callOn (gaugeSide t) mostBudget s .answer ≡ spent → ⊥
-never-spent t l s r e =
-    let kids : List ℕ → List ℕ = candidates (tableRows t) in
-    let n : ℕ = length (tableRows t) in
-    let c : Call = callOn (gaugeSide t) mostBudget s in
-    let h = reached-fits (gaugeSide t) s .0 r in
-    let p : Paid spent (c .moves) (cost n (c .next .picks) (c .next .phase)) (cost n (s .picks) (s .phase)) =
-    rw e at (call-law kids (handOut (gaugeSide t)) n (candidate-tree (tableRows t)) mostBudget s h .paid) in
-    let m : c .moves ≡ mostBudget = calls-spent kids (handOut (gaugeSide t)) (mostBudget ∷ []) s .0 (omega arith) .only e .0 in
-    omega (
-      arith,
-      p,
-      m,
-      length-rows t l,
-      l .gauges-high,
-      cost-lap kids n (candidate-tree (tableRows t)) (s .picks) (s .phase) h,
-      cost-pos n (c .next .picks)
-          (c .next .phase),
-    )
+-- a run that omits nothing is never spent by the greatest budget: nor is the one by number, on the arranged rows, that it follows
+pub never-spent : (t : Table) (order : List ℕ) → Started gaugeSide t order → (s : State) → ReachedOn (gaugeSide t) (arrangement (gaugeSide t) order) s
+    → callOn (gaugeSide t) (arrangement (gaugeSide t) order) mostBudget s .answer ≡ spent → ⊥
+never-spent t order g s r e =
+    let p = reached-placed side o (g .fair .counted) (g .arranged) s .0 r in
+    let z : State = p .state in
+    let c : Call = callBy (move (candidates rows)) (handOut (prefer o side)) mostBudget z in
+    let same : callOn side o mostBudget s ≡ renamedCall (indexAt o) c =
+    ap (callOn side o mostBudget) (sym (p .is))
+    ∙ call-renamed (follows side o (g .fair .counted) (g .arranged)) (same-out side o (g .fair .counted) (g .arranged)) mostBudget z (p .good) in
+    by-number z (p .good) (sym (ap (λ (x : Call). x .answer) same) ∙ e)
+  where
+    side : Side
+    side = gaugeSide t
+
+    o : List ℕ
+    o = arrangement side order
+
+    rows : List ℕ
+    rows = prefer o side .rows
+
+    by-number : (z : State) → Fits (candidates rows) (z .picks) (z .phase)
+        → callBy (move (candidates rows)) (handOut (prefer o side)) mostBudget z .answer ≡ spent → ⊥
+    by-number z h e =
+        let kids : List ℕ → List ℕ = candidates rows in
+        let n : ℕ = length rows in
+        let c : Call = callBy (move kids) (handOut (prefer o side)) mostBudget z in
+        let p : Paid spent (c .moves) (cost n (c .next .picks) (c .next .phase)) (cost n (z .picks) (z .phase)) =
+        rw e at (call-law kids (handOut (prefer o side)) n (candidate-tree rows) mostBudget z h .paid) in
+        let m : c .moves ≡ mostBudget = calls-spent kids (handOut (prefer o side)) (mostBudget ∷ []) z .0 (omega arith) .only e .0 in
+        omega (
+          arith,
+          p,
+          m,
+          length-arrange (t .gauges) o (g .arranged) (tableRows t),
+          g .legal .gauges-high,
+          cost-lap kids n (candidate-tree rows) (z .picks) (z .phase) h,
+          cost-pos n (c .next .picks)
+              (c .next .phase),
+        )

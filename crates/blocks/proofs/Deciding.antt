@@ -1,5 +1,5 @@
--- `Filled` can be met for every value and every buffer (`filled-exists`), and leaves one answer and one buffer (`filled-unique`); no two answers
--- of the code read alike (`filling-injective`); and the longest file is attained (`longest-attained`).
+-- `Filled` can be met for every value, of 64 rows and 64 numbers as the code's are, and every buffer (`filled-exists`), and leaves one answer and one
+-- buffer (`filled-unique`); no two answers of the code read alike (`filling-injective`); and the longest file is attained (`longest-attained`).
 --
 -- In order: whether a value is the paused value of a reached state is decided (`paused-decided`); the calls of a block are so many and no other
 -- number (`fills-unique`), and there is such a number (`fills-exist`): the least at which they stop.
@@ -15,19 +15,23 @@ use lib.ListN.{length, take, drop, length-map}
 use lib.Seq.{take-at}
 use Rattle.table.specs.declared.Table.{Table}
 use Rattle.refusals.specs.declared.Verdict.{Verdict}
-use Rattle.table.specs.Tables.{tableRefusal, tableRows}
 use Rattle.refusals.proofs.Answering.{verdict-injective}
 use Rattle.rules.specs.Machine.{Phase, Down, Handed, Back, Ended, State, at}
 use Rattle.rules.specs.private.Fitting.{ValidFrom, Fits}
-use Rattle.lists.specs.Lists.{gaugeSide}
+use Rattle.rules.proofs.Renaming.{renamed, renamedPhase}
+use Rattle.lists.specs.Arrangements.{IsArrangement, placeOf}
+use Rattle.lists.specs.Lists.{Side, gaugeSide}
 use Rattle.lists.specs.Picks.{candidates}
 use Rattle.lists.specs.OnTable.{ReachedOn}
-use Rattle.lists.proofs.CandidateTree.{reached-fits}
+use Rattle.lists.specs.private.Arranging.{indexAt, prefer}
+use Rattle.lists.proofs.PlacedRuns.{Good, Placed, reached-placed, renamed-back}
 use Rattle.runs.specs.Paused.{Value, numbered, paused}
-use Rattle.runs.specs.Calling.{PausedAt}
+use Rattle.runs.specs.Calling.{held, valueRefusal, PausedAt}
 use Rattle.runs.specs.declared.gauges.GaugeRun.{GaugeRun}
 use Rattle.runs.proofs.Readings.{gauge-value-injective}
 use Rattle.runs.proofs.Answered.{paused-state}
+use Rattle.runs.proofs.Demands.{Started}
+use Rattle.runs.proofs.Starting.{gauge-started}
 use Rattle.writer.specs.Writing.{writeFile}
 use Rattle.writer.proofs.Sizes.{fullTable, full-length}
 use Rattle.blocks.specs.declared.Block.{Block}
@@ -61,9 +65,9 @@ places : (p : List ℕ) → map (λ k. k - 1) (map suc p) ≡ p
 places [] = refl
 places (x ∷ p) = ap₂ (λ (y : ℕ) (q : List ℕ). y ∷ q) (suc-sub x) (places p)
 
-state-paused : (t : Table) (omit : Bool) (s : State) → stateOf (paused t omit s) ≡ s
+state-paused : (t : Table) (order : List ℕ) (omit : Bool) (s : State) → stateOf (paused t order omit s) ≡ s
 unfolding stateOf
-state-paused t omit s =
+state-paused t order omit s =
     ap₂ at (ap (map (λ k. k - 1)) (take-at (map suc (s .picks)) _ (length (s .picks)) (length-map (s .picks) suc)) ∙ places (s .picks))
     (place-numbered (s .phase))
 
@@ -110,45 +114,78 @@ sound (Back k) = go (ℕ-discrete k (suc (k - 1)))
     go (no n) = no (λ e. n cc)
 sound Ended = yes refl
 
-paused-decided : (v : Value) → ((s : State) × PausedAt gaugeSide v s) ⊎ ((s : State) → PausedAt gaugeSide v s → ⊥)
+-- whether a state is reached: it is where the one by place fits the arranged rows, and leads back to it
+module _ (s : Side) (o : List ℕ) (counted : length (s .rows) ≡ s .count) (a : IsArrangement (s .count) o) where
+  abbrev byPlace : State → State
+  byPlace x = renamed (placeOf o) x
+
+  same-phase : (f : Phase) → Dec (renamedPhase (indexAt o) (renamedPhase (placeOf o) f) ≡ f)
+  same-phase Down = yes refl
+  same-phase Handed = yes refl
+  same-phase (Back k) = go (ℕ-discrete (indexAt o (placeOf o k)) k)
+    where
+      go : Dec (indexAt o (placeOf o k) ≡ k) → Dec (Back (indexAt o (placeOf o k)) ≡ Back k)
+      go (yes e) = yes (ap Back e)
+      go (no n) = no (λ e. n cc)
+  same-phase Ended = yes refl
+
+  reached-decided : (x : State) → Dec (ReachedOn s o x)
+  reached-decided x =
+      go (fits (candidates (prefer o s .rows)) (byPlace x .picks) (byPlace x .phase))
+      (List-discrete ℕ-discrete (map (indexAt o) (map (placeOf o) (x .picks))) (x .picks)) (same-phase (x .phase))
+    where
+      placed : ReachedOn s o x → Placed s o counted a x
+      placed r = reached-placed s o counted a x .0 r
+
+      back-is : (r : ReachedOn s o x) → byPlace x ≡ placed r .state
+      back-is r = ap byPlace (sym (placed r .is)) ∙ renamed-back s o counted a (placed r .state) (placed r .good)
+
+      again : (r : ReachedOn s o x) → renamed (indexAt o) (byPlace x) ≡ x
+      again r = ap (renamed (indexAt o)) (back-is r) ∙ placed r .is
+
+      go : Dec (Good s o counted a (byPlace x)) → Dec (map (indexAt o) (map (placeOf o) (x .picks)) ≡ x .picks)
+          → Dec (renamedPhase (indexAt o) (renamedPhase (placeOf o) (x .phase)) ≡ x .phase) → Dec (ReachedOn s o x)
+      go (yes h) (yes p) (yes f) = yes (reached-placed s o counted a x .1 (record { state = byPlace x; good = h; is = ap₂ at p f }))
+      go (no h) p f = no (λ r. h (subst (Good s o counted a) (sym (back-is r)) (placed r .good)))
+      go (yes h) (no p) f = no (λ r. p (ap (λ (y : State). y .picks) (again r)))
+      go (yes h) (yes p) (no f) = no (λ r. f (ap (λ (y : State). y .phase) (again r)))
+
+paused-decided : (v : Value) → Started gaugeSide (v .table) (v .order)
+    → ((s : State) × PausedAt gaugeSide v s) ⊎ ((s : State) → PausedAt gaugeSide v s → ⊥)
 unfolding stateOf
-paused-decided v =
+paused-decided v g =
     go (both (both (List-discrete ℕ-discrete (v .picks) (w .picks)) (ℕ-discrete (v .count) (w .count))) (sound (v .phase)))
-    (fits (candidates (tableRows (v .table))) (stateOf v .picks) (stateOf v .phase))
+    (reached-decided (gaugeSide (v .table)) (held gaugeSide v) (g .fair .counted) (g .arranged) (stateOf v))
   where
     w : Value
-    w = paused (v .table) (v .omit) (stateOf v)
+    w = paused (v .table) (v .order) (v .omit) (stateOf v)
 
     Same : Type 0
     Same = ((v .picks ≡ w .picks) × (v .count ≡ w .count)) × (v .phase ≡ w .phase)
 
     same : (p q : List ℕ) (n m : ℕ) (f g : Phase) → p ≡ q → n ≡ m → f ≡ g
-        → _≡_ {A = Value} (record { table = v .table; picks = p; count = n; phase = f; omit = v .omit })
-        (record { table = v .table; picks = q; count = m; phase = g; omit = v .omit })
+        → _≡_ {A = Value} (record { table = v .table; order = v .order; picks = p; count = n; phase = f; omit = v .omit })
+        (record { table = v .table; order = v .order; picks = q; count = m; phase = g; omit = v .omit })
     same p q n m f g a b c = rw (a, b, c)
 
     its : (s : State) → PausedAt gaugeSide v s → stateOf v ≡ s
-    its s p = ap stateOf (p .stands) ∙ state-paused (v .table) (v .omit) s
+    its s p = ap stateOf (p .stands) ∙ state-paused (v .table) (v .order) (v .omit) s
 
-    go : Dec Same → Dec (Fits (candidates (tableRows (v .table))) (stateOf v .picks) (stateOf v .phase))
+    go : Dec Same → Dec (ReachedOn (gaugeSide (v .table)) (held gaugeSide v) (stateOf v))
         → ((s : State) × PausedAt gaugeSide v s) ⊎ ((s : State) → PausedAt gaugeSide v s → ⊥)
     go (yes e) (yes f) =
         inl (
           stateOf v,
-          record {
-            reached = reached-fits (gaugeSide (v .table)) (stateOf v) .1 f;
-            stands = same (v .picks) (w .picks) (v .count) (w .count) (v .phase) (w .phase) (e .0 .0) (e .0 .1) (e .1);
-          },
+          record { reached = f; stands = same (v .picks) (w .picks) (v .count) (w .count) (v .phase) (w .phase) (e .0 .0) (e .0 .1) (e .1) },
         )
     go (no e) f =
         inr (λ s p.
-        let d : v ≡ w = p .stands ∙ ap (paused (v .table) (v .omit)) (sym (its s p)) in
+        let d : v ≡ w = p .stands ∙ ap (paused (v .table) (v .order) (v .omit)) (sym (its s p)) in
         e ((ap (λ (x : Value). x .picks) d, ap (λ (x : Value). x .count) d), ap (λ (x : Value). x .phase) d))
-    go (yes e) (no f) =
-        inr (λ s p. f (reached-fits (gaugeSide (v .table)) (stateOf v) .0 (subst (ReachedOn (gaugeSide (v .table))) (sym (its s p)) (p .reached))))
+    go (yes e) (no f) = inr (λ s p. f (subst (ReachedOn (gaugeSide (v .table)) (held gaugeSide v)) (sym (its s p)) (p .reached)))
 
 -- ---- the calls of a block
-module _ (t : Table) (omit : Bool) (s : State) (before : List ℕ) where
+module _ (t : Table) (order : List ℕ) (omit : Bool) (s : State) (before : List ℕ) where
   filling-same : (f g : Filling) → f .refusal ≡ g .refusal → f .value ≡ g .value → f .used ≡ g .used → f .over ≡ g .over → f ≡ g
   filling-same f g a b c d = go (f .refusal) (g .refusal) (f .value) (g .value) (f .used) (g .used) (f .over) (g .over) a b c d
     where
@@ -156,11 +193,11 @@ module _ (t : Table) (omit : Bool) (s : State) (before : List ℕ) where
           → _≡_ {A = Filling} (record { refusal = n; value = v; used = i; over = o }) (record { refusal = m; value = w; used = j; over = p })
       go n m v w i j o p a b c d = rw (a, b, c, d)
 
-  fills-unique : (f g : Filling) (x y : List ℕ) → Fills t omit s before f x → Fills t omit s before g y → (f ≡ g) × (x ≡ y)
+  fills-unique : (f g : Filling) (x y : List ℕ) → Fills t order omit s before f x → Fills t order omit s before g y → (f ≡ g) × (x ≡ y)
   fills-unique f g x y a b = (
-    filling-same f g (a .accepted ∙ sym (b .accepted)) (a .value ∙ ap (λ (n : ℕ). paused t omit (after t omit n s)) same ∙ sym (b .value)) used
-        (a .over ∙ ap (λ (n : ℕ). has isEnd (calls t omit n s)) same ∙ sym (b .over)),
-    a .bytes ∙ ap₂ (λ (n k : ℕ). text t omit n s ++ drop k before) same used ∙ sym (b .bytes),
+    filling-same f g (a .accepted ∙ sym (b .accepted)) (a .value ∙ ap (λ (n : ℕ). paused t order omit (after t order omit n s)) same ∙ sym (b .value)) used
+        (a .over ∙ ap (λ (n : ℕ). has isEnd (calls t order omit n s)) same ∙ sym (b .over)),
+    a .bytes ∙ ap₂ (λ (n k : ℕ). text t order omit n s ++ drop k before) same used ∙ sym (b .bytes),
   )
     where
       go : Dec (a .count < b .count) → Dec (b .count < a .count) → a .count ≡ b .count
@@ -172,48 +209,55 @@ module _ (t : Table) (omit : Bool) (s : State) (before : List ℕ) where
       same = go (decLt (a .count) (b .count)) (decLt (b .count) (a .count))
 
       used : f .used ≡ g .used
-      used = a .used ∙ ap (λ (n : ℕ). length (text t omit n s)) same ∙ sym (b .used)
+      used = a .used ∙ ap (λ (n : ℕ). length (text t order omit n s)) same ∙ sym (b .used)
 
-  isStop : (n : ℕ) → Dec (Stops t omit s (length before) n)
-  isStop n = go (Bool-discrete (has isNone (calls t omit n s)) true) (decLt (length before) (length (text t omit n s) + longest))
+  isStop : (n : ℕ) → Dec (Stops t order omit s (length before) n)
+  isStop n = go (Bool-discrete (has isNone (calls t order omit n s)) true) (decLt (length before) (length (text t order omit n s) + longest))
     where
-      neither : ¬ (has isNone (calls t omit n s) ≡ true) → ¬ (length before < length (text t omit n s) + longest) → ¬ Stops t omit s (length before) n
+      neither : ¬ (has isNone (calls t order omit n s) ≡ true) → ¬ (length before < length (text t order omit n s) + longest)
+          → ¬ Stops t order omit s (length before) n
       neither e l (inl h) = e h
       neither e l (inr h) = l h
 
-      go : Dec (has isNone (calls t omit n s) ≡ true) → Dec (length before < length (text t omit n s) + longest) → Dec (Stops t omit s (length before) n)
+      go : Dec (has isNone (calls t order omit n s) ≡ true) → Dec (length before < length (text t order omit n s) + longest)
+          → Dec (Stops t order omit s (length before) n)
       go (yes e) d = yes (inl e)
       go (no e) (yes l) = yes (inr l)
       go (no e) (no l) = no (neither e l)
 
   -- the least number from k on at which they stop
-  least : (fuel k : ℕ) → ((j : ℕ) → j < k → ¬ Stops t omit s (length before) j) → Stops t omit s (length before) (k + fuel)
-      → (n : ℕ) × Stops t omit s (length before) n × ((j : ℕ) → j < n → ¬ Stops t omit s (length before) j)
-  least zero k low h = (k, subst (Stops t omit s (length before)) (add-zero k) h, low)
+  least : (fuel k : ℕ) → ((j : ℕ) → j < k → ¬ Stops t order omit s (length before) j) → Stops t order omit s (length before) (k + fuel)
+      → (n : ℕ) × Stops t order omit s (length before) n × ((j : ℕ) → j < n → ¬ Stops t order omit s (length before) j)
+  least zero k low h = (k, subst (Stops t order omit s (length before)) (add-zero k) h, low)
   least (suc fuel) k low h = go (isStop k) (least fuel (suc k))
     where
-      lower : ¬ Stops t omit s (length before) k → (j : ℕ) → j < suc k → Dec (j ≡ k) → ¬ Stops t omit s (length before) j
-      lower n j l (yes e) = subst (λ (i : ℕ). ¬ Stops t omit s (length before) i) (sym e) n
+      lower : ¬ Stops t order omit s (length before) k → (j : ℕ) → j < suc k → Dec (j ≡ k) → ¬ Stops t order omit s (length before) j
+      lower n j l (yes e) = subst (λ (i : ℕ). ¬ Stops t order omit s (length before) i) (sym e) n
       lower n j l (no e) = low j (omega arith)
 
-      go : Dec (Stops t omit s (length before) k)
-          → (((j : ℕ) → j < suc k → ¬ Stops t omit s (length before) j) → Stops t omit s (length before) (suc k + fuel)
-          → (n : ℕ) × Stops t omit s (length before) n × ((j : ℕ) → j < n → ¬ Stops t omit s (length before) j))
-          → (n : ℕ) × Stops t omit s (length before) n × ((j : ℕ) → j < n → ¬ Stops t omit s (length before) j)
+      go : Dec (Stops t order omit s (length before) k)
+          → (((j : ℕ) → j < suc k → ¬ Stops t order omit s (length before) j) → Stops t order omit s (length before) (suc k + fuel)
+          → (n : ℕ) × Stops t order omit s (length before) n × ((j : ℕ) → j < n → ¬ Stops t order omit s (length before) j))
+          → (n : ℕ) × Stops t order omit s (length before) n × ((j : ℕ) → j < n → ¬ Stops t order omit s (length before) j)
       go (yes z) more = (k, z, low)
       go (no z) more =
           let e : k + suc fuel ≡ suc k + fuel = omega arith in
-          more (λ j l. lower z j l (ℕ-discrete j k)) (subst (Stops t omit s (length before)) e h)
+          more (λ j l. lower z j l (ℕ-discrete j k)) (subst (Stops t order omit s (length before)) e h)
 
-  fills-exist : (f : Filling) × (now : List ℕ) × Fills t omit s before f now
+  fills-exist : (f : Filling) × (now : List ℕ) × Fills t order omit s before f now
   fills-exist =
       let at : length before ≡ 0 + length before = omega arith in
       let (n, z, low) =
-      least (length before) 0 (λ j k. absurd (omega arith)) (subst (Stops t omit s (length before)) at (calls-stop-at t omit (length before) s)) in
+      least (length before) 0 (λ j k. absurd (omega arith)) (subst (Stops t order omit s (length before)) at (calls-stop-at t order omit (length before) s)) in
       let f : Filling =
-      record { refusal = 0; value = paused t omit (after t omit n s); used = length (text t omit n s); over = has isEnd (calls t omit n s) } in (
+      record {
+        refusal = 0;
+        value = paused t order omit (after t order omit n s);
+        used = length (text t order omit n s);
+        over = has isEnd (calls t order omit n s);
+      } in (
         f,
-        text t omit n s ++ drop (f .used) before,
+        text t order omit n s ++ drop (f .used) before,
         record { accepted = refl; count = n; stops = z; sooner = λ j l. low j (omega arith); used = refl; bytes = refl; value = refl; over = refl },
       )
 
@@ -221,66 +265,78 @@ module _ (t : Table) (omit : Bool) (s : State) (before : List ℕ) where
 untouched-unique : (n : ℕ) (before : List ℕ) (f g : Filling) (x y : List ℕ) → Untouched n before f x → Untouched n before g y → (f ≡ g) × (x ≡ y)
 untouched-unique n before f g x y a b = (a .says ∙ sym (b .says), a .buffer ∙ sym (b .buffer))
 
-pub filled-unique : (v : Value) (before : List ℕ) (f g : Filling) (x y : List ℕ) → Filled v before f x → Filled v before g y → (f ≡ g) × (x ≡ y)
-filled-unique v before f g x y a b = go (ℕ-discrete (tableRefusal (v .table)) 0) (paused-decided v) (decLt (length before) longest)
-  where
-    go : Dec (tableRefusal (v .table) ≡ 0) → ((s : State) × PausedAt gaugeSide v s) ⊎ ((s : State) → PausedAt gaugeSide v s → ⊥)
-        → Dec (length before < longest) → (f ≡ g) × (x ≡ y)
-    go (no z) p l = untouched-unique _ before f g x y (a .table (omega (arith, z))) (b .table (omega (arith, z)))
-    go (yes z) (inr n) l = untouched-unique 15 before f g x y (a .value z n) (b .value z n)
-    go (yes z) (inl (s, p)) (yes l) = untouched-unique 16 before f g x y (a .short z s p l) (b .short z s p l)
-    go (yes z) (inl (s, p)) (no l) = fills-unique (v .table) (v .omit) s before f g x y (a .fills z s p (omega arith)) (b .fills z s p (omega arith))
+module _ (v : Value) (rows : length (v .table .rows) ≡ 64) (long : length (v .order) ≡ 64) where
+  -- what a value that 10, 11 and 27 do not refuse comes with
+  starts : valueRefusal gaugeSide v ≡ 0 → Started gaugeSide (v .table) (v .order)
+  starts ok = gauge-started (v .table) rows (v .order) long ok
 
-pub filled-exists : (v : Value) (before : List ℕ) → (f : Filling) × (now : List ℕ) × Filled v before f now
-filled-exists v before = go (ℕ-discrete (tableRefusal (v .table)) 0) (paused-decided v) (decLt (length before) longest)
-  where
-    untouched : (n : ℕ) → Untouched n before (refusing n) before
-    untouched n = record { says = refl; buffer = refl }
+  pub filled-unique : (before : List ℕ) (f g : Filling) (x y : List ℕ) → Filled v before f x → Filled v before g y → (f ≡ g) × (x ≡ y)
+  filled-unique before f g x y a b = go (ℕ-discrete (valueRefusal gaugeSide v) 0) (decLt (length before) longest)
+    where
+      by-state : valueRefusal gaugeSide v ≡ 0 → Dec (length before < longest)
+          → ((s : State) × PausedAt gaugeSide v s) ⊎ ((s : State) → PausedAt gaugeSide v s → ⊥) → (f ≡ g) × (x ≡ y)
+      by-state z l (inr n) = untouched-unique 15 before f g x y (a .value z n) (b .value z n)
+      by-state z (yes l) (inl (s, p)) = untouched-unique 16 before f g x y (a .short z s p l) (b .short z s p l)
+      by-state z (no l) (inl (s, p)) =
+          fills-unique (v .table) (v .order) (v .omit) s before f g x y (a .fills z s p (omega arith)) (b .fills z s p (omega arith))
 
-    go : Dec (tableRefusal (v .table) ≡ 0) → ((s : State) × PausedAt gaugeSide v s) ⊎ ((s : State) → PausedAt gaugeSide v s → ⊥)
-        → Dec (length before < longest) → (f : Filling) × (now : List ℕ) × Filled v before f now
-    go (no z) p l = (
-      refusing (tableRefusal (v .table)),
-      before,
-      record {
-        table = λ h. untouched (tableRefusal (v .table));
-        value = λ e. absurd (z e);
-        short = λ e. absurd (z e);
-        fills = λ e. absurd (z e);
-      },
-    )
-    go (yes z) (inr n) l = (
-      refusing 15,
-      before,
-      record {
-        table = λ h. absurd (omega arith);
-        value = λ e h. untouched 15;
-        short = λ e s p. absurd (n s p);
-        fills = λ e s p. absurd (n s p);
-      },
-    )
-    go (yes z) (inl (s, p)) (yes l) = (
-      refusing 16,
-      before,
-      record {
-        table = λ h. absurd (omega arith);
-        value = λ e h. absurd (h s p);
-        short = λ e x q h. untouched 16;
-        fills = λ e x q h. absurd (omega arith);
-      },
-    )
-    go (yes z) (inl (s, p)) (no l) =
-        let (f, now, h) = fills-exist (v .table) (v .omit) s before in (
-          f,
-          now,
-          record {
-            table = λ k. absurd (omega arith);
-            value = λ e k. absurd (k s p);
-            short = λ e x q k. absurd (omega arith);
-            fills = λ e x q k. subst (λ (y : State). Fills (v .table) (v .omit) y before f now)
-                (paused-state (v .table) (v .omit) s x (sym (p .stands) ∙ q .stands)) h;
-          },
-        )
+      go : Dec (valueRefusal gaugeSide v ≡ 0) → Dec (length before < longest) → (f ≡ g) × (x ≡ y)
+      go (no z) l = untouched-unique _ before f g x y (a .table (omega (arith, z))) (b .table (omega (arith, z)))
+      go (yes z) l = by-state z l (paused-decided v (starts z))
+
+  pub filled-exists : (before : List ℕ) → (f : Filling) × (now : List ℕ) × Filled v before f now
+  filled-exists before = go (ℕ-discrete (valueRefusal gaugeSide v) 0) (decLt (length before) longest)
+    where
+      untouched : (n : ℕ) → Untouched n before (refusing n) before
+      untouched n = record { says = refl; buffer = refl }
+
+      by-state : valueRefusal gaugeSide v ≡ 0 → Dec (length before < longest)
+          → ((s : State) × PausedAt gaugeSide v s) ⊎ ((s : State) → PausedAt gaugeSide v s → ⊥) → (f : Filling) × (now : List ℕ) × Filled v before f now
+      by-state z l (inr n) = (
+        refusing 15,
+        before,
+        record {
+          table = λ h. absurd (omega arith);
+          value = λ e h. untouched 15;
+          short = λ e s p. absurd (n s p);
+          fills = λ e s p. absurd (n s p);
+        },
+      )
+      by-state z (yes l) (inl (s, p)) = (
+        refusing 16,
+        before,
+        record {
+          table = λ h. absurd (omega arith);
+          value = λ e h. absurd (h s p);
+          short = λ e x q h. untouched 16;
+          fills = λ e x q h. absurd (omega arith);
+        },
+      )
+      by-state z (no l) (inl (s, p)) =
+          let (f, now, h) = fills-exist (v .table) (v .order) (v .omit) s before in (
+            f,
+            now,
+            record {
+              table = λ k. absurd (omega arith);
+              value = λ e k. absurd (k s p);
+              short = λ e x q k. absurd (omega arith);
+              fills = λ e x q k. subst (λ (y : State). Fills (v .table) (v .order) (v .omit) y before f now)
+                  (paused-state (v .table) (v .order) (v .omit) s x (sym (p .stands) ∙ q .stands)) h;
+            },
+          )
+
+      go : Dec (valueRefusal gaugeSide v ≡ 0) → Dec (length before < longest) → (f : Filling) × (now : List ℕ) × Filled v before f now
+      go (no z) l = (
+        refusing (valueRefusal gaugeSide v),
+        before,
+        record {
+          table = λ h. untouched (valueRefusal gaugeSide v);
+          value = λ e. absurd (z e);
+          short = λ e. absurd (z e);
+          fills = λ e. absurd (z e);
+        },
+      )
+      go (yes z) l = by-state z l (paused-decided v (starts z))
 
 -- ---- no two answers read alike
 pub filling-injective : (a b : Block) → filling a ≡ filling b → a ≡ b

@@ -13,13 +13,13 @@ use native.Mathlib.Omega.{arith}
 use lib.ListN.{length, take, drop, length-append}
 use lib.Seq.{take-at, drop-drop, drop-append-add}
 use Rattle.table.specs.declared.Table.{Table}
-use Rattle.table.specs.Tables.{tableRefusal}
 use Rattle.rules.specs.Machine.{State}
 use Rattle.rules.specs.Calls.{Call, mostBudget, answered}
 use Rattle.lists.specs.Lists.{gaugeSide}
 use Rattle.lists.specs.OnTable.{ReachedOn}
 use Rattle.runs.specs.Paused.{Value, paused, blankValue}
-use Rattle.runs.specs.Calling.{PausedAt, callOf}
+use Rattle.preference.specs.Preferences.{preferredRefusal}
+use Rattle.runs.specs.Calling.{arrangement, valueRefusal, PausedAt, callOf}
 use Rattle.blocks.specs.Filling.{files, longest, Filling, calls, after, text, isEnd, isNone, has, Untouched, Stops, Fills, Filled}
 use Rattle.blocks.specs.private.Turning.{Checked, placed, Added, Turned, FillsOn}
 use Rattle.blocks.proofs.Calls.{none-ends, text-one, after-one, has-one, reached-after, added-some}
@@ -29,19 +29,19 @@ abbrev pub going : Value → ℕ → Bool → Filling
 going v used over = record { refusal = 0; value = v; used = used; over = over }
 
 -- after n calls, none of which was the last to be made, but for the last where stop says so
-pub record UpTo (t : Table) (omit : Bool) (s : State) (before : List ℕ) (n : ℕ) (stop : Bool) (f : Filling) (now : List ℕ) : Type 0 where
-  pub sooner : (k : ℕ) → k < n → ¬ Stops t omit s (length before) k
-  pub used : f .used ≡ length (text t omit n s)
-  pub bytes : now ≡ text t omit n s ++ drop (f .used) before
-  pub value : f .value ≡ paused t omit (after t omit n s)
-  pub stopped : stop ≡ has isNone (calls t omit n s)
-  pub over : f .over ≡ has isEnd (calls t omit n s)
+pub record UpTo (t : Table) (order : List ℕ) (omit : Bool) (s : State) (before : List ℕ) (n : ℕ) (stop : Bool) (f : Filling) (now : List ℕ) : Type 0 where
+  pub sooner : (k : ℕ) → k < n → ¬ Stops t order omit s (length before) k
+  pub used : f .used ≡ length (text t order omit n s)
+  pub bytes : now ≡ text t order omit n s ++ drop (f .used) before
+  pub value : f .value ≡ paused t order omit (after t order omit n s)
+  pub stopped : stop ≡ has isNone (calls t order omit n s)
+  pub over : f .over ≡ has isEnd (calls t order omit n s)
 
 -- the same for every value that is not refused, as `FillsOn`
 abbrev pub UpToOn : Value → List ℕ → Bool → Filling → List ℕ → Type 0
 UpToOn v before stop f now =
-    tableRefusal (v .table) ≡ 0 → (s : State) → PausedAt gaugeSide v s → longest ≤ length before
-    → (n : ℕ) × UpTo (v .table) (v .omit) s before n stop f now
+    valueRefusal gaugeSide v ≡ 0 → (s : State) → PausedAt gaugeSide v s → longest ≤ length before
+    → (n : ℕ) × UpTo (v .table) (v .order) (v .omit) s before n stop f now
 
 pub upto-start : (v : Value) (before : List ℕ) → UpToOn v before false (going v 0 false) before
 upto-start v before ok s p room =
@@ -61,10 +61,11 @@ bytes-more f text before mid now used next u m n e =
         ap₂ (λ (k : ℕ) (l : List ℕ). drop (k + length text) l) u m ∙ drop-append-add f (drop used before) (length text)
         ∙ drop-drop (length text) used before ∙ ap (λ (k : ℕ). drop k before) (sym n)
 
-module _ (t : Table) (omit : Bool) (ok : tableRefusal t ≡ 0) (s : State) (reached : ReachedOn (gaugeSide t) s) (before : List ℕ) where
+module _ (t : Table) (order : List ℕ) (omit : Bool) (ok : preferredRefusal t (t .gauges) order ≡ 0) (s : State)
+    (reached : ReachedOn (gaugeSide t) (arrangement (gaugeSide t) order) s) (before : List ℕ) where
   -- where it stops, and where it goes on
-  fills-of : (n : ℕ) (stop : Bool) (f : Filling) (now : List ℕ) → f .refusal ≡ 0 → UpTo t omit s before n stop f now → Stops t omit s (length before) n
-      → Fills t omit s before f now
+  fills-of : (n : ℕ) (stop : Bool) (f : Filling) (now : List ℕ) → f .refusal ≡ 0 → UpTo t order omit s before n stop f now
+      → Stops t order omit s (length before) n → Fills t order omit s before f now
   fills-of n stop f now e h z = record {
     accepted = e;
     count = n;
@@ -76,40 +77,41 @@ module _ (t : Table) (omit : Bool) (ok : tableRefusal t ≡ 0) (s : State) (reac
     over = h .over;
   }
 
-  goes-on : (n used : ℕ) (v : Value) (mid : List ℕ) → UpTo t omit s before n false (going v used false) mid → used + longest ≤ length before
-      → ¬ Stops t omit s (length before) n
+  goes-on : (n used : ℕ) (v : Value) (mid : List ℕ) → UpTo t order omit s before n false (going v used false) mid → used + longest ≤ length before
+      → ¬ Stops t order omit s (length before) n
   goes-on n used v mid h room (inl e) = let z : _≡_ {A = Bool} false true = h .stopped ∙ e in let y : _≡_ {A = ℕ} 0 1 = cc in omega arith
   goes-on n used v mid h room (inr l) = omega (arith, l, h .used, room)
 
-  module _ (n used : ℕ) (v : Value) (mid : List ℕ) (h : UpTo t omit s before n false (going v used false) mid) (w : Value) (next : ℕ) (stop over : Bool)
+  module _ (n used : ℕ) (v : Value) (mid : List ℕ) (h : UpTo t order omit s before n false (going v used false) mid) (w : Value) (next : ℕ) (stop over : Bool)
       (now : List ℕ) (turn : Turned v mid used w next stop over now) (same : length mid ≡ length before) (room : used + longest ≤ length before) where
     abbrev made : Call
-    made = callOf t (gaugeSide t) omit mostBudget (after t omit n s)
+    made = callOf t (gaugeSide t) (arrangement (gaugeSide t) order) omit mostBudget (after t order omit n s)
 
-    adds : Added t omit made mid used w next stop over now
+    adds : Added t order omit made mid used w next stop over now
     adds =
-        subst (λ (y : Value). Turned y mid used w next stop over now) (h .value) turn .adds ok (after t omit n s)
-        (record { reached = reached-after t omit n s reached; stands = refl }) (omega (arith, same, room))
+        subst (λ (y : Value). Turned y mid used w next stop over now) (h .value) turn .adds ok (after t order omit n s)
+        (record { reached = reached-after t order omit n s reached; stands = refl }) (omega (arith, same, room))
 
     -- a turn more
-    upto-turn : UpTo t omit s before (suc n) stop (going w next over) now
+    upto-turn : UpTo t order omit s before (suc n) stop (going w next over) now
     upto-turn = record {
       sooner = λ k l. sooner k l (ℕ-discrete k n);
       used =
-          adds .place ∙ ap (λ (k : ℕ). k + length more) (h .used) ∙ sym (length-append (text t omit n s) more) ∙ ap length (sym (text-one t omit n s));
+          adds .place ∙ ap (λ (k : ℕ). k + length more) (h .used) ∙ sym (length-append (text t order omit n s) more)
+          ∙ ap length (sym (text-one t order omit n s));
       bytes =
-          bytes-more (text t omit n s) more before mid now used next (h .used) (h .bytes) (adds .place) (adds .bytes)
-          ∙ ap (λ (y : List ℕ). y ++ drop next before) (sym (text-one t omit n s));
-      value = adds .value ∙ ap (paused t omit) (sym (after-one t omit n s));
-      stopped = adds .stops ∙ sym (has-one t omit isNone n s (sym (h .stopped)));
-      over = adds .ends ∙ sym (has-one t omit isEnd n s (sym (h .over)));
+          bytes-more (text t order omit n s) more before mid now used next (h .used) (h .bytes) (adds .place) (adds .bytes)
+          ∙ ap (λ (y : List ℕ). y ++ drop next before) (sym (text-one t order omit n s));
+      value = adds .value ∙ ap (paused t order omit) (sym (after-one t order omit n s));
+      stopped = adds .stops ∙ sym (has-one t order omit isNone n s (sym (h .stopped)));
+      over = adds .ends ∙ sym (has-one t order omit isEnd n s (sym (h .over)));
     }
       where
         more : List ℕ
         more = files t (answered (made .answer) [])
 
-        sooner : (k : ℕ) → k < suc n → Dec (k ≡ n) → ¬ Stops t omit s (length before) k
-        sooner k l (yes e) = subst (λ (j : ℕ). ¬ Stops t omit s (length before) j) (sym e) (goes-on n used v mid h room)
+        sooner : (k : ℕ) → k < suc n → Dec (k ≡ n) → ¬ Stops t order omit s (length before) k
+        sooner k l (yes e) = subst (λ (j : ℕ). ¬ Stops t order omit s (length before) j) (sym e) (goes-on n used v mid h room)
         sooner k l (no e) = h .sooner k (omega arith)
 
     -- one that hands something out has a file
@@ -120,24 +122,24 @@ module _ (t : Table) (omit : Bool) (ok : tableRefusal t ≡ 0) (s : State) (reac
 module _ (v : Value) (before : List ℕ) where
   -- no room for the longest file
   pub full-on : (stop : Bool) (f : Filling) (now : List ℕ) → f .refusal ≡ 0 → UpToOn v before stop f now
-      → (tableRefusal (v .table) ≡ 0 → (s : State) → PausedAt gaugeSide v s → longest ≤ length before → length before < f .used + longest)
+      → (valueRefusal gaugeSide v ≡ 0 → (s : State) → PausedAt gaugeSide v s → longest ≤ length before → length before < f .used + longest)
       → FillsOn v before f now
   full-on stop f now e h z ok s p l =
       let (n, u) = h ok s p l in
-      fills-of (v .table) (v .omit) ok s (p .reached) before n stop f now e u (inr (omega (arith, z ok s p l, u .used)))
+      fills-of (v .table) (v .order) (v .omit) ok s (p .reached) before n stop f now e u (inr (omega (arith, z ok s p l, u .used)))
 
   -- nothing was handed out
   pub stop-on : (stop : Bool) (f : Filling) (now : List ℕ) → f .refusal ≡ 0 → UpToOn v before stop f now → stop ≡ true → FillsOn v before f now
   stop-on stop f now e h o ok s p l =
       let (n, u) = h ok s p l in
-      fills-of (v .table) (v .omit) ok s (p .reached) before n stop f now e u (inl (sym (u .stopped) ∙ o))
+      fills-of (v .table) (v .order) (v .omit) ok s (p .reached) before n stop f now e u (inl (sym (u .stopped) ∙ o))
 
   -- something was, so it was no end
   pub going-on : (stop over : Bool) (w : Value) (next : ℕ) (now : List ℕ) → UpToOn v before stop (going w next over) now → stop ≡ false
       → UpToOn v before false (going w next false) now
   going-on stop over w next now h e ok s p l =
       let (n, u) = h ok s p l in
-      let none : has isNone (calls (v .table) (v .omit) n s) ≡ false = sym (u .stopped) ∙ e in (
+      let none : has isNone (calls (v .table) (v .order) (v .omit) n s) ≡ false = sym (u .stopped) ∙ e in (
         n,
         record {
           sooner = u .sooner;
@@ -145,7 +147,7 @@ module _ (v : Value) (before : List ℕ) where
           bytes = u .bytes;
           value = u .value;
           stopped = sym none;
-          over = sym (none-ends (calls (v .table) (v .omit) n s) none);
+          over = sym (none-ends (calls (v .table) (v .order) (v .omit) n s) none);
         },
       )
 
@@ -154,12 +156,12 @@ module _ (v : Value) (before : List ℕ) where
     pub turn-on : UpToOn v before stop (going w next over) now
     turn-on ok s p l =
         let (n, x) = h ok s p l in
-        (suc n, upto-turn (v .table) (v .omit) ok s (p .reached) before n used u mid x w next stop over now turn same room)
+        (suc n, upto-turn (v .table) (v .order) (v .omit) ok s (p .reached) before n used u mid x w next stop over now turn same room)
 
-    pub some-on : tableRefusal (v .table) ≡ 0 → (s : State) → PausedAt gaugeSide v s → longest ≤ length before → stop ≡ false → used < next
+    pub some-on : valueRefusal gaugeSide v ≡ 0 → (s : State) → PausedAt gaugeSide v s → longest ≤ length before → stop ≡ false → used < next
     some-on ok s p l =
         let (n, x) = h ok s p l in
-        some-turn (v .table) (v .omit) ok s (p .reached) before n used u mid x w next stop over now turn same room
+        some-turn (v .table) (v .order) (v .omit) ok s (p .reached) before n used u mid x w next stop over now turn same room
 
 -- ---- what `fill` answers
 abbrev pub refusing : ℕ → Filling

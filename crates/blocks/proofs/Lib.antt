@@ -7,3 +7,4 @@ pub mod Fillings
 pub mod Deciding
 pub mod Listing
 pub mod Existence
+pub mod PlainBlocks

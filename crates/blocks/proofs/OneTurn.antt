@@ -25,8 +25,9 @@ use Rattle.rules.specs.Calls.{Reply, refused, spent, handed, end, Call, mostBud
 use Rattle.rules.proofs.Reports.{only18-by}
 use Rattle.lists.specs.Lists.{Side, gaugeSide}
 use Rattle.lists.specs.OnTable.{handOut}
+use Rattle.preference.proofs.Placing.{passes-both}
 use Rattle.runs.specs.Paused.{Value, paused}
-use Rattle.runs.specs.Calling.{Step, byRules, told, movesOf, callOf, refusal, PausedAt, Called}
+use Rattle.runs.specs.Calling.{Step, byRules, told, movesOf, callOf, refusal, held, valueRefusal, PausedAt, Called}
 use Rattle.writer.specs.Writing.{writeFile, roomRefusal, writeRefusal, writeAnswer, bufferAfter}
 use Rattle.writer.proofs.Sizes.{write-length}
 use Rattle.writer.proofs.Files.{long-enough}
@@ -35,27 +36,30 @@ use Rattle.blocks.specs.private.Turning.{Checked, placed, Put, Turned}
 use Rattle.blocks.proofs.Chains.{pair-legal, handed-within}
 
 -- ---- what the rules give for a call
-told-answer : (t : Table) (y : Side) (omit : Bool) (a : Reply) (k : ℕ) (s : State) → byRules t y omit a k s .answer ≡ a
-told-answer t y omit (refused n) k s = refl
-told-answer t y omit spent k s = refl
-told-answer t y omit (handed x) k s = refl
-told-answer t y omit end k s = refl
+told-answer : (t : Table) (y : Side) (order : List ℕ) (omit : Bool) (a : Reply) (k : ℕ) (s : State) → byRules t y order omit a k s .answer ≡ a
+told-answer t y order omit (refused n) k s = refl
+told-answer t y order omit spent k s = refl
+told-answer t y order omit (handed x) k s = refl
+told-answer t y order omit end k s = refl
 
-module _ (v : Value) (b : ℕ) (r : Step) (c : Called gaugeSide v b r) (ok : tableRefusal (v .table) ≡ 0) (s : State) (p : PausedAt gaugeSide v s) where
+module _ (v : Value) (b : ℕ) (r : Step) (c : Called gaugeSide v b r) (ok : valueRefusal gaugeSide v ≡ 0) (s : State) (p : PausedAt gaugeSide v s) where
   abbrev made : Call
-  made = callOf (v .table) (gaugeSide (v .table)) (v .omit) b s
+  made = callOf (v .table) (gaugeSide (v .table)) (held gaugeSide v) (v .omit) b s
 
-  by-rules : r ≡ told (v .table) (gaugeSide (v .table)) (v .omit) made
+  by-rules : r ≡ told (v .table) (gaugeSide (v .table)) (v .order) (v .omit) made
   by-rules = c .rules ok s p
 
   same-answer : made .answer ≡ r .answer
-  same-answer = sym (ap (λ (x : Step). x .answer) by-rules ∙ told-answer (v .table) (gaugeSide (v .table)) (v .omit) (made .answer) (made .moves) (made .next))
+  same-answer =
+      sym (ap (λ (x : Step). x .answer) by-rules
+      ∙ told-answer (v .table) (gaugeSide (v .table)) (v .order) (v .omit) (made .answer) (made .moves) (made .next))
 
-  as-answered : (a : Reply) → r .answer ≡ a → r ≡ byRules (v .table) (gaugeSide (v .table)) (v .omit) a (made .moves) (made .next)
-  as-answered a e = by-rules ∙ ap (λ (x : Reply). byRules (v .table) (gaugeSide (v .table)) (v .omit) x (made .moves) (made .next)) (same-answer ∙ e)
+  as-answered : (a : Reply) → r .answer ≡ a → r ≡ byRules (v .table) (gaugeSide (v .table)) (v .order) (v .omit) a (made .moves) (made .next)
+  as-answered a e = by-rules ∙ ap (λ (x : Reply). byRules (v .table) (gaugeSide (v .table)) (v .order) (v .omit) x (made .moves) (made .next)) (same-answer ∙ e)
 
   never-refused : b ≤ mostBudget → (n : ℕ) → r .answer ≡ refused n → ⊥
-  never-refused l n e = only18-by (movesOf (v .table) (gaugeSide (v .table)) (v .omit)) (handOut (gaugeSide (v .table))) b s .else l n (same-answer ∙ e)
+  never-refused l n e =
+      only18-by (movesOf (v .table) (gaugeSide (v .table)) (held gaugeSide v) (v .omit)) (handOut (gaugeSide (v .table))) b s .else l n (same-answer ∙ e)
 
 -- ---- the check of a value
 refused-same : (r : Step) (n m : ℕ) → r .answer ≡ refused n → r ≡ refusal m → n ≡ m
@@ -70,7 +74,7 @@ checked-refused v r c n e = record {
 
 pub checked-passed : (v : Value) (r : Step) → Called gaugeSide v 0 r → ((n : ℕ) → r .answer ≡ refused n → ⊥) → Checked v 0
 checked-passed v r c k = record {
-  table = λ h. absurd (k (tableRefusal (v .table)) (ap (λ (x : Step). x .answer) (c .table h)));
+  table = λ h. absurd (k (valueRefusal gaugeSide v) (ap (λ (x : Step). x .answer) (c .table h)));
   value = λ z n. absurd (k 15 (ap (λ (x : Step). x .answer) (c .value z n)));
   legal = λ z s p. refl;
 }
@@ -144,13 +148,13 @@ module _ (v : Value) (size : length (v .table .rows) ≡ 64) (r : Step) (called 
 
   -- an answer without a set, "spent" or "end"
   pub turned-none : (a : Reply) → answered a [] ≡ []
-      → ((k : ℕ) (s : State) → byRules (v .table) (gaugeSide (v .table)) (v .omit) a k s .next ≡ paused (v .table) (v .omit) s)
+      → ((k : ℕ) (s : State) → byRules (v .table) (gaugeSide (v .table)) (v .order) (v .omit) a k s .next ≡ paused (v .table) (v .order) (v .omit) s)
       → r .answer ≡ a
       → (w : Value) → w ≡ r .next → Turned v before at w at (isNone a) (isEnd a) before
   turned-none a none kept e w d = record {
     inside = low;
     adds = λ ok s p room.
-        let c : Call = callOf (v .table) (gaugeSide (v .table)) (v .omit) mostBudget s in
+        let c : Call = callOf (v .table) (gaugeSide (v .table)) (held gaugeSide v) (v .omit) mostBudget s in
         let same : c .answer ≡ a = same-answer v mostBudget r called ok s p ∙ e in
         record {
           place = rw (same, none) (sym (add-zero at));
@@ -171,14 +175,15 @@ module _ (v : Value) (size : length (v .table .rows) ≡ 64) (r : Step) (called 
     inside = h .inside;
     adds = λ ok s p room.
         let t : Table = v .table in
-        let c : Call = callOf t (gaugeSide t) (v .omit) mostBudget s in
+        let c : Call = callOf t (gaugeSide t) (held gaugeSide v) (v .omit) mostBudget s in
         let a : c .answer ≡ handed x = same-answer v mostBudget r called ok s p ∙ e in
-        let told : r ≡ byRules t (gaugeSide t) (v .omit) (handed x) (c .moves) (c .next) =
+        let told : r ≡ byRules t (gaugeSide t) (v .order) (v .omit) (handed x) (c .moves) (c .next) =
         as-answered v mostBudget r called ok s p (handed x) e in
         let table : record { gauges = r .chain .gauges; cases = t .cases; rows = r .chain .rows } ≡ pairTable t x =
         ap (λ (y : Step). record { gauges = y .chain .gauges; cases = t .cases; rows = y .chain .rows }) told in
         let put : Put (pairTable t x) before at next now = subst (λ (y : Table). Put y before at next now) table h in
-        let legal : Legal (pairTable t x) = pair-legal t (legal-of t size ok) x (handed-within t (v .omit) s x a) in
+        let own : Legal t = legal-of t size (passes-both t (t .gauges) (v .order) ok .0) in
+        let legal : Legal (pairTable t x) = pair-legal t own x (handed-within t (v .order) (v .omit) s x a) in
         let f = put .file (legal-passes (pairTable t x) legal) (omega (arith, write-length (pairTable t x) legal, room)) in
         record {
           place = rw (a, append-nil (writeFile (pairTable t x))) (f .0);

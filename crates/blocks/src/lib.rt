@@ -1,7 +1,8 @@
 // Blocks of files: a lent buffer is filled with the files of the sets that successive calls of the gauge run hand out, as many as have room
-// for sure, and the blocks one after another are the files of the gauge list. In each call of the greatest budget a run that omits nothing
+// for sure, and the blocks one after another are the files of the run's list. In each call of the greatest budget a run that omits nothing
 // hands a ladder out or ends; one that omits may be spent, and its block stops there. No public function has a `requires`; nothing outside
 // the lent buffer is kept.
+use preference::GaugeOrder;
 use refusals::Refusal;
 use refusals::Verdict;
 use runs;
@@ -44,7 +45,7 @@ struct Turn {
     over: bool,
 }
 
-// Fills a buffer with the files of the next ladders, on any paused value: 10, 11 and 15 are refused, then 16 for a buffer shorter than the
+// Fills a buffer with the files of the next ladders, on any paused value: 10, 11, 27 and 15 are refused, then 16 for a buffer shorter than the
 // longest file. After the blocks that led to the value, it carries the list on.
 pub fn fill(run: GaugeRun, out: &mut [u8]) -> Block
     ensures { λ r. ⌜ Filled (gaugeValue run) (now (out .entry)) (filling r) (now (out .exit)) ⌝ }
@@ -105,8 +106,10 @@ fn refuse(why: Refusal) -> Block
         cases: 0,
         rows: [0u64; 64],
     };
+    let none = GaugeOrder([0u8; 64]);
     let run = GaugeRun {
         table: blank,
+        order: none,
         picks: GaugePicks([0u8; 64]),
         count: 0,
         phase: Phase::Down,

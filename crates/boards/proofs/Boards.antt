@@ -16,6 +16,7 @@ use Rattle.table.specs.Pairs.{row, Has, Within, Cases}
 use Rattle.table.proofs.Places.{row-past, place-has, within-sub}
 use Rattle.rules.specs.Sequences.{All, Sorted}
 use Rattle.rules.proofs.Sequences.{Ascending, sorted-unique}
+use Rattle.lists.specs.PickSequence.{pickSeq}
 use Rattle.lists.specs.Lists.{SideList}
 use Rattle.lists.proofs.Selecting.{mem-select, select-ascends}
 use Rattle.pairs.specs.PairOrder.{Pair, holds, PairBefore, PairList, pairs}
@@ -107,7 +108,7 @@ module _ (w : ℕ) (r : List ℕ) (t : Fits8 w r) where
           (omega (arith, a), subst T (sym (bit-place r (t .small) (k .0) h)) (has-holds r (k .0) h)))
 
   -- ---- the search over the numbers is the search over the sets
-  module _ (ls : List (List ℕ)) (gl : SideList r (λ x. x) ls) where
+  module _ (ls : List (List ℕ)) (gl : SideList r pickSeq ls) where
     small-ladder : (l : List ℕ) → List·Memᴰ l ls → Small l
     small-ladder l m = small-within r l (t .small) (gl .members l .0 m .within)
 

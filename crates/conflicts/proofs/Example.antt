@@ -11,6 +11,7 @@ use Rattle.sets.specs.Sets.{bit, meet, isSubset, isProperSubset}
 use Rattle.sets.specs.Lists.{tabulate, allBelow}
 use Rattle.table.specs.Pairs.{row, Within, Cases}
 use Rattle.table.proofs.Places.{small-cases}
+use Rattle.lists.specs.PickSequence.{pickSeq}
 use Rattle.lists.specs.Lists.{SideList}
 use Rattle.lists.specs.PickSequence.{isIn}
 use Rattle.lists.specs.Picks.{common, rulesOut, candidate, select, candidates}
@@ -60,8 +61,8 @@ three-cases = small-cases 3 three low
     low (suc (suc zero)) = omega arith
     low (suc (suc (suc i))) = omega arith
 
-listed : SideList three (λ x. x) (first ∷ second ∷ third ∷ [])
-listed = subst (SideList three (λ x. x)) three-listed (gauge-list three)
+listed : SideList three pickSeq (first ∷ second ∷ third ∷ [])
+listed = subst (SideList three pickSeq) three-listed (gauge-list three)
 
 within : (m : List ℕ) → List·Memᴰ m (first ∷ second ∷ third ∷ []) → Within three m
 within m k = listed .members m .0 k .within
@@ -70,7 +71,7 @@ second-none : HoldsEssential three second → ⊥
 second-none h = subst T second-holds (holds-test 3 three three-cases second (within second (List·Memᴰ·tail (List·Memᴰ·head refl))) .1 h)
 
 -- what is said above, of the definitions
-pub three-example : SideList three (λ x. x) (first ∷ second ∷ third ∷ []) × HoldsEssential three first × (HoldsEssential three second → ⊥)
+pub three-example : SideList three pickSeq (first ∷ second ∷ third ∷ []) × HoldsEssential three first × (HoldsEssential three second → ⊥)
     × HoldsEssential three third × (InIrreducible three second → ⊥)
 three-example = (
   listed,

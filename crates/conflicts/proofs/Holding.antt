@@ -15,6 +15,7 @@ use Rattle.table.specs.Chains.{IsMaximal}
 use Rattle.table.proofs.Places.{has-place, place-has, by-place}
 use Rattle.lists.specs.Picks.{common}
 use Rattle.lists.specs.OnTable.{chainOf}
+use Rattle.lists.specs.PickSequence.{pickSeq}
 use Rattle.lists.specs.Growing.{FirstContaining}
 use Rattle.lists.proofs.ChainRows.{row-hit, row-miss, row-chainOf, chainOf-within, chainOf-chain}
 use Rattle.lists.proofs.Growing.{grow, grow-first}
@@ -57,7 +58,7 @@ module _ (r : List ℕ) where
       s : List ℕ
       s = chainOf r (i ∷ j ∷ [])
 
-      f : FirstContaining r s (chainOf r (grow r s))
+      f : FirstContaining r pickSeq s (chainOf r (grow r s))
       f = grow-first r s (chainOf-within r (i ∷ j ∷ [])) (chainOf-chain r (i ∷ j ∷ []))
 
   joined : (g c h d : ℕ) → Has r g c → Has r h d → Has r g d → Common r g c h d

@@ -1,6 +1,6 @@
--- The run that omits, on both sides of every legal table (`omits-gauges`, `omits-cases`): one theorem over a whole list of calls. It leaves one
--- list of calls (`omits-unique`), some list of calls comes to the end (`omitting-ends`), "on a table without pairs it hands out nothing"
--- (`nothing-handed`), and where every maximal chain holds an essential pair the calls are those of demand 3 (`nothing-omitted`).
+-- The run that omits, on both sides of every legal table and under every preference (`omits-gauges`, `omits-cases`): one theorem over a whole list
+-- of calls. It leaves one list of calls (`omits-unique`), some list of calls comes to the end (`omitting-ends`), "on a table without pairs it
+-- hands out nothing" (`nothing-handed`), and where every maximal chain holds an essential pair the calls are those of demand 3 (`nothing-omitted`).
 use mathlib.Core.Path.{_≡_, refl, _∙_}
 use mathlib.Core.Logic.{_↔_}
 use mathlib.Core.Bool.{true}
@@ -16,9 +16,10 @@ use Rattle.table.proofs.Nesting.{NoPairs}
 use Rattle.rules.specs.Calls.{end, Call, handouts}
 use Rattle.rules.specs.Keeping.{kept}
 use Rattle.rules.proofs.Kept.{mem-kept}
+use Rattle.lists.specs.Arrangements.{IsArrangement}
 use Rattle.lists.specs.Lists.{Side, gaugeSide, caseSide}
 use Rattle.lists.specs.OnTable.{callsOn}
-use Rattle.lists.proofs.BothSides.{Fair, sideList, side-list, gauge-fair, case-fair}
+use Rattle.lists.proofs.BothSides.{Fair, gauge-fair, case-fair}
 use Rattle.lists.proofs.Keeping.{demand-keeping, keeping-ends, keeping-all, keeping-unique}
 use Rattle.conflicts.specs.Conflicts.{HoldsEssential}
 use Rattle.conflicts.specs.Omitting.{keepsOf, omittingCalls, Omits}
@@ -36,29 +37,30 @@ module _ (t : Table) (l : Legal t) where
     λ h. mem-kept (keepsOf t) xs x .1 (f x .1 (h .0), holds-test (t .cases) (tableRows t) (legal-cases t l) x (h .0 .within) .1 (h .1)),
   )
 
-  module _ (s : Side) (f : Fair t s) where
-    pub omits : (bs : List ℕ) → Omits t s bs (omittingCalls t s bs)
-    omits bs = let d = demand-keeping t s f (keepsOf t) bs in record { keeping = d; members = kept-members (d .list) (d .listed .members) }
+  module _ (s : Side) (f : Fair t s) (o : List ℕ) (a : IsArrangement (s .count) o) where
+    pub omits : (bs : List ℕ) → Omits t s o bs (omittingCalls t s o bs)
+    omits bs = let d = demand-keeping t s f o a (keepsOf t) bs in record { keeping = d; members = kept-members (d .list) (d .listed .members) }
 
-    pub nothing-omitted : ((x : List ℕ) → IsMaximal (tableRows t) x → HoldsEssential (tableRows t) x) → (bs : List ℕ) → omittingCalls t s bs ≡ callsOn s bs
-    nothing-omitted a bs =
-        keeping-all t s f (keepsOf t) (sideList t s f) (side-list t s f)
-        (λ x m. let k = side-list t s f .members x .0 m in keeps-yes x k (a x k)) bs
+    pub nothing-omitted : ((x : List ℕ) → IsMaximal (tableRows t) x → HoldsEssential (tableRows t) x) → (bs : List ℕ)
+        → omittingCalls t s o bs ≡ callsOn s o bs
+    nothing-omitted h bs =
+        let d = demand-keeping t s f o a (keepsOf t) bs in
+        keeping-all t s f o a (keepsOf t) (d .list) (d .listed) (λ x m. let k = d .listed .members x .0 m in keeps-yes x k (h x k)) bs
 
-  pub omits-gauges : (bs : List ℕ) → Omits t (gaugeSide t) bs (omittingCalls t (gaugeSide t) bs)
-  omits-gauges bs = omits (gaugeSide t) (gauge-fair t l) bs
+    pub omitting-ends : (bs : List ℕ) × (c : Call) × List·Memᴰ c (omittingCalls t s o bs) × (c .answer ≡ end)
+    omitting-ends = keeping-ends t s f o a (keepsOf t)
 
-  pub omits-cases : (bs : List ℕ) → Omits t (caseSide t) bs (omittingCalls t (caseSide t) bs)
-  omits-cases bs = omits (caseSide t) (case-fair t l) bs
+  pub omits-gauges : (o : List ℕ) → IsArrangement (t .gauges) o → (bs : List ℕ) → Omits t (gaugeSide t) o bs (omittingCalls t (gaugeSide t) o bs)
+  omits-gauges o a bs = omits (gaugeSide t) (gauge-fair t l) o a bs
 
-  pub omitting-ends : (s : Side) → Fair t s → (bs : List ℕ) × (c : Call) × List·Memᴰ c (omittingCalls t s bs) × (c .answer ≡ end)
-  omitting-ends s f = keeping-ends t s f (keepsOf t)
+  pub omits-cases : (o : List ℕ) → IsArrangement (t .cases) o → (bs : List ℕ) → Omits t (caseSide t) o bs (omittingCalls t (caseSide t) o bs)
+  omits-cases o a bs = omits (caseSide t) (case-fair t l) o a bs
 
-pub omits-unique : (t : Table) (s : Side) (bs : List ℕ) (cs ds : List Call) → Omits t s bs cs → Omits t s bs ds → cs ≡ ds
-omits-unique t s bs cs ds a b = keeping-unique t s (keepsOf t) bs cs ds (a .keeping) (b .keeping)
+pub omits-unique : (t : Table) (s : Side) (o bs : List ℕ) (cs ds : List Call) → Omits t s o bs cs → Omits t s o bs ds → cs ≡ ds
+omits-unique t s o bs cs ds a b = keeping-unique t s o (keepsOf t) bs cs ds (a .keeping) (b .keeping)
 
-pub nothing-handed : (t : Table) (s : Side) (bs : List ℕ) (cs : List Call) → NoPairs (tableRows t) → Omits t s bs cs → handouts cs ≡ []
-nothing-handed t s bs cs n o = front (handouts cs) (o .keeping .front .0) (o .keeping .front .1 ∙ none (kept (keepsOf t) (o .keeping .list)) refl)
+pub nothing-handed : (t : Table) (s : Side) (p bs : List ℕ) (cs : List Call) → NoPairs (tableRows t) → Omits t s p bs cs → handouts cs ≡ []
+nothing-handed t s p bs cs n o = front (handouts cs) (o .keeping .front .0) (o .keeping .front .1 ∙ none (kept (keepsOf t) (o .keeping .list)) refl)
   where
     none : (xs : List (List ℕ)) → kept (keepsOf t) (o .keeping .list) ≡ xs → xs ≡ []
     none [] e = refl

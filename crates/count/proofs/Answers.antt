@@ -1,32 +1,44 @@
--- The answers of counting, each by what led to it: the clauses of `dueAnswer`, the first call for a legal table, and what each return of
--- the code says (`Counts`), by the lists of proofs/Reached.antt and of crate `lists`.
+-- The answers of counting, each by what led to it: the clauses of `dueAnswer`, the first call for a legal table and a preference of its gauges,
+-- and what each return of the code says (`Counts`), by the lists of proofs/Reached.antt and of crate `lists`.
 use mathlib.Core.Path.{_≡_, refl, sym, ap, ap₂, _∙_, subst}
-use mathlib.Core.List.{List, []}
+use mathlib.Core.Bool.{cond}
+use mathlib.Core.List.{List, [], map}
 use Prim.Native.Nat.{ℕ, zero, suc, _-_, _^_, _≤_, _<_}
 use native.Mathlib.Nat.{min-eq-left}
-use native.Mathlib.Decide.{decLt}
+use native.Mathlib.Decide.{ℕ-discrete, decLt}
 use native.Mathlib.Omega.{arith}
 use lib.Count.{ones}
-use lib.Dec.{ltb}
+use lib.Dec.{eqb, ltb}
 use lib.ListN.{length, length-map}
 use lib.Pow.{pow-mono}
 use borrow.Author.Tests.{lt-ltb, le-ltb, le-leb, lt-leb, eq-eqb, ne-eqb}
 use Rattle.sets.specs.Sets.{_⊆_, bit, lowest}
-use Rattle.sets.proofs.Order.{subset-is}
+use Rattle.sets.proofs.Order.{subset-is, zero-sub}
 use Rattle.sets.proofs.Masks.{lowest-up, below-lowest}
 use Rattle.sets.proofs.OnePlace.{bit-lowest}
 use Rattle.table.specs.Pairs.{row}
-use Rattle.table.specs.Tables.{Legal, tableRefusal, tableRows}
+use Rattle.table.specs.Tables.{Legal, tableRows, padded}
 use Rattle.refusals.specs.Answers.{number}
 use Rattle.table.specs.declared.Table.{Table}
 use Rattle.refusals.specs.declared.Refusal.{Refusal}
 use Rattle.refusals.proofs.Answering.{number-pos}
-use Rattle.table.proofs.Legality.{length-rows, row-tableRows}
+use Rattle.table.proofs.Legality.{legal-of, row-tableRows}
 use Rattle.table.proofs.Places.{row-past}
+use Rattle.table.proofs.Padding.{pad-getD}
+use Rattle.lists.specs.Arrangements.{IsArrangement}
 use Rattle.lists.specs.Lists.{gaugeSide}
 use Rattle.lists.specs.Picks.{candidates}
-use Rattle.lists.specs.OnTable.{chainOf}
-use Rattle.lists.proofs.Listed.{picksInOrder, chainsInOrder, gauge-list}
+use Rattle.lists.specs.OnTable.{handOut}
+use Rattle.lists.specs.private.Arranging.{indexAt, arrange, prefer}
+use Rattle.lists.proofs.Arranging.{length-arrange, arrange-moves}
+use Rattle.lists.proofs.Listed.{picksInOrder}
+use Rattle.lists.proofs.BothSides.{Fair, gauge-fair, sideList}
+use Rattle.lists.proofs.PreferredSides.{prefer-fair, preferred-list}
+use Rattle.preference.specs.Preferences.{preferredRefusal, orderOf}
+use Rattle.preference.specs.private.Placing.{gathered}
+use Rattle.preference.proofs.Holding.{preference-of}
+use Rattle.preference.proofs.Placing.{passes-both}
+use Rattle.preference.proofs.Gathering.{gathered-array}
 use Rattle.search.specs.Finding.{within}
 use Rattle.search.proofs.AfterPicks.{full, Rows, After, after-fresh}
 use Rattle.search.proofs.Within.{row-in, row-out}
@@ -41,123 +53,163 @@ use Rattle.count.proofs.Nodes.{nodes}
 use Rattle.count.proofs.Reached.{reachedInOrder, pick-sequences, calls-nodes, ladders-leaves}
 
 -- ---- the clauses of an answer
-module _ (n b l s : ℕ) where
-  pub due-refused : 0 < n → dueAnswer n b l s ≡ refused n
+module _ (b l s : ℕ) where
+  pub due-large : mostCalls < b → dueAnswer b l s ≡ refused 18
   unfolding dueAnswer
-  due-refused h = rw (ne-eqb n 0 (λ e. omega arith))
+  due-large h = rw (lt-ltb mostCalls b h)
 
-  pub due-large : n ≡ 0 → mostCalls < b → dueAnswer n b l s ≡ refused 18
+  pub due-counted : b ≤ mostCalls → s ≤ b → dueAnswer b l s ≡ counted l s
   unfolding dueAnswer
-  due-large e h = rw (eq-eqb n 0 e, lt-ltb mostCalls b h)
+  due-counted h k = rw (le-ltb mostCalls b h, le-leb s b k)
 
-  pub due-counted : n ≡ 0 → b ≤ mostCalls → s ≤ b → dueAnswer n b l s ≡ counted l s
+  pub due-spent : b ≤ mostCalls → b < s → dueAnswer b l s ≡ spent b
   unfolding dueAnswer
-  due-counted e h k = rw (eq-eqb n 0 e, le-ltb mostCalls b h, le-leb s b k)
-
-  pub due-spent : n ≡ 0 → b ≤ mostCalls → b < s → dueAnswer n b l s ≡ spent b
-  unfolding dueAnswer
-  due-spent e h k = rw (eq-eqb n 0 e, le-ltb mostCalls b h, lt-leb s b k)
+  due-spent h k = rw (le-ltb mostCalls b h, lt-leb s b k)
 
 -- the empty sequence is one of them
 pub nodes-some : (kids : List ℕ → List ℕ) (f : ℕ) (p : List ℕ) → 1 ≤ length (nodes kids f p)
 nodes-some kids zero p = omega arith
 nodes-some kids (suc f) p = omega arith
 
--- ---- what each return says
-module _ (t : Table) (b : ℕ) where
-  abbrev ladders : ℕ
-  ladders = length (chainsInOrder (tableRows t))
+-- ---- a refused table, or a preference that is none
+pub counts-refused : (t : Table) (k : List ℕ) (b : ℕ) (x : Refusal) → number x ≡ preferredRefusal t (t .gauges) k → Counts t k b (refused (number x))
+counts-refused t k b x e = record { refusal = λ l. ap refused e; count = λ z. absurd (omega (arith, e, z, number-pos x)) }
+
+-- ---- what each return says, of a legal table and a preference of its gauges
+pub record Given (t : Table) (k : List ℕ) : Type 0 where
+  pub size : length (t .rows) ≡ 64
+  pub long : length k ≡ 64
+  pub passes : preferredRefusal t (t .gauges) k ≡ 0
+
+module _ (t : Table) (k : List ℕ) (b : ℕ) (g : Given t k) where
+  abbrev n : ℕ
+  n = t .gauges
+
+  abbrev o : List ℕ
+  o = orderOf (t .gauges) k
+
+  -- the table's rows in the order of the preference
+  abbrev rows : List ℕ
+  rows = arrange (orderOf (t .gauges) k) (tableRows t)
+
+  pub legal : Legal t
+  legal = legal-of t (g .size) (passes-both t (t .gauges) k (g .passes) .0)
+
+  pub arranged : IsArrangement (t .gauges) (orderOf (t .gauges) k)
+  arranged = preference-of (t .gauges) k (legal .gauges-high) (g .long) (rw (passes-both t (t .gauges) k (g .passes) .1) tt) .arranged
+
+  fair : Fair t (gaugeSide t)
+  fair = gauge-fair t legal
 
   abbrev sequences : ℕ
-  sequences = length (reachedInOrder (gaugeSide t))
+  sequences = length (nodes (candidates rows) (length rows) [])
 
-  counts-by : (a : CountAnswer) → a ≡ dueAnswer (tableRefusal t) b ladders sequences → Counts t b a
+  abbrev ladders : ℕ
+  ladders = length (picksInOrder rows)
+
+  counts-by : (a : CountAnswer) → a ≡ dueAnswer b ladders sequences → Counts t k b a
   counts-by a e = record {
-    ladders = chainsInOrder (tableRows t);
-    listed = gauge-list (tableRows t);
-    sequences = reachedInOrder (gaugeSide t);
-    reached = pick-sequences (gaugeSide t);
-    says = e;
+    refusal = λ l. absurd (omega (arith, g .passes));
+    count = λ z. record {
+      ladders = sideList t (prefer o (gaugeSide t)) (prefer-fair t (gaugeSide t) fair o arranged);
+      listed = preferred-list t (gaugeSide t) fair o arranged;
+      sequences = reachedInOrder (gaugeSide t) o (fair .counted) arranged;
+      reached = pick-sequences (gaugeSide t) o (fair .counted) arranged;
+      says =
+          e
+          ∙ sym (ap₂ (dueAnswer b) (length-map (picksInOrder rows) (handOut (prefer o (gaugeSide t))))
+          (length-map (nodes (candidates rows) (length rows) []) (map (indexAt o))));
+    };
   }
 
-  -- there is an answer for every table and every budget
-  pub counts-some : Counts t b (dueAnswer (tableRefusal t) b ladders sequences)
-  counts-some = counts-by (dueAnswer (tableRefusal t) b ladders sequences) refl
+  pub counts-large : mostCalls < b → Counts t k b (refused 18)
+  counts-large h = counts-by (refused 18) (sym (due-large b ladders sequences h))
 
-  pub counts-refused : (x : Refusal) → number x ≡ tableRefusal t → Counts t b (refused (number x))
-  counts-refused x e =
-      counts-by (refused (number x)) (ap refused e ∙ sym (due-refused (tableRefusal t) b ladders sequences (omega (arith, number-pos x))))
+  -- there is an answer for every table, preference and budget
+  pub counts-due : Counts t k b (dueAnswer b ladders sequences)
+  counts-due = counts-by (dueAnswer b ladders sequences) refl
 
-  module _ (passes : tableRefusal t ≡ 0) where
-    pub counts-large : mostCalls < b → Counts t b (refused 18)
-    counts-large h = counts-by (refused 18) (sym (due-large (tableRefusal t) b ladders sequences passes h))
+  module _ (small : b ≤ mostCalls) where
+    pub counts-none : b ≡ 0 → Counts t k b (spent b)
+    counts-none e = counts-by (spent b) (sym (due-spent b ladders sequences small (omega (arith, nodes-some (candidates rows) (length rows) []))))
 
-    module _ (small : b ≤ mostCalls) where
-      pub counts-none : b ≡ 0 → Counts t b (spent b)
-      counts-none e = counts-by (spent b) (sym (due-spent (tableRefusal t) b ladders sequences passes small more))
-        where
-          more : b < sequences
-          more = omega (arith, nodes-some (candidates (tableRows t)) (length (tableRows t)) [])
+    -- ---- the first call
+    size : length rows ≡ n
+    size = length-arrange n o arranged (tableRows t)
 
-      module _ (legal : Legal t) where
-        in-full : (x : ℕ) → x < 2 ^ 64 → x ⊆ full
-        in-full x l = subset-is x full (below-lowest x 64 (omega arith) ∙ lt-ltb x (2 ^ 64) l)
+    abbrev array : List ℕ
+    array = padded (gathered n (t .rows) k)
 
-        rows-ok : Rows (tableRows t)
-        rows-ok = record {
-          few = omega (arith, length-rows t legal, legal .gauges-high);
-          inside = λ i. rw (row-tableRows t legal i) (in-full (row (t .rows) i) (omega (arith, legal .rows-bits i, pow-mono (legal .cases-high))));
-        }
+    array-row : (i : ℕ) → row array i ≡ row rows i
+    array-row i =
+        ap (λ (x : List ℕ). row x i) (gathered-array n (t .rows) k (legal .gauges-high) (g .size) (g .long) arranged) ∙ pad-getD rows i
 
-        abbrev first : List ℕ
-        first = within (lowest (t .gauges)) (t .rows)
+    in-full : (x : ℕ) → x < 2 ^ 64 → x ⊆ full
+    in-full x l = subset-is x full (below-lowest x 64 (omega arith) ∙ lt-ltb x (2 ^ 64) l)
 
-        -- before any pick every gauge of the table is unpicked
-        first-row : (i : ℕ) → row first i ≡ row (tableRows t) i
-        first-row i = go (decLt i (t .gauges))
-          where
-            in-table : bit (lowest (t .gauges)) i ≡ ltb i (t .gauges)
-            in-table = bit-lowest (t .gauges) i ∙ ap (ltb i) (min-eq-left (legal .gauges-high))
+    rows-ok : Rows rows
+    rows-ok = record { few = omega (arith, size, legal .gauges-high); inside = λ i. inside i (decLt i n) }
+      where
+        inside : (i : ℕ) → Dec (i < n) → row rows i ⊆ full
+        inside i (yes l) =
+            subst (λ (x : ℕ). x ⊆ full) (sym (arrange-moves n o arranged .at (tableRows t) i l ∙ row-tableRows t legal (indexAt o i)))
+            (in-full (row (t .rows) (indexAt o i)) (omega (arith, legal .rows-bits (indexAt o i), pow-mono (legal .cases-high))))
+        inside i (no l) = subst (λ (x : ℕ). x ⊆ full) (sym (row-past rows i (omega (arith, size)))) (zero-sub full)
 
-            go : Dec (i < t .gauges) → row first i ≡ row (tableRows t) i
-            go (yes l) =
-                row-in (lowest (t .gauges)) (t .rows) i (omega (arith, legal .gauges-high)) (in-table ∙ lt-ltb i (t .gauges) l)
-                ∙ sym (row-tableRows t legal i)
-            go (no l) =
-                row-out (lowest (t .gauges)) (t .rows) i (in-table ∙ le-ltb i (t .gauges) (omega arith))
-                ∙ sym (row-past (tableRows t) i (omega (arith, length-rows t legal)))
+    abbrev first : List ℕ
+    first = within (lowest n) array
 
-        fresh : After (tableRows t) [] first (2 ^ 64 - 1)
-        fresh = subst (After (tableRows t) [] first) (lowest-up 64 (omega arith)) (after-fresh (tableRows t) first first-row)
+    -- before any pick every gauge of the table is unpicked
+    first-row : (i : ℕ) → row first i ≡ row rows i
+    first-row i = go (decLt i n)
+      where
+        in-table : bit (lowest n) i ≡ ltb i n
+        in-table = bit-lowest n i ∙ ap (ltb i) (min-eq-left (legal .gauges-high))
 
-        all-unpicked : ones (lowest (t .gauges)) ≡ length (tableRows t)
-        all-unpicked = ones-lowest (t .gauges) (legal .gauges-high) ∙ sym (length-rows t legal)
+        go : Dec (i < n) → row first i ≡ row rows i
+        go (yes l) = row-in (lowest n) array i (omega (arith, legal .gauges-high)) (in-table ∙ lt-ltb i n l) ∙ array-row i
+        go (no l) = row-out (lowest n) array i (in-table ∙ le-ltb i n (omega arith)) ∙ sym (row-past rows i (omega (arith, size)))
 
-        calls-are : callsIn (ones (lowest (t .gauges))) first (2 ^ 64 - 1) ≡ sequences
-        calls-are = rw all-unpicked (calls-nodes (tableRows t) rows-ok (length (tableRows t)) [] first (2 ^ 64 - 1) fresh)
+    fresh : After rows [] first (2 ^ 64 - 1)
+    fresh = subst (After rows [] first) (lowest-up 64 (omega arith)) (after-fresh rows first first-row)
 
-        ladders-are : laddersIn (ones (lowest (t .gauges))) first (2 ^ 64 - 1) ≡ ladders
-        ladders-are =
-            rw all-unpicked (ladders-leaves (tableRows t) rows-ok (length (tableRows t)) [] first (2 ^ 64 - 1) fresh)
-            ∙ sym (length-map (picksInOrder (tableRows t)) (chainOf (tableRows t)))
+    all-unpicked : ones (lowest n) ≡ length rows
+    all-unpicked = ones-lowest n (legal .gauges-high) ∙ sym size
 
-        -- what the step says, begun with these unpicked
-        abbrev stepped : ℕ → Below
-        stepped unpicked =
-            tallied b
-            (laddersIn (ones unpicked) (within unpicked (t .rows)) (2 ^ 64 - 1))
-            (callsIn (ones unpicked) (within unpicked (t .rows)) (2 ^ 64 - 1))
+    calls-are : callsIn (ones (lowest n)) first (2 ^ 64 - 1) ≡ sequences
+    calls-are = rw all-unpicked (calls-nodes rows rows-ok (length rows) [] first (2 ^ 64 - 1) fresh)
 
-        module _ (unpicked : ℕ) (x : Below) (s : unpicked ≡ lowest (t .gauges)) (e : x ≡ stepped unpicked) where
-          told : x ≡ tallied b ladders sequences
-          told = rw s at e ∙ ap₂ (tallied b) ladders-are calls-are
+    ladders-are : laddersIn (ones (lowest n)) first (2 ^ 64 - 1) ≡ ladders
+    ladders-are = rw all-unpicked (ladders-leaves rows rows-ok (length rows) [] first (2 ^ 64 - 1) fresh)
 
-          pub counts-whole : (y : Tally) → x ≡ Whole y → Counts t b (counted (y .ladders) (y .calls))
-          counts-whole y d =
-              let z : Says b ladders sequences y = whole-says b ladders sequences x told y d in
-              counts-by (counted (y .ladders) (y .calls))
-              (ap₂ counted (z .ladders) (z .calls) ∙ sym (due-counted (tableRefusal t) b ladders sequences passes small (z .fits)))
+    -- what the step says, begun with these unpicked on this array
+    abbrev stepped : ℕ → List ℕ → Below
+    stepped unpicked x =
+        tallied b (laddersIn (ones unpicked) (within unpicked x) (2 ^ 64 - 1)) (callsIn (ones unpicked) (within unpicked x) (2 ^ 64 - 1))
 
-          pub counts-spent : x ≡ Spent → Counts t b (spent b)
-          counts-spent d =
-              counts-by (spent b) (sym (due-spent (tableRefusal t) b ladders sequences passes small (spent-says b ladders sequences x told d)))
+    module _ (unpicked : ℕ) (x : List ℕ) (y : Below) (s : unpicked ≡ lowest n) (i : x ≡ array) (e : y ≡ stepped unpicked x) where
+      told : y ≡ tallied b ladders sequences
+      told = rw (s, i) at e ∙ ap₂ (tallied b) ladders-are calls-are
+
+      pub counts-whole : (w : Tally) → y ≡ Whole w → Counts t k b (counted (w .ladders) (w .calls))
+      counts-whole w d =
+          let z : Says b ladders sequences w = whole-says b ladders sequences y told w d in
+          counts-by (counted (w .ladders) (w .calls)) (ap₂ counted (z .ladders) (z .calls) ∙ sym (due-counted b ladders sequences small (z .fits)))
+
+      pub counts-spent : y ≡ Spent → Counts t k b (spent b)
+      counts-spent d = counts-by (spent b) (sym (due-spent b ladders sequences small (spent-says b ladders sequences y told d)))
+
+-- ---- an answer for every table of 64 rows, every 64 numbers and every budget
+abbrev pub answerFor : Table → List ℕ → ℕ → CountAnswer
+answerFor t k b =
+    let r = arrange (orderOf (t .gauges) k) (tableRows t) in
+    cond (eqb (preferredRefusal t (t .gauges) k) 0)
+    (dueAnswer b (length (picksInOrder r)) (length (nodes (candidates r) (length r) [])))
+    (refused (preferredRefusal t (t .gauges) k))
+
+pub counts-some : (t : Table) (k : List ℕ) (b : ℕ) → length (t .rows) ≡ 64 → length k ≡ 64 → Counts t k b (answerFor t k b)
+counts-some t k b size long = go (ℕ-discrete (preferredRefusal t (t .gauges) k) 0)
+  where
+    go : Dec (preferredRefusal t (t .gauges) k ≡ 0) → Counts t k b (answerFor t k b)
+    go (yes z) = rw (eq-eqb (preferredRefusal t (t .gauges) k) 0 z) (counts-due t k b (record { size = size; long = long; passes = z }))
+    go (no z) = rw (ne-eqb (preferredRefusal t (t .gauges) k) 0 z) (record { refusal = λ l. refl; count = λ e. absurd (z e) })

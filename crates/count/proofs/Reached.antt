@@ -1,9 +1,10 @@
--- The nodes of a table's candidates are the pick sequences that the rules can reach, each once (`pick-sequences`), and the recursive step's
--- two numbers (specs/private/Below.antt) are how many nodes and leaves there are below the picks made (`calls-nodes`, `ladders-leaves`).
+-- The nodes of the candidates of the arranged rows, by index, are the pick sequences that the rules can reach under a preference, each once
+-- (`pick-sequences`), and the recursive step's two numbers (specs/private/Below.antt) are how many nodes and leaves there are below the picks made
+-- (`calls-nodes`, `ladders-leaves`).
 use mathlib.Core.Path.{_≡_, refl, sym, ap, _∙_, fun-ext}
-use mathlib.Core.Logic.{_↔_}
+use mathlib.Core.Logic.{_↔_, _≢_}
 use mathlib.Core.Bool.{Bool, true, false, cond}
-use mathlib.Core.List.{List, [], _∷_, _++_, append-assoc, List·Memᴰ·head}
+use mathlib.Core.List.{List, [], _∷_, _++_, map, append-assoc, List·Memᴰ, List·Memᴰ·head, Memᴰ·cast, Memᴰ·map, Memᴰ·of-map}
 use Prim.Native.Nat.{ℕ, zero, suc, _≤_, _<_}
 use native.Mathlib.Decide.{decLt}
 use native.Mathlib.Omega.{arith}
@@ -13,14 +14,20 @@ use borrow.Author.Tests.{le-ltb}
 use Rattle.sets.specs.Sets.{meet}
 use Rattle.sets.proofs.Tests.{is-true, is-false}
 use Rattle.table.specs.Pairs.{row}
-use Rattle.rules.specs.Machine.{Phase, Down, Handed, Back, Ended, at}
+use Rattle.rules.specs.Sequences.{All, Sorted}
+use Rattle.rules.specs.Machine.{Phase, Down, Handed, Back, Ended, State, at}
 use Rattle.rules.specs.private.Fitting.{Valid, Fits}
+use Rattle.rules.proofs.Sequences.{All-of}
 use Rattle.rules.proofs.Trees.{each, branch, leaves}
+use Rattle.lists.specs.Arrangements.{IsArrangement, placeOf}
 use Rattle.lists.specs.Lists.{Side}
 use Rattle.lists.specs.Picks.{select, candidate, candidates}
 use Rattle.lists.proofs.Selecting.{mem-select, select-nil}
 use Rattle.lists.proofs.Candidates.{cand-of}
-use Rattle.lists.proofs.CandidateTree.{candidate-tree, reached-fits}
+use Rattle.lists.specs.private.Arranging.{indexAt, prefer}
+use Rattle.lists.proofs.CandidateTree.{candidate-tree}
+use Rattle.lists.proofs.PlacedCandidates.{AllBelow, places-back}
+use Rattle.lists.proofs.PlacedRuns.{good-below, reached-placed}
 use Rattle.search.proofs.AfterPicks.{Rows, After, candidate-wide, after-pick}
 use Rattle.count.specs.Counting.{ReachedPicks, PickSequences}
 use Rattle.count.specs.private.Below.{sumBelow, isCandidate, callsIn, laddersIn}
@@ -30,30 +37,60 @@ use Rattle.count.proofs.Turns.{ladders-none, ladders-some}
 use Rattle.count.proofs.Nodes.{nodes, node-iff, nodes-once}
 
 -- ---- the sequences that the rules can reach
-module _ (s : Side) where
-  fits-valid : (p : List ℕ) (f : Phase) → Fits (candidates (s .rows)) p f → Valid (candidates (s .rows)) p
+-- lists that differ still do where a map that is undone on them is made of each
+distinct-map : (f back : List ℕ → List ℕ) (l : List (List ℕ)) → All (λ (p : List ℕ). back (f p) ≡ p) l → Sorted (λ (p q : List ℕ). p ≢ q) l
+    → Sorted (λ (p q : List ℕ). p ≢ q) (map f l)
+distinct-map f back [] h s = tt
+distinct-map f back (p ∷ l) h s = (after l (h .1) (s .0), distinct-map f back l (h .1) (s .1))
+  where
+    after : (m : List (List ℕ)) → All (λ (q : List ℕ). back (f q) ≡ q) m → All (λ (q : List ℕ). p ≢ q) m → All (λ (q : List ℕ). f p ≢ q) (map f m)
+    after [] k t = tt
+    after (q ∷ m) k t = ((λ e. t .0 (sym (h .0) ∙ ap back e ∙ k .0)), after m (k .1) (t .1))
+
+module _ (s : Side) (o : List ℕ) (counted : length (s .rows) ≡ s .count) (a : IsArrangement (s .count) o) where
+  abbrev rows : List ℕ
+  rows = prefer o s .rows
+
+  -- the pick sequences of the arranged rows, by place
+  abbrev placed : List (List ℕ)
+  placed = nodes (candidates rows) (length rows) []
+
+  fits-valid : (p : List ℕ) (f : Phase) → Fits (candidates rows) p f → Valid (candidates rows) p
   fits-valid p Down h = h
   fits-valid p Handed h = h .0
   fits-valid p (Back g) h = h .0
   fits-valid p Ended h = rw h tt
 
-  reached-valid : (p : List ℕ) → ReachedPicks s p ↔ Valid (candidates (s .rows)) p
-  reached-valid p = (
-    λ r. fits-valid p (r .phase) (reached-fits s (at p (r .phase)) .0 (r .reached)),
-    λ v. record { phase = Down; reached = reached-fits s (at p Down) .1 v },
-  )
+  node-of : (p : List ℕ) → List·Memᴰ p placed ↔ Valid (candidates rows) p
+  node-of p = node-iff (candidates rows) (length rows) (candidate-tree rows) p
+
+  low : (p : List ℕ) → Valid (candidates rows) p → AllBelow (s .count) p
+  low p v = good-below s o counted a (at p Down) v .picks
 
   abbrev pub reachedInOrder : List (List ℕ)
-  reachedInOrder = nodes (candidates (s .rows)) (length (s .rows)) []
+  reachedInOrder = map (map (indexAt o)) placed
 
-  pub pick-sequences : PickSequences s reachedInOrder
+  pub pick-sequences : PickSequences s o reachedInOrder
   pick-sequences = record {
-    once = nodes-once (candidates (s .rows)) (length (s .rows)) (candidate-tree (s .rows));
-    members = λ p. (
-      λ m. reached-valid p .1 (node-iff (candidates (s .rows)) (length (s .rows)) (candidate-tree (s .rows)) p .0 m),
-      λ r. node-iff (candidates (s .rows)) (length (s .rows)) (candidate-tree (s .rows)) p .1 (reached-valid p .0 r),
-    );
+    once =
+        distinct-map (map (indexAt o)) (map (placeOf o)) placed
+        (All-of (λ (p : List ℕ). map (placeOf o) (map (indexAt o) p) ≡ p) placed (λ p m. places-back (s .count) o a p (low p (node-of p .0 m))))
+        (nodes-once (candidates rows) (length rows) (candidate-tree rows));
+    members = λ p. (λ m. into p (Memᴰ·of-map (map (indexAt o)) placed m), onto p);
   }
+    where
+      into : (p : List ℕ) → (q : List ℕ) × List·Memᴰ q placed × (map (indexAt o) q ≡ p) → ReachedPicks s o p
+      into p (q, m, e) = record {
+        phase = Down;
+        reached = reached-placed s o counted a (at p Down) .1
+            (record { state = at q Down; good = node-of q .0 m; is = ap (λ (x : List ℕ). at x Down) e });
+      }
+
+      onto : (p : List ℕ) → ReachedPicks s o p → List·Memᴰ p reachedInOrder
+      onto p r =
+          let x = reached-placed s o counted a (at p (r .phase)) .0 (r .reached) in
+          Memᴰ·cast (sym (ap (λ (y : State). y .picks) (x .is)))
+          (Memᴰ·map (map (indexAt o)) (node-of (x .state .picks) .1 (fits-valid (x .state .picks) (x .state .phase) (x .good))))
 
 -- ---- how many, as a sum over the candidates
 module _ (f : List ℕ → List (List ℕ)) (p : List ℕ) where

@@ -1,11 +1,12 @@
 // Counting the ladders of a table before a run lists them (02, R-4): by recursion on the gauges not yet picked, one call for each pick
-// sequence that the rules can reach, up to a budget of calls. Any table and any budget are taken; 10, 11 and 18 are refused. The one
-// function that another crate can call has no `requires` and is lent no memory.
+// sequence that the rules can reach under an order of the gauges (R-12), up to a budget of calls. Any table, any order and any budget are taken; 10,
+// 11, 27 and 18 are refused. The one function that another crate can call has no `requires` and is lent no memory.
+use preference;
+use preference::GaugeOrder;
 use refusals::Refusal;
 use refusals::Verdict;
 use search;
 use sets;
-use table;
 use table::Table;
 ghost use mathlib.Core.Path.{_≡_};
 ghost use Prim.Native.Nat.{_<_};
@@ -42,11 +43,12 @@ enum Below {
     Spent,
 }
 
-// How many ladders `t` has, by at most `budget` calls.
-pub fn count_ladders(t: Table, budget: u64) -> Count
-    ensures { λ r. ⌜ Counts t budget (countAnswer r) ⌝ }
+// How many ladders `t` has, by at most `budget` calls that go by an order of its gauges.
+pub fn count_ladders(t: Table, order: GaugeOrder, budget: u64) -> Count
+    ensures { λ r. ⌜ Counts t (order .0) budget (countAnswer r) ⌝ }
 {
-    let checked = table::check_table(t);
+    let numbers = order.0;
+    let checked = preference::check(t, t.gauges, numbers);
     if let Verdict::Refused(why) = checked {
         return Count::Refused(why);
     }
@@ -56,7 +58,8 @@ pub fn count_ladders(t: Table, budget: u64) -> Count
     if budget == 0 {
         return Count::Spent(budget);
     }
-    let rows = t.rows;
+    let given = t.rows;
+    let rows = preference::gather(&given, &numbers, t.gauges as usize);
     let below = count_below(&rows, sets::lowest(t.gauges), ALL, budget);
     match below {
         Below::Whole(tally) => Count::Counted(tally),

@@ -18,6 +18,7 @@ use Rattle.table.proofs.Nesting.{NoPairs}
 use Rattle.sets.proofs.OnePlace.{none-in}
 use Rattle.rules.specs.Sequences.{Sorted}
 use Rattle.rules.proofs.Sequences.{All-of}
+use Rattle.lists.specs.PickSequence.{pickSeq}
 use Rattle.lists.specs.Growing.{FirstContaining}
 use Rattle.lists.specs.OnTable.{chainOf}
 use Rattle.lists.proofs.Growing.{grow, grow-first}
@@ -30,7 +31,7 @@ module _ (r : List ℕ) where
   abbrev pub grown : List ℕ → List ℕ
   grown x = chainOf r (grow r x)
 
-  grown-first : (x : List ℕ) → ChainOf r x → FirstContaining r x (grown x)
+  grown-first : (x : List ℕ) → ChainOf r x → FirstContaining r pickSeq x (grown x)
   grown-first x h = grow-first r x (h .within) (h .chain)
 
   -- a cover by any chains gives one by as many maximal chains

@@ -53,7 +53,7 @@ module _ (w : ℕ) (r : List ℕ) (h : Cases w r) where
       size : length (d .0) ≡ k
       size = omega (arith, d .1 .few, l .least (d .0) cover)
 
-  module _ (ls : List (List ℕ)) (gl : SideList r (λ x. x) ls) where
+  module _ (ls : List (List ℕ)) (gl : SideList r pickSeq ls) where
     from-list : (xs : List (List ℕ)) → Cover r xs → From holds ls xs
     from-list xs a x m = gl .members x .1 (a .maximal x m)
 

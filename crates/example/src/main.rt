@@ -1,11 +1,13 @@
-// The library by example: a file is read, its ladders are counted and listed with a budget of moves, the first says why it lacks a pair, the
-// fewest that hold every pair are found, a chain is judged, grown and wired pair by pair, the flip of one entry is tried and committed, a table is
-// made from rows and listed by cases, and one without the ladders that calibration never needs. Every answer is looked at before its values
-// are used.
+// The library by example: a file is read, its ladders are counted and listed with a budget of moves, in plain order and with the trusted gauges
+// first, the first says why it lacks a pair, the fewest that hold every pair are found, a chain is judged, grown and wired pair by pair, the flip of
+// one entry is tried and committed, a table is made from rows and listed by cases, and one without the ladders that calibration never needs. Every
+// answer is looked at before its values are used.
 use count::Count;
 use judge::Judgement;
 use libc::STDOUT_FILENO;
 use mechanisms::CoverOutcome;
+use preference::CaseOrder;
+use preference::GaugeOrder;
 use refusals::Refusal;
 use refusals::Verdict;
 use runs::Outcome;
@@ -30,7 +32,8 @@ fn main() {
             say(reader::comment(file, 1));
             say(b"\n");
             count_them(t);
-            list(t, false);
+            list(t, GaugeOrder::plain(t.gauges), false);
+            list(t, third_first(), false);
             left_out(t);
             cover(t);
             grow(t);
@@ -43,7 +46,7 @@ fn main() {
 
 // Says how many ladders a table has before they are listed: one call for each pick sequence that the run can come to, at most 1,000 here.
 fn count_them(t: Table) {
-    let counted = count::count_ladders(t, 1_000);
+    let counted = count::count_ladders(t, GaugeOrder::plain(t.gauges), 1_000);
     match counted {
         Count::Counted(tally) => {
             io::print_decimal(STDOUT_FILENO, tally.ladders);
@@ -56,10 +59,19 @@ fn count_them(t: Table) {
     }
 }
 
-// Lists the ladders of a table, all or only those that hold a deciding pair: at most 5 moves a call, and each call goes on from the value that
-// the last one returned.
-fn list(t: Table, omit: bool) {
-    let start = runs::start_gauges(t, omit);
+// An order of three gauges, the most trusted first: 3, 1, 2, and zeros behind them.
+fn third_first() -> GaugeOrder {
+    let mut numbers = [0u8; 64];
+    numbers[0] = 3;
+    numbers[1] = 1;
+    numbers[2] = 2;
+    GaugeOrder(numbers)
+}
+
+// Lists the ladders of a table under an order of its gauges, all or only those that hold a deciding pair: at most 5 moves a call, and each call
+// goes on from the value that the last one returned.
+fn list(t: Table, order: GaugeOrder, omit: bool) {
+    let start = runs::start_gauges(t, order, omit);
     let verdict = start.verdict;
     if let Verdict::Refused(why) = verdict {
         refused(why);
@@ -90,7 +102,7 @@ fn list(t: Table, omit: bool) {
 
 // Says by which gauge the first ladder of a table begins, and which of its picks leaves the pair 3:3 out.
 fn left_out(t: Table) {
-    let start = runs::start_gauges(t, false);
+    let start = runs::start_gauges(t, GaugeOrder::plain(t.gauges), false);
     let started = start.verdict;
     if let Verdict::Refused(why) = started {
         refused(why);
@@ -148,7 +160,7 @@ fn grow(t: Table) {
         Judgement::No => say(b"no ladder\n"),
         Judgement::Refused(why) => refused(why),
     }
-    let grown = extend::extend_chain(t, chain);
+    let grown = extend::extend_chain(t, GaugeOrder::plain(t.gauges), chain);
     let verdict = grown.verdict;
     let ladder = grown.chain;
     match verdict {
@@ -184,7 +196,7 @@ fn flip(t: Table) {
         gauges: t.gauges,
         rows: [0u64; 64],
     };
-    let grown = extend::extend_chain(t, none);
+    let grown = extend::extend_chain(t, GaugeOrder::plain(t.gauges), none);
     let ladder = grown.chain;
     let tried = trials::trial(t, ladder, Gauge(3), Case(1));
     let verdict = tried.verdict;
@@ -226,7 +238,7 @@ fn by_cases() {
         return;
     }
     let t = made.table;
-    let start = runs::start_cases(t, false);
+    let start = runs::start_cases(t, CaseOrder::plain(t.cases), false);
     let started = start.verdict;
     if let Verdict::Refused(why) = started {
         refused(why);
@@ -263,7 +275,7 @@ fn needed() {
         Judgement::No => say(b"2:1 does not decide\n"),
         Judgement::Refused(why) => refused(why),
     }
-    list(t, true);
+    list(t, GaugeOrder::plain(t.gauges), true);
 }
 
 // Writes a ladder as the file of a table of its own, to the front of a buffer and from there to standard output.

@@ -1,4 +1,4 @@
--- What the entries answer, for either side: a run call that makes no move refuses what 10, 11 and 15 refuse, and no other value
+-- What the entries answer, for either side: a run call that makes no move refuses what 10, 11, 27 and 15 refuse, and no other value
 -- (`refused-explained`); the question put to a value that passes (`Asked`), whose picks are numbers of rows (`numbers`); the answer that the
 -- search gives (`named-explained`), and the claim of R-6 beside it (`has-reasons`). Last, one answer (`explained-unique`), for every value
 -- (`explained-made`), and no two answers of the code read alike.
@@ -18,7 +18,6 @@ use Rattle.sets.proofs.Tests.{is-true, is-false}
 use Rattle.table.specs.declared.Table.{Table}
 use Rattle.table.specs.Pairs.{row, Has}
 use Rattle.table.specs.Tables.{Legal, tableRefusal, padded}
-use Rattle.table.proofs.Legality.{legal-of}
 use Rattle.table.proofs.Padding.{pad-getD}
 use Rattle.refusals.specs.Answers.{Answer, answer, number}
 use Rattle.refusals.specs.declared.Refusal.{Refusal}
@@ -29,25 +28,27 @@ use Rattle.rules.specs.Calls.{Reply, refused, spent, handed, end, Call}
 use Rattle.rules.proofs.Calls.{within-by}
 use Rattle.lists.specs.Lists.{Side}
 use Rattle.lists.specs.OnTable.{handOut, ReachedOn}
-use Rattle.lists.proofs.Candidates.{LeafFrom, IsLeaf, leaf-from}
-use Rattle.lists.proofs.CandidateTree.{candidate-tree, reached-fits}
 use Rattle.conflicts.specs.Tests.{hasPair}
 use Rattle.conflicts.proofs.Testing.{has-test}
 use Rattle.conflicts.proofs.SamePairs.{table-pairs}
 use Rattle.essentials.specs.Answers.{pairRefusal}
 use Rattle.essentials.proofs.Answers.{pair-absent, pair-present}
+use Rattle.preference.specs.Preferences.{preferredRefusal}
+use Rattle.preference.proofs.Placing.{passes-both}
 use Rattle.replay.proofs.Numbers.{length-numbers, getD-numbers}
 use Rattle.runs.specs.Paused.{Value, numbered as byNumber, paused}
-use Rattle.runs.specs.Calling.{Step, outcome, told, movesOf, PausedAt, Called}
+use Rattle.runs.specs.Calling.{Step, outcome, arrangement, told, movesOf, held, valueRefusal, PausedAt, Called}
 use Rattle.runs.specs.private.Working.{Works}
 use Rattle.runs.specs.declared.Outcome.{Outcome}
 use Rattle.runs.specs.declared.Outcome.the-variants.{HandedOut, Spent, End, Refused}
 use Rattle.runs.proofs.Padding.{take-padded}
 use Rattle.runs.proofs.Answered.{paused-state}
+use Rattle.runs.proofs.Demands.{Starts}
 use Rattle.explain.specs.declared.GaugeReason.{GaugeReason}
 use Rattle.explain.specs.declared.CaseReason.{CaseReason}
 use Rattle.explain.specs.Reasons.{Question, firstLacking, reasonRefusal, noPick, Explained, madeBefore, HasReasons, gaugeReason, caseReason}
 use Rattle.explain.specs.private.Asking.{isHanded, unasked, keptBy, Numbered, rowHas, foundIn}
+use Rattle.explain.proofs.Leaves.{LeavesFrom, Leaves, leaves-reached}
 use Rattle.explain.proofs.Picks.{first-same, None, Found, search-before}
 use Rattle.explain.proofs.Reasoning.{Sees, place, none-kept, lacking-out, reasoned}
 
@@ -79,17 +80,17 @@ module _ (t : Table) (s : Side) (p : List ℕ) (g c : ℕ) where
   unfolding reasonRefusal
   reason-absent e = rw e
 
--- ---- picks that are left without a candidate are numbers of rows
+-- ---- picks of a ladder are indices of rows
 module _ (rows : List ℕ) where
-  leaf-at : (q p : List ℕ) → LeafFrom rows q p → (i : ℕ) → i < length p → getD p i 0 < length rows
+  leaf-at : (q p : List ℕ) → LeavesFrom rows q p → (i : ℕ) → i < length p → getD p i 0 < length rows
   leaf-at q [] l i b = absurd (omega arith)
-  leaf-at q (g ∷ p) l zero b = l .0 .below
+  leaf-at q (g ∷ p) l zero b = l .0
   leaf-at q (g ∷ p) l (suc i) b = leaf-at (q ++ (g ∷ [])) p (l .1) i (omega arith)
 
-  leaf-mem : (q p : List ℕ) → LeafFrom rows q p → (j : ℕ) → List·Memᴰ j p → j < length rows
+  leaf-mem : (q p : List ℕ) → LeavesFrom rows q p → (j : ℕ) → List·Memᴰ j p → j < length rows
   leaf-mem q [] l j m = absurd (List·Memᴰ·not-nil m)
   leaf-mem q (g ∷ p) l j m =
-      ⊎-elim (λ e. subst (λ (x : ℕ). x < length rows) (sym e) (l .0 .below)) (leaf-mem (q ++ (g ∷ [])) p (l .1) j) (List·Memᴰ·cases-cons m)
+      ⊎-elim (λ e. subst (λ (x : ℕ). x < length rows) (sym e) (l .0)) (leaf-mem (q ++ (g ∷ [])) p (l .1) j) (List·Memᴰ·cases-cons m)
 
 -- ---- the answers as records
 kept-answer : (n m x w : ℕ) → n ≡ 22 → m ≡ 22 → x ≡ 0 → record { refusal = n; value = x } ≡ answer m w 0
@@ -119,15 +120,21 @@ works-row s n R w j l =
     ∙ ap (λ (x : List ℕ). row x j) (w .rows-are)
 
 -- ---- a value of either side
-module _ (side : Table → Side) (v : Value) where
+module _ (side : Table → Side) (v : Value) (starts : Starts side v) where
   abbrev t : Table
   t = v .table
 
   abbrev Stands : List ℕ → Type 0
   Stands p = PausedAt side v (at p Handed)
 
-  leaf-of : (p : List ℕ) → Stands p → IsLeaf (side t .rows) p
-  leaf-of p h = reached-fits (side t) (at p Handed) .0 (h .reached)
+  abbrev Passes : Type 0
+  Passes = valueRefusal side v ≡ 0
+
+  table-passes : Passes → tableRefusal t ≡ 0
+  table-passes z = passes-both t (side t .count) (v .order) z .0
+
+  leaf-of : Passes → (p : List ℕ) → Stands p → Leaves (side t .rows) p
+  leaf-of z p h = leaves-reached (side t) (held side v) (starts z .fair .counted) (starts z .arranged) p (h .reached)
 
   picks-are : (p : List ℕ) → Stands p → v .picks ≡ padded (map suc p)
   picks-are p h = ap (λ (y : Value). y .picks) (h .stands)
@@ -144,17 +151,18 @@ module _ (side : Table → Side) (v : Value) where
 
   -- ---- a call that makes no move
   module _ (r : Step) (called : Called side v 0 r) where
-    spent-at : tableRefusal t ≡ 0 → (s : State) → PausedAt side v s → r .answer ≡ spent
+    spent-at : Passes → (s : State) → PausedAt side v s → r .answer ≡ spent
     spent-at z s p =
         ap (λ (x : Step). x .answer) (called .rules z s p)
-        ∙ ap (λ (x : Call). told t (side t) (v .omit) x .answer) (within-by (movesOf t (side t) (v .omit)) (handOut (side t)) 0 s (omega arith))
+        ∙ ap (λ (x : Call). told t (side t) (v .order) (v .omit) x .answer)
+        (within-by (movesOf t (side t) (held side v) (v .omit)) (handOut (side t)) 0 s (omega arith))
 
-    passes : Unrefused r → tableRefusal t ≡ 0
-    passes o = go (ℕ-discrete (tableRefusal t) 0)
+    passes : Unrefused r → Passes
+    passes o = go (ℕ-discrete (valueRefusal side v) 0)
       where
-        go : Dec (tableRefusal t ≡ 0) → tableRefusal t ≡ 0
+        go : Dec Passes → Passes
         go (yes e) = e
-        go (no e) = absurd (o (tableRefusal t) (ap (λ (x : Step). x .answer) (called .table (omega arith))))
+        go (no e) = absurd (o (valueRefusal side v) (ap (λ (x : Step). x .answer) (called .table (omega arith))))
 
     by-number : (n m : ℕ) → r .answer ≡ refused n → r .answer ≡ refused m → n ≡ m
     by-number n m a b = cc
@@ -180,7 +188,7 @@ module _ (side : Table → Side) (v : Value) where
       module _ (question : Table → ℕ → ℕ → Question) where
         call-refused : (n : ℕ) → r .answer ≡ refused n → Explained side question v g c (noPick n)
         call-refused n e = record {
-          table = λ l. ap noPick (by-number n (tableRefusal t) e (ap (λ (x : Step). x .answer) (called .table l)));
+          table = λ l. ap noPick (by-number n (valueRefusal side v) e (ap (λ (x : Step). x .answer) (called .table l)));
           value = λ z none. ap noPick (by-number n 15 e (ap (λ (x : Step). x .answer) (called .value z (λ s p. never-both n e (spent-at z s p)))));
           pick = λ z p h. never-both n e (spent-at z (at p Handed) h);
         }
@@ -201,7 +209,9 @@ module _ (side : Table → Side) (v : Value) where
                 let n19 : n ≡ 19 = e ∙ ap₂ (λ (x y : Bool). cond x (cond y 0 19) 15) w d in record {
                   table = λ y. absurd (omega (arith, passes o));
                   value = λ z none. absurd (handed-some o w none);
-                  pick = λ z p h. rw (n19, reason-absent t (side t) p g c (sym (pair-absent t g c size z (hasPair (t .rows) g c) (has-is (t .rows) g c) d)));
+                  pick = λ z p h.
+                      let absent = sym (pair-absent t g c size (table-passes z) (hasPair (t .rows) g c) (has-is (t .rows) g c) d) in
+                      rw (n19, reason-absent t (side t) p g c absent);
                 }
             by-phase true w true d = let n0 : n ≡ 0 = e ∙ ap₂ (λ (x y : Bool). cond x (cond y 0 19) 15) w d in absurd (omega arith)
 
@@ -240,7 +250,7 @@ module _ (side : Table → Side) (v : Value) where
 
       module _ (a : Asked v r g c) where
         pub legal : Legal t
-        legal = legal-of t size (passes (a .unrefused))
+        legal = starts (passes (a .unrefused)) .legal
 
         pub pair : Has (t .rows) g c
         pair = has-is (t .rows) g c .0 (a .present)
@@ -249,10 +259,10 @@ module _ (side : Table → Side) (v : Value) where
         pub numbers : length (v .picks) ≡ 64 → length (side t .rows) ≤ 64 → Numbered (v .picks) (v .count)
         numbers wide few = record {
           size = wide;
-          few = stable (decLe (v .count) 64) (λ n. some (λ p h. n (omega (arith, count-is p h, candidate-tree (side t .rows) .depth p (leaf-of p h .0)))));
+          few = stable (decLe (v .count) 64) (λ n. some (λ p h. n (omega (arith, count-is p h, leaf-of (passes (a .unrefused)) p h .short))));
           low = λ i l. stable (decLe 1 (getD (v .picks) i 0)) (λ n. some (λ p h. n (omega (arith, number-at p h i l))));
           high = λ i l. stable (decLe (getD (v .picks) i 0) 64) (λ n. some (λ p h. n
-              (omega (arith, number-at p h i l, leaf-at (side t .rows) [] p (leaf-from (side t .rows) p (leaf-of p h)) i (omega (arith, count-is p h))))));
+              (omega (arith, number-at p h i l, leaf-at (side t .rows) [] p (leaf-of (passes (a .unrefused)) p h .whole) i (omega (arith, count-is p h))))));
         }
           where
             some : ((p : List ℕ) → Stands p → ⊥) → ⊥
@@ -269,7 +279,7 @@ module _ (side : Table → Side) (v : Value) where
           x-is p h =
               is ∙ ap (λ (y : List ℕ). firstLacking (rowHas R (other - 1)) (madeBefore (q .own) y)) (taken p h)
               ∙ first-same (rowHas R (other - 1)) (q .meets) (q .own) p
-              (λ j m. agree j (leaf-mem (side t .rows) [] p (leaf-from (side t .rows) p (leaf-of p h)) j m))
+              (λ j m. agree j (leaf-mem (side t .rows) [] p (leaf-of (passes (a .unrefused)) p h .whole) j m))
             where
               agree : (j : ℕ) → j < length (side t .rows) → rowHas R (other - 1) (suc j) ≡ q .meets (suc j)
               agree j l =
@@ -282,18 +292,18 @@ module _ (side : Table → Side) (v : Value) where
             pick = λ z p h. ⊎-elim (kept z p h) (λ f. found z p h (f .0) (f .1)) (search-before (q .meets) (q .own) p);
           }
             where
-              free : tableRefusal t ≡ 0 → pairRefusal t g c ≡ 0
-              free z = sym (pair-present t g c size z (hasPair (t .rows) g c) (has-is (t .rows) g c) (a .present))
+              free : Passes → pairRefusal t g c ≡ 0
+              free z = sym (pair-present t g c size (table-passes z) (hasPair (t .rows) g c) (has-is (t .rows) g c) (a .present))
 
-              kept : tableRefusal t ≡ 0 → (p : List ℕ) → Stands p → None (q .meets) (q .own) (map suc p)
+              kept : Passes → (p : List ℕ) → Stands p → None (q .meets) (q .own) (map suc p)
                   → record { refusal = n; value = x } ≡ answer (reasonRefusal t (side t) p g c) (firstLacking (q .meets) (map suc p)) 0
               kept z p h f =
                   let x0 : x ≡ 0 = x-is p h ∙ f .blank in
                   kept-answer n (reasonRefusal t (side t) p g c) x (firstLacking (q .meets) (map suc p)) (e ∙ ap keptBy x0)
                   (reason-pair t (side t) p g c (free z) true (has-is (handOut (side t) p) g c .1
-                  (none-kept t (side t) q g c other p (leaf-of p h) sees f (table-pairs t legal g c .0 pair)))) x0
+                  (none-kept t (side t) q g c other p (leaf-of z p h) sees f (table-pairs t legal g c .0 pair)))) x0
 
-              found : tableRefusal t ≡ 0 → (p : List ℕ) → Stands p → (y : ℕ) → Found (q .meets) (q .own) (map suc p) y
+              found : Passes → (p : List ℕ) → Stands p → (y : ℕ) → Found (q .meets) (q .own) (map suc p) y
                   → record { refusal = n; value = x } ≡ answer (reasonRefusal t (side t) p g c) (firstLacking (q .meets) (map suc p)) 0
               found z p h y f =
                   let xy : x ≡ y = x-is p h ∙ f .front in
@@ -301,12 +311,12 @@ module _ (side : Table → Side) (v : Value) where
                   named-answer n (reasonRefusal t (side t) p g c) x (firstLacking (q .meets) (map suc p))
                   (e ∙ ap (λ (b : Bool). cond b 22 0) (ne-eqb x 0 pos))
                   (reason-pair t (side t) p g c (free z) false (has-not (handOut (side t) p) g c
-                  (lacking-out t (side t) q g c other p (leaf-of p h) sees y (f .among) (f .first .lacks)))) (f .whole ∙ sym xy)
+                  (lacking-out t (side t) q g c other p (leaf-of z p h) sees y (f .among) (f .first .lacks)))) (f .whole ∙ sym xy)
 
   -- ---- the claim of R-6, of the value's ladder
   pub has-reasons : (question : Table → ℕ → ℕ → Question) (other : ℕ → ℕ → ℕ)
-      → (Legal t → (g c : ℕ) → 1 ≤ g → 1 ≤ c → Sees t (side t) (question t g c) g c (other g c)) → length (t .rows) ≡ 64 → HasReasons side question v
-  has-reasons question other sees size z p h g c = reasoned t (side t) (question t g c) g c (other g c) p (leaf-of p h) (sees (legal-of t size z) g c)
+      → (Legal t → (g c : ℕ) → 1 ≤ g → 1 ≤ c → Sees t (side t) (question t g c) g c (other g c)) → HasReasons side question v
+  has-reasons question other sees z p h g c = reasoned t (side t) (question t g c) g c (other g c) p (leaf-of z p h) (sees (starts z .legal) g c)
 
 -- ---- one answer, for every value
 pub explained-unique : (side : Table → Side) (question : Table → ℕ → ℕ → Question) (v : Value) (g c : ℕ) (a b : Answer ℕ) → Explained side question v g c a
@@ -314,24 +324,24 @@ pub explained-unique : (side : Table → Side) (question : Table → ℕ → ℕ
 explained-unique side question v g c a b x y =
     ap₂ (λ (n m : ℕ). record { refusal = n; value = m }) (settle (λ z. z .refusal)) (settle (λ z. z .value))
   where
-    same : ¬ (a ≡ b) → Dec (tableRefusal (v .table) ≡ 0) → ⊥
+    same : ¬ (a ≡ b) → Dec (valueRefusal side v ≡ 0) → ⊥
     same n (no z) = n (x .table (omega (arith, z)) ∙ sym (y .table (omega (arith, z))))
     same n (yes z) =
         let none : (p : List ℕ) → PausedAt side v (at p Handed) → ⊥ = λ p h. n (x .pick z p h ∙ sym (y .pick z p h)) in
         n (x .value z none ∙ sym (y .value z none))
 
     settle : (f : Answer ℕ → ℕ) → f a ≡ f b
-    settle f = stable (ℕ-discrete (f a) (f b)) (λ n. same (λ e. n (ap f e)) (ℕ-discrete (tableRefusal (v .table)) 0))
+    settle f = stable (ℕ-discrete (f a) (f b)) (λ n. same (λ e. n (ap f e)) (ℕ-discrete (valueRefusal side v) 0))
 
-pub explained-made : (side : Table → Side) (question : Table → ℕ → ℕ → Question) (t : Table) (omit : Bool) (p : List ℕ) (g c : ℕ) → tableRefusal t ≡ 0
-    → ReachedOn (side t) (at p Handed)
-    → Explained side question (paused t omit (at p Handed)) g c
+pub explained-made : (side : Table → Side) (question : Table → ℕ → ℕ → Question) (t : Table) (k : List ℕ) (omit : Bool) (p : List ℕ) (g c : ℕ)
+    → preferredRefusal t (side t .count) k ≡ 0 → ReachedOn (side t) (arrangement (side t) k) (at p Handed)
+    → Explained side question (paused t k omit (at p Handed)) g c
     (answer (reasonRefusal t (side t) p g c) (firstLacking (question t g c .meets) (map suc p)) 0)
-explained-made side question t omit p g c ok h = record {
+explained-made side question t k omit p g c ok h = record {
   table = λ l. absurd (omega arith);
   value = λ z none. absurd (none p (record { reached = h; stands = refl }));
-  pick = λ z k w. ap (λ (s : State). answer (reasonRefusal t (side t) (s .picks) g c) (firstLacking (question t g c .meets) (map suc (s .picks))) 0)
-      (paused-state t omit (at p Handed) (at k Handed) (w .stands));
+  pick = λ z j w. ap (λ (s : State). answer (reasonRefusal t (side t) (s .picks) g c) (firstLacking (question t g c .meets) (map suc (s .picks))) 0)
+      (paused-state t k omit (at p Handed) (at j Handed) (w .stands));
 }
 
 -- ---- no two answers of the code read alike

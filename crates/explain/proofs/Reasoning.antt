@@ -1,7 +1,7 @@
 -- The claim of R-6 for either side (`reasoned`).
 --
 -- In order: on the rows that picks are made from, a pair whose row every pick before its own has stays in the chain of the picks (`keeps`), where
--- no candidate is left, and one that a pick before its own lacks does not (`drops`); how a question looks to a side's rows (`Sees`), for both
+-- nothing is left, and one that a pick before its own lacks does not (`drops`); how a question looks to a side's rows (`Sees`), for both
 -- sides (`gauge-sees`, `case-sees`); the claim.
 use mathlib.Core.Path.{_≡_, refl, sym, ap, _∙_, subst}
 use mathlib.Core.Logic.{⊎-elim, _↔_}
@@ -29,11 +29,10 @@ use Rattle.lists.specs.Picks.{common, remainder}
 use Rattle.lists.specs.OnTable.{chainRow, chainOf, handOut}
 use Rattle.lists.proofs.Unpicked.{Un, un-nil, un-snoc}
 use Rattle.lists.proofs.Remainders.{common-snoc}
-use Rattle.lists.proofs.Candidates.{LeafFrom, IsLeaf, leaf-from}
-use Rattle.lists.proofs.Existence.{nothing-left}
 use Rattle.lists.proofs.ChainRows.{row-hit, row-miss, row-le, row-chainOf, chainOf-within}
 use Rattle.conflicts.specs.Tests.{hasPair}
 use Rattle.explain.specs.Reasons.{Question, gaugeQuestion, caseQuestion, IsFirstLacking, madeBefore, Reasoned}
+use Rattle.explain.proofs.Leaves.{LeavesFrom, Leaves}
 use Rattle.explain.proofs.Picks.{before-none, before-own, not-before, before-head, before-tail, before-cases, None, Found, search-before}
 
 -- a test that holds does not fail
@@ -58,8 +57,8 @@ module _ (rows : List ℕ) (own k : ℕ) (low : 1 ≤ own) (meets : ℕ → Bool
   other-pick : (g : ℕ) → ¬ (i ≡ g) → ¬ (own ≡ suc g)
   other-pick g e d = e (omega arith)
 
-  pub keeps : (q p : List ℕ) → LeafFrom rows q p → Un q i → T (bit (remainder rows q i) k) → ((x : ℕ) → List·Memᴰ x (front p) → meets x ≡ true) → T (C q p)
-  keeps q [] l u t a = never (bit 0 k) (none-in k) (subst (λ (x : ℕ). T (bit x k)) (nothing-left rows q l i u) t)
+  pub keeps : (q p : List ℕ) → LeavesFrom rows q p → Un q i → T (bit (remainder rows q i) k) → ((x : ℕ) → List·Memᴰ x (front p) → meets x ≡ true) → T (C q p)
+  keeps q [] l u t a = never (bit 0 k) (none-in k) (subst (λ (x : ℕ). T (bit x k)) (l i u) t)
   keeps q (g ∷ p) l u t a = go (ℕ-discrete i g) (keeps (q ++ (g ∷ [])) p (l .1))
     where
       go : Dec (i ≡ g)
@@ -68,12 +67,12 @@ module _ (rows : List ℕ) (own k : ℕ) (low : 1 ≤ own) (meets : ℕ → Bool
       go (yes e) ih =
           subst (λ (x : ℕ). T (bit x k)) (sym (row-hit rows q g p i e)) (subst (λ (j : ℕ). T (bit (remainder rows q j) k)) e t)
       go (no e) ih =
-          let has : bit (row rows g) k ≡ true = sym (agrees g (l .0 .below)) ∙ a (suc g) (before-head own (suc g) (map suc p) (other-pick g e)) in
+          let has : bit (row rows g) k ≡ true = sym (agrees g (l .0)) ∙ a (suc g) (before-head own (suc g) (map suc p) (other-pick g e)) in
           subst (λ (x : ℕ). T (bit x k)) (sym (row-miss rows q g p i e))
           (ih (un-snoc q g i u e) (subst T (sym (left-bit q g)) (and-i (bit (remainder rows q i) k) (bit (row rows g) k) t (subst T (sym has) tt)))
           (λ x m. a x (before-tail own (suc g) (map suc p) (other-pick g e) x m)))
 
-  pub drops : (q p : List ℕ) → LeafFrom rows q p → (x : ℕ) → List·Memᴰ x (front p) → meets x ≡ false → T (C q p) → ⊥
+  pub drops : (q p : List ℕ) → LeavesFrom rows q p → (x : ℕ) → List·Memᴰ x (front p) → meets x ≡ false → T (C q p) → ⊥
   drops q [] l x m f t = not-before own x (madeBefore own []) (before-none own) m
   drops q (g ∷ p) l x m f t = go (ℕ-discrete i g) (drops (q ++ (g ∷ [])) p (l .1) x)
     where
@@ -84,7 +83,7 @@ module _ (rows : List ℕ) (own k : ℕ) (low : 1 ≤ own) (meets : ℕ → Bool
           let left : T (bit (remainder rows (q ++ (g ∷ [])) i) k)
           = sub-bit (chainRow rows (q ++ (g ∷ [])) p i) (remainder rows (q ++ (g ∷ [])) i) k (row-le rows (q ++ (g ∷ [])) p i) t′ in
           ⊎-elim
-          (λ y. never (bit (row rows g) k) (sym (agrees g (l .0 .below)) ∙ ap meets (sym y) ∙ f)
+          (λ y. never (bit (row rows g) k) (sym (agrees g (l .0)) ∙ ap meets (sym y) ∙ f)
           (and-r (bit (remainder rows q i) k) (bit (row rows g) k) (subst T (left-bit q g) left)))
           (λ y. ih y f t′) (before-cases own (suc g) (map suc p) (other-pick g e) x m)
 
@@ -137,7 +136,7 @@ module _ (t : Table) (legal : Legal t) (g c : ℕ) (low-g : 1 ≤ g) (low-c : 1 
           (chainOf-within (caseSide t .rows) p)
 
 -- ---- the claim
-module _ (t : Table) (s : Side) (q : Question) (g c other : ℕ) (p : List ℕ) (leaf : IsLeaf (s .rows) p) where
+module _ (t : Table) (s : Side) (q : Question) (g c other : ℕ) (p : List ℕ) (leaf : Leaves (s .rows) p) where
   abbrev r : List ℕ
   r = s .rows
 
@@ -152,12 +151,12 @@ module _ (t : Table) (s : Side) (q : Question) (g c other : ℕ) (p : List ℕ) 
           gauge = v .own-low;
           case = v .other-low;
           set = subst (λ (x : ℕ). T (bit x (other - 1))) (sym (row-chainOf r p (q .own - 1)))
-              (keeps r (q .own) (other - 1) (v .own-low) (q .meets) (v .agrees) [] p (leaf-from r p leaf) (un-nil (q .own - 1)) (v .pair h .set) (n .meet));
+              (keeps r (q .own) (other - 1) (v .own-low) (q .meets) (v .agrees) [] p (leaf .whole) (un-nil (q .own - 1)) (v .pair h .set) (n .meet));
         })
 
     pub lacking-out : (x : ℕ) → List·Memᴰ x (madeBefore (q .own) picks) → q .meets x ≡ false → Has (handOut s p) g c → ⊥
     lacking-out x m f h =
-        drops r (q .own) (other - 1) (v .own-low) (q .meets) (v .agrees) [] p (leaf-from r p leaf) x m f
+        drops r (q .own) (other - 1) (v .own-low) (q .meets) (v .agrees) [] p (leaf .whole) x m f
         (subst (λ (y : ℕ). T (bit y (other - 1))) (row-chainOf r p (q .own - 1)) (v .kept p .0 h .set))
 
   pub reasoned : (1 ≤ g → 1 ≤ c → Sees t s q g c other) → Reasoned t s q g c p

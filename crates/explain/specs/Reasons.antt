@@ -14,7 +14,7 @@ use Prim.Native.Nat.{ℕ, suc, _<_}
 use lib.Dec.{eqb}
 use Rattle.table.specs.declared.Table.{Table}
 use Rattle.table.specs.Pairs.{Has}
-use Rattle.table.specs.Tables.{tableRows, tableRefusal}
+use Rattle.table.specs.Tables.{tableRows}
 use Rattle.refusals.specs.Answers.{Answer, answer, verdict}
 use Rattle.rules.specs.Machine.{Handed, at}
 use Rattle.lists.specs.Lists.{Side}
@@ -22,7 +22,7 @@ use Rattle.lists.specs.OnTable.{handOut}
 use Rattle.conflicts.specs.Tests.{hasPair}
 use Rattle.essentials.specs.Answers.{pairRefusal}
 use Rattle.runs.specs.Paused.{Value}
-use Rattle.runs.specs.Calling.{PausedAt}
+use Rattle.runs.specs.Calling.{valueRefusal, PausedAt}
 use Rattle.explain.specs.declared.GaugeReason.{GaugeReason}
 use Rattle.explain.specs.declared.CaseReason.{CaseReason}
 
@@ -64,12 +64,13 @@ reasonRefusal t s p g c = cond (eqb (pairRefusal t g c) 0) (cond (hasPair (handO
 abbrev pub noPick : ℕ → Answer ℕ
 noPick n = record { refusal = n; value = 0 }
 
--- a answers the question why the pair g:c is not in the ladder of the value v: 10 and 11 for the table; then 15 for a value that no number of
--- moves leads to, "also for another phase"; then 19 and 22; and else the first pick that lacks the pair's other number
+-- a answers the question why the pair g:c is not in the ladder of the value v: 10 and 11 for the table, and right after them 27 for the preference
+-- that it keeps (R-12); then 15 for a value that no number of moves leads to, "also for another phase"; then 19 and 22; and else the first pick
+-- that lacks the pair's other number: by the run's own picks, in their own order
 pub record Explained (side : Table → Side) (question : Table → ℕ → ℕ → Question) (v : Value) (g c : ℕ) (a : Answer ℕ) : Type 0 where
-  pub table : 0 < tableRefusal (v .table) → a ≡ noPick (tableRefusal (v .table))
-  pub value : tableRefusal (v .table) ≡ 0 → ((p : List ℕ) → PausedAt side v (at p Handed) → ⊥) → a ≡ noPick 15
-  pub pick : tableRefusal (v .table) ≡ 0 → (p : List ℕ) → PausedAt side v (at p Handed)
+  pub table : 0 < valueRefusal side v → a ≡ noPick (valueRefusal side v)
+  pub value : valueRefusal side v ≡ 0 → ((p : List ℕ) → PausedAt side v (at p Handed) → ⊥) → a ≡ noPick 15
+  pub pick : valueRefusal side v ≡ 0 → (p : List ℕ) → PausedAt side v (at p Handed)
       → a ≡ answer (reasonRefusal (v .table) (side (v .table)) p g c) (firstLacking (question (v .table) g c .meets) (map suc p)) 0
 
 -- ---- the claim
@@ -88,7 +89,7 @@ pub record Reasoned (t : Table) (s : Side) (q : Question) (g c : ℕ) (p : List 
 -- of every pair, and the ladder of the value v
 abbrev pub HasReasons : (Table → Side) → (Table → ℕ → ℕ → Question) → Value → Type 0
 HasReasons side question v =
-    tableRefusal (v .table) ≡ 0 → (p : List ℕ) → PausedAt side v (at p Handed) → (g c : ℕ)
+    valueRefusal side v ≡ 0 → (p : List ℕ) → PausedAt side v (at p Handed) → (g c : ℕ)
     → Reasoned (v .table) (side (v .table)) (question (v .table) g c) g c p
 
 -- ---- how the two structs read: 01's number, 0 where nothing is refused, and the pick's number

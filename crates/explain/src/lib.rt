@@ -1,5 +1,5 @@
 // Ladders that explain themselves (02, R-6): why a pair of the table is not in the ladder that a paused run has handed out. Two entries, one
-// for each side, over one search; a ladder is a maximal chain. Any paused value and any numbers are taken: 10, 11, 15, 19 and 22 are refused,
+// for each side, over one search; a ladder is a maximal chain. Any paused value and any numbers are taken: 10, 11, 27, 15, 19 and 22 are refused,
 // with a blank pick beside a refusal, and nothing is lent. The pick sequence itself is in the answer of a run call, crate `runs`.
 use refusals::Refusal;
 use refusals::Verdict;
@@ -88,7 +88,7 @@ pub fn explain_case(p: CaseRun, g: Gauge, c: Case) -> CaseReason
     }
 }
 
-// The checks before the picks are looked at. A run call without a budget makes no move: it refuses the values that 10, 11 and 15 refuse, and
+// The checks before the picks are looked at. A run call without a budget makes no move: it refuses the values that 10, 11, 27 and 15 refuse, and
 // no other. Then 15 for another phase, and 19.
 fn check(outcome: Outcome, handed: bool, t: Table, g: Gauge, c: Case) -> Verdict
     ensures { λ r. ⌜ verdict r ≡ unasked outcome handed (hasPair (t .rows) (g .0) (c .0)) ⌝ }

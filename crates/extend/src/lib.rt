@@ -1,8 +1,11 @@
-// Extending a chain of a table to the first maximal chain, in gauge order, that contains it (01: "Growing"). Any table and any chain are
-// taken, however malformed; 10 to 14 are refused in 01's order, and a refusal has the blank chain beside it. No maximal chains are listed:
-// each turn picks the lowest candidate that still leaves room for the rest of the chain, at most 64 turns of at most 64 * 64 steps.
+// Extending a chain of a table to the first maximal chain, in gauge order under a preference, that contains it (01: "Growing"; 02, R-12). Any table,
+// order and chain are taken, however malformed; 10, 11, 27 and 12 to 14 are refused in this order, and a refusal has the blank chain beside it.
+// No maximal chains are listed: each turn picks the lowest candidate that still leaves room for the rest of the chain, at most 64 turns of at
+// most 64 * 64 steps, on the rows as the order has them.
 use judge;
 use judge::Judgement;
+use preference;
+use preference::GaugeOrder;
 use refusals::Refusal;
 use refusals::Verdict;
 use search;
@@ -12,10 +15,13 @@ use table::Table;
 ghost use mathlib.Core.Path.{_≡_};
 ghost use Prim.Native.Nat.{_≤_, _<_};
 ghost use Rattle.table.specs.Chains.{IsChain};
-ghost use Rattle.table.specs.Tables.{chainRows, chainRefusal, blankChain};
+ghost use Rattle.table.specs.Tables.{chainRows, blankChain};
+ghost use Rattle.table.proofs.Legality.{ChainFacts};
 ghost use Rattle.refusals.specs.Answers.{refused};
 ghost use Rattle.search.specs.Finding.{First};
-ghost use Rattle.extend.specs.Extending.{extended, FirstRows, Extends};
+ghost use Rattle.preference.specs.Preferences.{orderOf};
+ghost use Rattle.extend.specs.Extending.{extended, growRefusal, FirstRows, Extends};
+ghost use Rattle.extend.specs.private.FirstByNumber.{FirstByNumber};
 ghost use Rattle.extend.specs.private.PickSteps.{unionTo, fitsIn};
 
 // A maximal chain, or a refusal with the blank chain. `extended` in specs/Extending.antt reads it.
@@ -24,16 +30,21 @@ pub struct Extended {
     pub chain: Chain,
 }
 
-// The first maximal chain of `t` that contains `s`.
-pub fn extend_chain(t: Table, s: Chain) -> Extended
-    ensures { λ r. ⌜ Extends t s (extended r) ⌝ }
+// The first maximal chain of `t` that contains `s`, by an order of the gauges.
+pub fn extend_chain(t: Table, order: GaugeOrder, s: Chain) -> Extended
+    ensures { λ r. ⌜ Extends t (order .0) s (extended r) ⌝ }
 {
+    let numbers = order.0;
+    let checked = preference::check(t, t.gauges, numbers);
+    if let Verdict::Refused(why) = checked {
+        return refuse(why);
+    }
     let judged = judge::judge_chain(t, s);
     match judged {
         Judgement::Refused(why) => refuse(why),
         Judgement::No => refuse(Refusal::NotAChain),
         Judgement::Yes => {
-            let rows = first_rows(t, s);
+            let rows = first_by_place(t, numbers, s);
             let chain = Chain {
                 gauges: t.gauges,
                 rows: rows,
@@ -61,11 +72,36 @@ fn refuse(why: Refusal) -> Extended
     }
 }
 
-// The rows of the first maximal chain that contains `s`. `owed` has the rows of `s` whose gauges are still to be picked: a pick whose
+// The rows of the first maximal chain by place: the first by number of the rows as the order has them, and back.
+fn first_by_place(t: Table, numbers: [u8; 64], s: Chain) -> [u64; 64]
+    requires { ⌜ (growRefusal t numbers s ≡ 0) × IsChain (chainRows s) ⌝ }
+    ensures { λ r. ⌜ FirstRows t (orderOf (t .gauges) numbers) s r ⌝ }
+{
+    let n = t.gauges as usize;
+    let given = t.rows;
+    let rows = preference::gather(&given, &numbers, n);
+    let arranged = Table {
+        gauges: t.gauges,
+        cases: t.cases,
+        rows: rows,
+    };
+    let part = s.rows;
+    let asked = preference::gather(&part, &numbers, n);
+    let chain = Chain {
+        gauges: t.gauges,
+        rows: asked,
+    };
+    let first = first_rows(arranged, chain);
+    let placed = preference::place_all(numbers, n);
+    let places = placed.places;
+    preference::gather(&first, &places, n)
+}
+
+// The rows of the first maximal chain, by number, that contains `s`. `owed` has the rows of `s` whose gauges are still to be picked: a pick whose
 // remainder does not contain them all would leave a pair of `s` out.
 fn first_rows(t: Table, s: Chain) -> [u64; 64]
-    requires { ⌜ (chainRefusal t s ≡ 0) × IsChain (chainRows s) ⌝ }
-    ensures { λ r. ⌜ FirstRows t s r ⌝ }
+    requires { ⌜ ChainFacts t s × IsChain (chainRows s) ⌝ }
+    ensures { λ r. ⌜ FirstByNumber t s r ⌝ }
 {
     let n = t.gauges as usize;
     let mut unpicked = t.rows;

@@ -28,6 +28,8 @@ use Rattle.judge.proofs.KnownChains.{k6-within, k6-no-chain, k7-within, k7-chai
 use Rattle.rules.specs.Machine.{fresh, Given, nothing, hands, ends, move, after}
 use Rattle.rules.specs.Calls.{callBy}
 use Rattle.rules.proofs.Sequences.{All-of}
+use Rattle.lists.specs.Arrangements.{placeOf}
+use Rattle.lists.specs.Preferred.{rulesOutBy, candidateBy, chosen, candidatesBy}
 use Rattle.lists.specs.PickSequence.{isIn, score, best, takeFrom, pickSeq}
 use Rattle.lists.specs.Lists.{GaugeList}
 use Rattle.lists.specs.Picks.{common, rulesOut, candidate, select, candidates}
@@ -116,7 +118,8 @@ known-tables = record { complete = listed; holds = All-of Claim knownTables (λ 
 
 -- ---- the limits
 pub limits-attained : Attained
-unfolding candidates select candidate rulesOut common isIn isProperSubset isSubset meet allBelow chainOf chainRow tabulate callBy
+unfolding candidatesBy chosen candidateBy rulesOutBy placeOf candidates select candidate rulesOut common isIn isProperSubset isSubset meet allBelow chainOf
+    chainRow tabulate callBy
 limits-attained = record {
   start = refl;
   first = _;

@@ -16,7 +16,8 @@ use Rattle.rules.specs.Sequences.{All, factorial}
 use Rattle.rules.specs.Machine.{Down, Handed, Back, Ended, at, fresh, nothing, hands, ends, Move, gives, move, after}
 use Rattle.rules.specs.Calls.{Call, handed, movesUntil, isHandOut, isHandOutOrEnd}
 use Rattle.lists.specs.PickSequence.{pickSeq}
-use Rattle.lists.specs.Lists.{gaugeSide, GaugeList}
+use Rattle.lists.specs.Arrangements.{plain}
+use Rattle.lists.specs.Lists.{gaugeSide, sequenceOf, GaugeList}
 use Rattle.lists.specs.Growing.{FirstContaining}
 use Rattle.lists.specs.Picks.{candidates}
 use Rattle.lists.specs.OnTable.{callsOn}
@@ -78,7 +79,7 @@ pub record NotMaximal (t : Table) (s : List ℕ) : Type 0 where
 pub record Grows (t : Table) (s x : List ℕ) : Type 0 where
   pub within : Within (tableRows t) s
   pub chain : IsChain s
-  pub first : FirstContaining (tableRows t) s x
+  pub first : FirstContaining (tableRows t) (sequenceOf (gaugeSide t)) s x
 
 -- move k of the gauge run, counted from 1, by rules 1 to 5 from the fresh start: what it gives, and the state after it
 abbrev pub moveOf : Table → ℕ → Move
@@ -174,11 +175,11 @@ pub record AllKnown : Type 0 where
 -- ---- the limits of demand 3 are attained, whatever the budgets, a refused one among them
 pub record Attained : Type 0 where
   -- K3 needs G + 1 moves to its first hand-out
-  pub start : movesUntil isHandOut (callsOn (gaugeSide k3) (1 ∷ 1 ∷ 2000000 ∷ 1 ∷ 1 ∷ [])) ≡ k3 .gauges + 1
+  pub start : movesUntil isHandOut (callsOn (gaugeSide k3) (plain 3) (1 ∷ 1 ∷ 2000000 ∷ 1 ∷ 1 ∷ [])) ≡ k3 .gauges + 1
   -- and 2 G + 1 from there to the next
   pub first : Call
   pub later : List Call
-  pub parts : callsOn (gaugeSide k3) (4 ∷ 3 ∷ 2000000 ∷ 0 ∷ 1 ∷ 3 ∷ []) ≡ first ∷ later
+  pub parts : callsOn (gaugeSide k3) (plain 3) (4 ∷ 3 ∷ 2000000 ∷ 0 ∷ 1 ∷ 3 ∷ []) ≡ first ∷ later
   pub handed-out : (y : List ℕ) × (first .answer ≡ handed y)
   pub gap : movesUntil isHandOutOrEnd later ≡ 2 * k3 .gauges + 1
   -- K2 has (min G L)! maximal chains

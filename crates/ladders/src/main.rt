@@ -9,6 +9,7 @@ use libc::EPIPE;
 use libc::STDERR_FILENO;
 use libc::STDIN_FILENO;
 use libc::STDOUT_FILENO;
+use preference::GaugeOrder;
 use refusals::Verdict;
 use table::Table;
 
@@ -198,10 +199,10 @@ fn refuse(n: u64) -> End {
     End::Refused(n)
 }
 
-// Lists the table's maximal chains. A proved loop has to end, and the number of ladders is bounded only by 64!: the loop counts its blocks
-// down from a number that no run uses up; if it did, that is said.
+// Lists the table's maximal chains in gauge order, the plain one. A proved loop has to end, and the number of ladders is bounded only by 64!:
+// the loop counts its blocks down from a number that no run uses up; if it did, that is said.
 fn list(t: Table) -> End {
-    let started = runs::start_gauges(t, false);
+    let started = runs::start_gauges(t, GaugeOrder::plain(t.gauges), false);
     let mut run = started.run;
     let mut space = io::large_buffer();
     let mut blocks = u64::MAX;

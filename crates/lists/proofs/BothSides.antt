@@ -21,14 +21,14 @@ use Rattle.table.proofs.Legality.{length-rows, legal-cases}
 use Rattle.rules.specs.Sequences.{All, Sorted, factorial}
 use Rattle.rules.proofs.Sequences.{All-of}
 use Rattle.lists.specs.PickSequence.{Precedes}
-use Rattle.lists.specs.Lists.{Earlier, SideList, Side, gaugeSide, caseSide, GaugeList, CaseList}
+use Rattle.lists.specs.Lists.{Earlier, SideList, Side, gaugeSide, caseSide, sequenceOf, GaugeList, CaseList}
 use Rattle.lists.specs.OnTable.{chainOf, handOut}
 use Rattle.lists.proofs.Listed.{picksInOrder, chainsInOrder, listed, lists-length, gauge-list, leaves-few}
 
 pub record Fair (t : Table) (s : Side) : Type 0 where
   pub counted : length (s .rows) ≡ s .count
-  pub over : (x : List ℕ) → IsMaximal (tableRows t) x → IsMaximal (s .rows) (s .key x) × (s .byGauges (s .key x) ≡ x)
-  pub home : (y : List ℕ) → IsMaximal (s .rows) y → IsMaximal (tableRows t) (s .byGauges y) × (s .key (s .byGauges y) ≡ y)
+  pub over : (x : List ℕ) → IsMaximal (tableRows t) x → IsMaximal (s .rows) (s .view x) × (s .byGauges (s .view x) ≡ x)
+  pub home : (y : List ℕ) → IsMaximal (s .rows) y → IsMaximal (tableRows t) (s .byGauges y) × (s .view (s .byGauges y) ≡ y)
 
 pub gauge-fair : (t : Table) → Legal t → Fair t (gaugeSide t)
 gauge-fair t l = record { counted = length-rows t l; over = λ x m. (m, refl); home = λ y m. (m, refl) }
@@ -70,9 +70,9 @@ module _ (t : Table) (s : Side) (f : Fair t s) where
   abbrev pub sideList : List (List ℕ)
   sideList = map (handOut s) (picksInOrder (s .rows))
 
-  pub side-list : SideList (tableRows t) (s .key) sideList
+  pub side-list : SideList (tableRows t) (sequenceOf s) sideList
   side-list =
-      subst (SideList (tableRows t) (s .key)) (map-map (s .byGauges) (chainOf (s .rows)) (picksInOrder (s .rows)))
+      subst (SideList (tableRows t) (sequenceOf s)) (map-map (s .byGauges) (chainOf (s .rows)) (picksInOrder (s .rows)))
       (listed (map (s .byGauges) own) (λ x. (into x, onto x)) ascends)
     where
       own : List (List ℕ)
@@ -85,11 +85,11 @@ module _ (t : Table) (s : Side) (f : Fair t s) where
       into x m = let z = Memᴰ·of-map (s .byGauges) own m in subst (IsMaximal (tableRows t)) (z .2) (f .home (z .0) (own-maximal (z .0) (z .1)) .0)
 
       onto : (x : List ℕ) → IsMaximal (tableRows t) x → List·Memᴰ x (map (s .byGauges) own)
-      onto x m = Memᴰ·cast (sym (f .over x m .1)) (Memᴰ·map (s .byGauges) (gauge-list (s .rows) .members (s .key x) .1 (f .over x m .0)))
+      onto x m = Memᴰ·cast (sym (f .over x m .1)) (Memᴰ·map (s .byGauges) (gauge-list (s .rows) .members (s .view x) .1 (f .over x m .0)))
 
-      ascends : Sorted (Earlier (s .key)) (map (s .byGauges) own)
+      ascends : Sorted (Earlier (sequenceOf s)) (map (s .byGauges) own)
       ascends =
-          sorted-back Precedes (s .byGauges) (s .key) own (All-of (λ (y : List ℕ). s .key (s .byGauges y) ≡ y) own (λ y m. f .home y (own-maximal y m) .1))
+          sorted-back Precedes (s .byGauges) (s .view) own (All-of (λ (y : List ℕ). s .view (s .byGauges y) ≡ y) own (λ y m. f .home y (own-maximal y m) .1))
           (gauge-list (s .rows) .ascends)
 
   -- no list of the table is longer than there are orders of what the side can pick

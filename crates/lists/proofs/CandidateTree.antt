@@ -6,13 +6,11 @@ use Prim.Native.Nat.{ℕ, _+_, _-_, _≤_}
 use native.Mathlib.Omega.{arith}
 use lib.ListN.{length}
 use lib.Seq.{append-snoc}
-use Rattle.rules.specs.Machine.{State}
+use Rattle.rules.specs.Machine.{State, Reached}
 use Rattle.rules.specs.private.Fitting.{ValidFrom, Valid, Fits}
 use Rattle.rules.proofs.Trees.{Tree}
 use Rattle.rules.proofs.Reach.{reachable}
-use Rattle.lists.specs.Lists.{Side}
 use Rattle.lists.specs.Picks.{candidate, candidates}
-use Rattle.lists.specs.OnTable.{ReachedOn}
 use Rattle.lists.proofs.Unpicked.{free, free-nil, free-drop}
 use Rattle.lists.proofs.Selecting.{select-ascends, select-free}
 use Rattle.lists.proofs.Candidates.{Cand, cand-of, mem-candidates}
@@ -41,5 +39,5 @@ module _ (rows : List ℕ) where
   }
 
 -- the states that some number of moves leads to are those whose picks fit the phase
-pub reached-fits : (s : Side) (x : State) → ReachedOn s x ↔ Fits (candidates (s .rows)) (x .picks) (x .phase)
-reached-fits s x = reachable (candidates (s .rows)) (length (s .rows)) (candidate-tree (s .rows)) x
+pub reached-fits : (r : List ℕ) (x : State) → Reached (candidates r) x ↔ Fits (candidates r) (x .picks) (x .phase)
+reached-fits r x = reachable (candidates r) (length r) (candidate-tree r) x

@@ -25,6 +25,7 @@ use Rattle.table.proofs.Nesting.{Nested}
 use Rattle.rules.specs.Sequences.{Before}
 use Rattle.rules.proofs.Sequences.{before-irrefl, before-trans}
 use Rattle.lists.specs.PickSequence.{isIn, score, pickSeq, Precedes}
+use Rattle.lists.specs.Lists.{Earlier}
 use Rattle.lists.specs.Growing.{FirstContaining}
 use Rattle.lists.specs.Picks.{remainder, candidate, select, candidates}
 use Rattle.lists.specs.OnTable.{chainRow, chainOf}
@@ -214,7 +215,7 @@ module _ (rows s : List ℕ) (w : Within rows s) where
     grown = grows [] (length rows) (chain-suits rows s w h) (omega (arith, free-nil (length rows)))
 
     -- the greedy choice gives the first maximal chain that contains s
-    pub grow-first : FirstContaining rows s (chainOf rows (grow rows s))
+    pub grow-first : FirstContaining rows pickSeq s (chainOf rows (grow rows s))
     unfolding First
     grow-first = record {
       maximal = leaf-maximal rows (grow rows s) leaf;
@@ -234,10 +235,10 @@ module _ (rows s : List ℕ) (w : Within rows s) where
         order y m (inl e) = inl (sym (maximal-chainOf rows y m) ∙ ap (chainOf rows) (sym e))
         order y m (inr b) = inr (rw (leaf-pickSeq rows (grow rows s) leaf) b)
 
-pub first-unique : (rows s x y : List ℕ) → FirstContaining rows s x → FirstContaining rows s y → x ≡ y
-first-unique rows s x y a b = go (a .first y (b .maximal) (b .contains)) (b .first x (a .maximal) (a .contains))
+pub first-unique : (rows : List ℕ) (key : List ℕ → List ℕ) (s x y : List ℕ) → FirstContaining rows key s x → FirstContaining rows key s y → x ≡ y
+first-unique rows key s x y a b = go (a .first y (b .maximal) (b .contains)) (b .first x (a .maximal) (a .contains))
   where
-    go : (y ≡ x) ⊎ Precedes x y → (x ≡ y) ⊎ Precedes y x → x ≡ y
+    go : (y ≡ x) ⊎ Earlier key x y → (x ≡ y) ⊎ Earlier key y x → x ≡ y
     go (inl e) k = sym e
     go (inr h) (inl e) = e
-    go (inr h) (inr k) = absurd (before-irrefl (pickSeq x) (before-trans (pickSeq x) (pickSeq y) (pickSeq x) h k))
+    go (inr h) (inr k) = absurd (before-irrefl (key x) (before-trans (key x) (key y) (key x) h k))

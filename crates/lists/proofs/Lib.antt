@@ -9,8 +9,16 @@ pub mod Existence
 pub mod Maximal
 pub mod CandidateTree
 pub mod Listed
-pub mod Demand
+pub mod Standing
+pub mod Arranging
 pub mod BothSides
+pub mod PlacedCandidates
+pub mod PlacedSequences
+pub mod PreferredSides
+pub mod PlacedRuns
+pub mod Demand
 pub mod Keeping
 pub mod Growing
+pub mod PreferredGrowing
+pub mod Plain
 pub mod Replaying

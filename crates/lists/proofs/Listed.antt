@@ -1,7 +1,7 @@
 -- The list theorem: the chains of the leaves, in the order of the leaves, are the gauge list of the rows (`gauge-list`).
 --
 -- In order: what holds of every list of a table, whatever its key: no other list is (`list-unique`), two have the same members (`lists-same`) and are
--- equally long (`lists-length`); the theorem; no more leaves than n! for n rows (`leaves-few`).
+-- equally long (`lists-length`), keys that agree have the same lists (`list-keys`); the theorem; no more leaves than n! for n rows (`leaves-few`).
 --
 -- Elsewhere: leaves and maximal chains, Maximal.antt; the case side, BothSides.antt.
 use mathlib.Core.Path.{_≡_, sym, subst}
@@ -27,7 +27,7 @@ use Rattle.lists.proofs.Maximal.{leaf-maximal, maximal-leaf, maximal-ch
 module _ {r : List ℕ} {key : List ℕ → List ℕ} where
   pub list-unique : (xs ys : List (List ℕ)) → SideList r key xs → SideList r key ys → xs ≡ ys
   list-unique xs ys a b =
-      sorted-unique (Earlier key) (λ x. before-irrefl (pickSeq (key x))) (λ x y z h k. search (before-trans, h, k)) xs ys (a .ascends) (b .ascends)
+      sorted-unique (Earlier key) (λ x. before-irrefl (key x)) (λ x y z h k. search (before-trans, h, k)) xs ys (a .ascends) (b .ascends)
       (λ x. (λ m. b .members x .1 (a .members x .0 m), λ m. a .members x .1 (b .members x .0 m)))
 
 -- two lists of one table, whatever the keys: the same members, so equally many
@@ -41,7 +41,24 @@ module _ {r : List ℕ} {key key′ : List ℕ → List ℕ} (xs ys : List (List
 -- a list that ascends has no set twice
 pub listed : {r : List ℕ} {key : List ℕ → List ℕ} (xs : List (List ℕ)) → ((x : List ℕ) → List·Memᴰ x xs ↔ IsMaximal r x)
     → Sorted (Earlier key) xs → SideList r key xs
-listed {r} {key} xs m a = record { members = m; once = Sorted-map (λ x y h e. before-irrefl (pickSeq (key y)) (rw e at h)) xs a; ascends = a }
+listed {r} {key} xs m a = record { members = m; once = Sorted-map (λ x y h e. before-irrefl (key y) (rw e at h)) xs a; ascends = a }
+
+-- keys that agree on the maximal chains have the same lists
+sorted-keys : (key key′ : List ℕ → List ℕ) (xs : List (List ℕ)) → All (λ (x : List ℕ). key x ≡ key′ x) xs → Sorted (Earlier key) xs → Sorted (Earlier key′) xs
+sorted-keys key key′ [] h s = tt
+sorted-keys key key′ (x ∷ xs) h s = (after xs h.1 s.0, sorted-keys key key′ xs h.1 s.1)
+  where
+    after : (ys : List (List ℕ)) → All (λ (y : List ℕ). key y ≡ key′ y) ys → All (Earlier key x) ys → All (Earlier key′ x) ys
+    after [] k t = tt
+    after (y ∷ ys) k t = (rw (h.0, k.0) at (t.0), after ys k.1 t.1)
+
+pub list-keys : (r : List ℕ) (key key′ : List ℕ → List ℕ) → ((x : List ℕ) → IsMaximal r x → key x ≡ key′ x) → (xs : List (List ℕ)) → SideList r key xs
+    → SideList r key′ xs
+list-keys r key key′ e xs l = record {
+  members = l .members;
+  once = l .once;
+  ascends = sorted-keys key key′ xs (All-of (λ (x : List ℕ). key x ≡ key′ x) xs (λ x m. e x (l .members x .0 m))) (l .ascends);
+}
 
 -- ---- the list of rows
 module _ (r : List ℕ) where
@@ -64,9 +81,9 @@ module _ (r : List ℕ) where
       after (q ∷ m) a b = (rw (leaf-pickSeq r p h.0, leaf-pickSeq r q a.0) b.0, after m a.1 b.1)
 
   -- ---- the gauge list
-  pub gauge-list : SideList r (λ x. x) chainsInOrder
+  pub gauge-list : SideList r pickSeq chainsInOrder
   gauge-list =
-      listed {key = λ x. x} chainsInOrder (λ x. (into x, onto x))
+      listed {key = pickSeq} chainsInOrder (λ x. (into x, onto x))
       (chains-ascend picksInOrder (All-of (IsLeaf r) picksInOrder (λ p m. leaf-of p .0 m)) (leaves-ascend (candidates r) (length r) (candidate-tree r)))
     where
       into : (x : List ℕ) → List·Memᴰ x chainsInOrder → IsMaximal r x

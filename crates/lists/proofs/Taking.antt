@@ -105,7 +105,7 @@ module _ (s q : List ℕ) where
       b (yes d) = d
       b (no d) = absurd (omega (arith, score-le i, ones-zero, ap ones (row-past s i (omega arith))))
 
-  pub next : ℕ
+  unfoldable pub next : ℕ
   next = best (score s q) (length s)
 
   pub next-is : (g : ℕ) → g < length s → ((j : ℕ) → j < length s → score s q j ≤ score s q g) → ((j : ℕ) → j < g → score s q j < score s q g) → next ≡ g

@@ -4,6 +4,7 @@
 use boards;
 use cover_search;
 use cover_search::Search;
+use preference::GaugeOrder;
 use refusals::Refusal;
 use refusals::Verdict;
 use runs;
@@ -85,7 +86,7 @@ fn list_ladders(t: Table, ladders: &mut [u64; 1024]) -> usize
     requires room { ⌜ length (now ladders) ≡ mostLadders ⌝ }
     ensures { λ r. ⌜ Lists t r (now (ladders .exit)) ⌝ }
 {
-    let start = runs::start_gauges(t, false);
+    let start = runs::start_gauges(t, GaugeOrder::plain(t.gauges), false);
     let mut run = start.run;
     let mut n: usize = 0;
     while n < MOST_LADDERS {

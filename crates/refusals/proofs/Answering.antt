@@ -40,6 +40,7 @@ use Rattle.refusals.specs.declared.Refusal.the-variants.{
   TooManyChains,
   NotMaximal,
   OtherProposal,
+  NotAnArrangement,
 }
 use Rattle.refusals.specs.declared.Verdict.{Verdict}
 use Rattle.refusals.specs.declared.Verdict.the-variants.{Accepted, Refused}
@@ -50,7 +51,7 @@ named n =
     getD
     (FileTooLong ∷ NotTheBanner ∷ LineTooLong ∷ SizeFields ∷ SizeRange ∷ PairFields ∷ PairRange ∷ PairRepeated ∷ PairCount
     ∷ TableShape ∷ TableRows ∷ ChainCount ∷ ChainPairs ∷ NotAChain ∷ NotReached ∷ BufferTooShort ∷ NoSuchComment ∷ BudgetTooLarge
-    ∷ PairAbsent ∷ ReadingRange ∷ CutoffRange ∷ PairInChain ∷ CoverShape ∷ TooManyChains ∷ NotMaximal ∷ OtherProposal ∷ [])
+    ∷ PairAbsent ∷ ReadingRange ∷ CutoffRange ∷ PairInChain ∷ CoverShape ∷ TooManyChains ∷ NotMaximal ∷ OtherProposal ∷ NotAnArrangement ∷ [])
     (n - 1) FileTooLong
 
 pub named-number : (x : Refusal) → named (number x) ≡ x
@@ -81,6 +82,7 @@ named-number CoverShape = refl
 named-number TooManyChains = refl
 named-number NotMaximal = refl
 named-number OtherProposal = refl
+named-number NotAnArrangement = refl
 
 pub number-injective : (x y : Refusal) → number x ≡ number y → x ≡ y
 number-injective x y e = sym (named-number x) ∙ ap named e ∙ named-number y

@@ -31,6 +31,7 @@ use Rattle.refusals.specs.declared.Refusal.the-variants.{
   TooManyChains,
   NotMaximal,
   OtherProposal,
+  NotAnArrangement,
 }
 use Rattle.refusals.specs.declared.Verdict.{Verdict}
 use Rattle.refusals.specs.declared.Verdict.the-variants.{Accepted, Refused}
@@ -69,6 +70,8 @@ number TooManyChains = 24
 number NotMaximal = 25
 -- 02, R-10: "the proposal is not what the trial of its ladder and place on that table gives"
 number OtherProposal = 26
+-- 02, R-12: "a preference that is no arrangement"
+number NotAnArrangement = 27
 
 -- an answer: 01's number, 0 where nothing is refused, and the value
 pub record Answer (A : Type 0) : Type 0 where

@@ -32,6 +32,7 @@ pub enum Refusal {
     TooManyChains,
     NotMaximal,
     OtherProposal,
+    NotAnArrangement,
 }
 
 // Whether a check passed, and if not, which refusal it was.
@@ -71,5 +72,6 @@ pub fn refusal_number(why: Refusal) -> u64
         Refusal::TooManyChains => 24,
         Refusal::NotMaximal => 25,
         Refusal::OtherProposal => 26,
+        Refusal::NotAnArrangement => 27,
     }
 }

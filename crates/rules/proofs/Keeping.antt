@@ -22,7 +22,7 @@ use Rattle.rules.proofs.Kept.{kept-yes, kept-no}
 
 module _ (kids : List ℕ → List ℕ) (out : List ℕ → List ℕ) (keep : List ℕ → Bool) (n : ℕ) (t : Tree kids n) where
   abbrev mv : State → Move
-  mv = moveKeeping kids out keep
+  mv = moveKeeping (move kids) out keep
 
   -- the leaves, and the kept sets, still to come
   abbrev toCome : State → List (List ℕ)
@@ -61,7 +61,7 @@ module _ (kids : List ℕ → List ℕ) (out : List ℕ → List ℕ) (keep : Li
       fit = move-fits kids n t (s .picks) (s .phase) h
 
       go : KeptLaw s′ (carryBy mv out b s′) → (g : Given) → listed g (toCome s′) ≡ toCome s → Closes g s′
-          → KeptLaw s (proceedBy mv out (carryBy mv out b) (taken kids out keep g) s′)
+          → KeptLaw s (proceedBy mv out (carryBy mv out b) (taken out keep g) s′)
       go m nothing l c = record { fits = m .fits; keeps = m .keeps ∙ ahead-same s s′ l; closed = m .closed }
       go m ends l c = record { fits = fit; keeps = ahead-same s s′ l; closed = c }
       go m (hands p) l c = split (keep (out p)) refl
@@ -137,7 +137,7 @@ module _ (kids : List ℕ → List ℕ) (out : List ℕ → List ℕ) (keep : Li
 
   one-move : (s : State) → callBy mv out 1 s .next ≡ move kids s .next
   unfolding callBy
-  one-move s = go (taken kids out keep (move kids s .given))
+  one-move s = go (taken out keep (move kids s .given))
     where
       go : (g : Given) → proceedBy mv out (carryBy mv out 0) g (move kids s .next) .next ≡ move kids s .next
       go nothing = refl
@@ -178,7 +178,7 @@ module _ (kids : List ℕ → List ℕ) (out : List ℕ → List ℕ) (keep : Li
       later ends l p m = a p (rw l at m)
 
       go : (g : Given) → listed g (toCome s′) ≡ toCome s → (Kept s′ → (carryBy mv out b s′ ≡ carry kids out b s′) × Kept (carry kids out b s′ .next))
-          → (proceedBy mv out (carryBy mv out b) (taken kids out keep g) s′ ≡ proceed kids out (carry kids out b) g s′) × Kept
+          → (proceedBy mv out (carryBy mv out b) (taken out keep g) s′ ≡ proceed kids out (carry kids out b) g s′) × Kept
           (proceed kids out (carry kids out b) g s′ .next)
       go nothing l on = let r = on (later nothing l) in (ap (λ (c : Call). result (c .answer) (suc (c .moves)) (c .next)) (r .0), r .1)
       go (hands p) l on = let m : List·Memᴰ p (p ∷ toCome s′) = List·Memᴰ·head refl in (rw (a p (rw l at m)), later (hands p) l)

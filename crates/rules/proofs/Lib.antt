@@ -10,3 +10,5 @@ pub mod Ends
 pub mod Kept
 pub mod Keeping
 pub mod Attained
+pub mod Renaming
+pub mod Reaching

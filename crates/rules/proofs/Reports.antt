@@ -132,7 +132,7 @@ module _ (mv : State → Move) (out : List ℕ → List ℕ) where
           }
 
   -- ---- one call
-  whole-by : (b : ℕ) (s : State) → b ≤ mostBudget → WholeBy mv out b s (callBy mv out b s)
+  pub whole-by : (b : ℕ) (s : State) → b ≤ mostBudget → WholeBy mv out b s (callBy mv out b s)
   whole-by b s l = rw (within-by mv out b s l) (carry-whole b s)
 
   pub only18-by : (b : ℕ) (s : State) → Only18 b s (callBy mv out b s)

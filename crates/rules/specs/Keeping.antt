@@ -5,17 +5,17 @@
 use mathlib.Core.Bool.{Bool, cond}
 use mathlib.Core.List.{List, [], _∷_}
 use Prim.Native.Nat.{ℕ}
-use Rattle.rules.specs.Machine.{State, Given, nothing, hands, ends, Move, gives, move}
+use Rattle.rules.specs.Machine.{State, Given, nothing, hands, ends, Move, gives}
 
-module _ (kids : List ℕ → List ℕ) (out : List ℕ → List ℕ) (keep : List ℕ → Bool) where
-  -- what this run gives of what a move of the rules gives
-  abbrev pub taken : Given → Given
-  taken nothing = nothing
-  taken (hands p) = cond (keep (out p)) (hands p) nothing
-  taken ends = ends
+-- what this run gives of what a move of the rules gives
+abbrev pub taken : (List ℕ → List ℕ) → (List ℕ → Bool) → Given → Given
+taken out keep nothing = nothing
+taken out keep (hands p) = cond (keep (out p)) (hands p) nothing
+taken out keep ends = ends
 
-  abbrev pub moveKeeping : State → Move
-  moveKeeping s = gives (taken (move kids s .given)) (move kids s .next)
+-- its moves, where those of the rules are mv
+abbrev pub moveKeeping : (State → Move) → (List ℕ → List ℕ) → (List ℕ → Bool) → State → Move
+moveKeeping mv out keep s = gives (taken out keep (mv s .given)) (mv s .next)
 
 -- the sets of a list that are kept, in the same order
 abbrev pub kept : (List ℕ → Bool) → List (List ℕ) → List (List ℕ)

@@ -1,8 +1,9 @@
 -- States and rules 1 to 5 (01, "Moves of a run"), over any rule for candidates: `kids p` are the numbers that may be picked after the
--- picks p, ascending. Words of 01: "a paused run is a value" is `State`, whose picks stand first pick first, the table beside it; "take back" is
--- `takeBack`.
+-- picks p, the lowest first. "Lowest" and "above" go by `place` (02, R-12: they "go by place" in a preference); in 01 by the number itself.
+-- Words of 01: "a paused run is a value" is `State`, whose picks stand first pick first, the table beside it; "take back" is `takeBack`.
 --
--- In order: a state; one move of each rule; the rules together (`step`, `move`); the states that moves lead to (`after`, `Reached`).
+-- In order: a state; one move of each rule; the rules together, by place (`stepIn`, `moveIn`) and by number (`step`, `move`); the states that
+-- moves lead to (`after`, `Reached`).
 --
 -- Elsewhere: calls with a budget, Calls.antt; the candidates of a table, which stand for `kids`, crate `lists`.
 use mathlib.Core.Path.{_≡_}
@@ -75,23 +76,39 @@ abbrev pub back : List ℕ → Option ℕ → Move
 back p (some g) = pick p g
 back p none = takeBack (cutLast p)
 
--- the elements of l that are above g, in their order
-abbrev pub above : ℕ → List ℕ → List ℕ
-above g [] = []
-above g (x ∷ xs) = cond (ltb g x) (x ∷ above g xs) (above g xs)
+-- the elements of l whose place is above that of g, in their order
+abbrev pub aboveIn : (ℕ → ℕ) → ℕ → List ℕ → List ℕ
+aboveIn place g [] = []
+aboveIn place g (x ∷ xs) = cond (ltb (place g) (place x)) (x ∷ aboveIn place g xs) (aboveIn place g xs)
+
+module _ (place : ℕ → ℕ) (kids : List ℕ → List ℕ) where
+  -- rules 1 to 5; "3. Handed: take back the last pick"; "5. Ended: end again"
+  abbrev pub stepIn : List ℕ → Phase → Move
+  stepIn p Down = down p (head? (kids p))
+  stepIn p Handed = takeBack (cutLast p)
+  stepIn p (Back g) = back p (head? (aboveIn place g (kids p)))
+  stepIn p Ended = gives ends (at p Ended)
+
+  abbrev pub moveIn : State → Move
+  moveIn s = stepIn (s .picks) (s .phase)
 
 -- the state after k moves, each as mv says
 abbrev pub afterBy : (State → Move) → ℕ → State → State
 afterBy mv zero s = s
 afterBy mv (suc k) s = afterBy mv k (mv s .next)
 
+-- some number of moves, 0 included, leads from a fresh start to s
+pub record ReachedBy (mv : State → Move) (s : State) : Type 0 where
+  pub count : ℕ
+  pub leads : afterBy mv count fresh ≡ s
+
+-- ---- the same by number
+abbrev pub above : ℕ → List ℕ → List ℕ
+above g l = aboveIn (λ i. i) g l
+
 module _ (kids : List ℕ → List ℕ) where
-  -- rules 1 to 5; "3. Handed: take back the last pick"; "5. Ended: end again"
   abbrev pub step : List ℕ → Phase → Move
-  step p Down = down p (head? (kids p))
-  step p Handed = takeBack (cutLast p)
-  step p (Back g) = back p (head? (above g (kids p)))
-  step p Ended = gives ends (at p Ended)
+  step p f = stepIn (λ i. i) kids p f
 
   abbrev pub move : State → Move
   move s = step (s .picks) (s .phase)
@@ -100,7 +117,5 @@ module _ (kids : List ℕ → List ℕ) where
   abbrev pub after : ℕ → State → State
   after k s = afterBy move k s
 
-  -- some number of moves, 0 included, leads from a fresh start to s
-  pub record Reached (s : State) : Type 0 where
-    pub count : ℕ
-    pub leads : after count fresh ≡ s
+  abbrev pub Reached : State → Type 0
+  Reached s = ReachedBy move s

@@ -6,7 +6,7 @@ use mathlib.Core.List.{List, map}
 use Prim.Native.Nat.{ℕ, suc, _<_}
 use native.Mathlib.Omega.{arith}
 use lib.ListN.{length}
-use Rattle.table.specs.Tables.{tableRefusal, blankTable, noRows, padded, blankChain}
+use Rattle.table.specs.Tables.{blankTable, noRows, padded, blankChain}
 use Rattle.refusals.specs.Answers.{number, answer}
 use Rattle.refusals.specs.declared.Refusal.{Refusal}
 use Rattle.table.specs.declared.Chain.{Chain}
@@ -15,16 +15,16 @@ use Rattle.table.specs.declared.Table.{Table}
 use Rattle.rules.specs.Machine.{Phase, State, fresh}
 use Rattle.rules.specs.Calls.{refused}
 use Rattle.lists.specs.Lists.{Side}
-use Rattle.lists.proofs.CandidateTree.{reached-fits}
+use Rattle.lists.specs.OnTable.{ReachedOn}
 use Rattle.runs.specs.Paused.{Value, numbered, paused, blankValue}
-use Rattle.runs.specs.Calling.{Step, refusal, PausedAt, Called}
-use Rattle.runs.specs.private.Working.{StandsFor}
+use Rattle.runs.specs.Calling.{Step, refusal, held, valueRefusal, PausedAt, Called}
+use Rattle.runs.specs.private.Working.{StandsBy}
 use Rattle.runs.proofs.Holding.{state-by}
 
 -- ---- a paused value has one state
-pub paused-state : (t : Table) (omit : Bool) (s z : State) → paused t omit s ≡ paused t omit z → s ≡ z
-paused-state t omit s z e =
-    let v = paused t omit s in
+pub paused-state : (t : Table) (k : List ℕ) (omit : Bool) (s z : State) → paused t k omit s ≡ paused t k omit z → s ≡ z
+paused-state t k omit s z e =
+    let v = paused t k omit s in
     sym (state-by (v .picks) (v .count) (v .phase) s refl refl refl)
     ∙ state-by (v .picks) (v .count) (v .phase) z (ap (λ (y : Value). y .picks) e) (ap (λ (y : Value). y .count) e) (ap (λ (y : Value). y .phase) e)
 
@@ -33,20 +33,14 @@ module _ (side : Table → Side) (v : Value) where
   abbrev t : Table
   t = v .table
 
-  abbrev r : List ℕ
-  r = side (v .table) .rows
-
   abbrev Stands : State → Type 0
-  Stands s = StandsFor r (v .picks) (v .count) (v .phase) s
+  Stands s = StandsBy (ReachedOn (side t) (held side v)) (v .picks) (v .count) (v .phase) s
 
   pub stands-paused : (s : State) → Stands s → PausedAt side v s
-  stands-paused s h = record {
-    reached = reached-fits (side t) s .1 (h .fits);
-    stands = same (v .picks) (v .count) (v .phase) (h .picked) (h .counted) (h .phased);
-  }
+  stands-paused s h = record { reached = h .fits; stands = same (v .picks) (v .count) (v .phase) (h .picked) (h .counted) (h .phased) }
     where
       same : (k : List ℕ) (n : ℕ) (f : Phase) → k ≡ padded (map suc (s .picks)) → n ≡ length (s .picks) → f ≡ numbered (s .phase)
-          → record { table = t; picks = k; count = n; phase = f; omit = v .omit } ≡ paused t (v .omit) s
+          → record { table = t; order = v .order; picks = k; count = n; phase = f; omit = v .omit } ≡ paused t (v .order) (v .omit) s
       same k n f a c d = rw (a, c, d)
 
   pub paused-stands : (s : State) → PausedAt side v s → Stands s
@@ -54,29 +48,32 @@ module _ (side : Table → Side) (v : Value) where
     picked = ap (λ (y : Value). y .picks) (h .stands);
     counted = ap (λ (y : Value). y .count) (h .stands);
     phased = ap (λ (y : Value). y .phase) (h .stands);
-    fits = reached-fits (side t) s .0 (h .reached);
+    fits = h .reached;
   }
 
-pub called-refused : (side : Table → Side) (v : Value) (b n : ℕ) → n ≡ tableRefusal (v .table) → 0 < n → (r : Step) → r ≡ refusal n → Called side v b r
+pub called-refused : (side : Table → Side) (v : Value) (b n : ℕ) → n ≡ valueRefusal side v → 0 < n → (r : Step) → r ≡ refusal n → Called side v b r
 called-refused side v b n e l r d = record {
   table = λ w. d ∙ ap refusal e;
-  value = λ z m. absurd (omega arith);
-  rules = λ z s p. absurd (omega arith);
+  value = λ z m. absurd (omega (arith, e, z));
+  rules = λ z s p. absurd (omega (arith, e, z));
 }
 
 -- ---- refusals and fresh starts, as the thin functions put them together
+-- the value beside a refusal, of either side
+pub blank-is : (v : Value) (t : Table) → t ≡ blankTable → v ≡ paused t noRows false fresh → v ≡ blankValue
+blank-is v t d w = w ∙ ap (λ (y : Table). paused y noRows false fresh) d
+
 -- a refused step of either side: its chain and its value are blank
-pub refusal-step : (n : ℕ) (c : Chain) (v : Value) (t : Table) → c ≡ blankChain → t ≡ blankTable → v ≡ paused t false fresh
+pub refusal-step : (n : ℕ) (c : Chain) (v : Value) → c ≡ blankChain → v ≡ blankValue
     → record { answer = refused n; moves = 0; chain = c; picks = noRows; next = v } ≡ refusal n
-refusal-step n c v t e d w = rw (e, w, d)
+refusal-step n c v e w = rw (e, w)
 
 -- a refused start
-pub start-refused : (x : Refusal) (n : ℕ) (t : Table) (omit : Bool) (v : Value) (b : Table) → number x ≡ n → b ≡ blankTable → v ≡ paused b false fresh
-    → record { refusal = number x; value = v } ≡ answer n (paused t omit fresh) blankValue
-start-refused x n t omit v b e d w =
-    ap (λ (y : Value). record { refusal = number x; value = y }) (w ∙ ap (λ (y : Table). paused y false fresh) d)
-    ∙ answer-refused x n (paused t omit fresh) blankValue e
+pub start-refused : (x : Refusal) (n : ℕ) (t : Table) (k : List ℕ) (omit : Bool) (v : Value) → number x ≡ n → v ≡ blankValue
+    → record { refusal = number x; value = v } ≡ answer n (paused t k omit fresh) blankValue
+start-refused x n t k omit v e w =
+    ap (λ (y : Value). record { refusal = number x; value = y }) w ∙ answer-refused x n (paused t k omit fresh) blankValue e
 
-pub start-given : (n : ℕ) (t : Table) (omit : Bool) (v : Value) → n ≡ 0 → v ≡ paused t omit fresh
-    → record { refusal = 0; value = v } ≡ answer n (paused t omit fresh) blankValue
-start-given n t omit v e w = ap (λ (y : Value). record { refusal = 0; value = y }) w ∙ answer-given n (paused t omit fresh) blankValue e
+pub start-given : (n : ℕ) (t : Table) (k : List ℕ) (omit : Bool) (v : Value) → n ≡ 0 → v ≡ paused t k omit fresh
+    → record { refusal = 0; value = v } ≡ answer n (paused t k omit fresh) blankValue
+start-given n t k omit v e w = ap (λ (y : Value). record { refusal = 0; value = y }) w ∙ answer-given n (paused t k omit fresh) blankValue e

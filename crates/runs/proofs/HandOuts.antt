@@ -1,34 +1,80 @@
 -- What a hand-out carries (02, R-6): a call that hands out leaves the phase Handed (`handed-out`), and the picks of a state in that phase are the
 -- pick sequence of the set that is handed out for them (`sequence-of`).
-use mathlib.Core.Path.{_≡_, refl, sym, ap, _∙_}
+use mathlib.Core.Path.{_≡_, refl, sym, ap, _∙_, subst}
 use mathlib.Core.Bool.{Bool, true, false}
 use mathlib.Core.Option.{Option, none, some}
 use mathlib.Core.List.{List, map, head?}
 use Prim.Native.Nat.{ℕ, zero, suc}
 use native.Mathlib.Omega.{arith}
+use lib.ListN.{length}
 use Rattle.table.specs.declared.Table.{Table}
-use Rattle.table.specs.Tables.{padded}
+use Rattle.table.specs.Chains.{IsMaximal}
+use Rattle.table.specs.Tables.{tableRows, padded}
 use Rattle.rules.specs.Machine.{Phase, Down, Handed, Back, Ended, State, Given, nothing, hands, ends, Move, Cut, empty, cut, cutLast, takeBack, down, back}
-use Rattle.rules.specs.Machine.{above, move}
+use Rattle.rules.specs.Machine.{aboveIn, stepIn}
 use Rattle.rules.specs.Calls.{handed, Call, result, proceedBy, carryBy}
 use Rattle.rules.specs.Keeping.{taken}
+use Rattle.rules.specs.private.Fitting.{Fits}
+use Rattle.rules.proofs.Renaming.{renamedPhase}
+use Rattle.lists.specs.Arrangements.{IsArrangement, placeOf}
 use Rattle.lists.specs.PickSequence.{pickSeq}
+use Rattle.lists.specs.Preferred.{candidatesBy, pickSeqBy}
 use Rattle.lists.specs.Lists.{Side}
 use Rattle.lists.specs.Picks.{candidates}
-use Rattle.lists.specs.OnTable.{chainOf, handOut}
+use Rattle.lists.specs.OnTable.{chainOf, handOut, moveOn, ReachedOn}
+use Rattle.lists.specs.private.Arranging.{indexAt, prefer}
 use Rattle.lists.proofs.Candidates.{IsLeaf}
 use Rattle.lists.proofs.Maximal.{leaf-maximal, leaf-pickSeq}
 use Rattle.lists.proofs.BothSides.{Fair}
+use Rattle.lists.proofs.PreferredSides.{prefer-fair}
+use Rattle.lists.proofs.PlacedCandidates.{AllBelow}
+use Rattle.lists.proofs.PlacedSequences.{sequence-placed}
+use Rattle.lists.proofs.PlacedRuns.{hand-out-placed, good-below, Placed, reached-placed}
 use Rattle.conflicts.specs.Omitting.{keepsOf}
 use Rattle.runs.specs.declared.Outcome.{Outcome}
 use Rattle.runs.specs.declared.Outcome.the-variants.{HandedOut}
 use Rattle.runs.specs.Calling.{outcome, sequence, movesOf}
 
+-- ---- a state that is reached, and Handed
+-- by place there is no candidate after its picks
+pub handed-leaf : (s : Side) (o : List ℕ) (counted : length (s .rows) ≡ s .count) (a : IsArrangement (s .count) o) (x : State) (p : Placed s o counted a x)
+    → x .phase ≡ Handed → IsLeaf (prefer o s .rows) (p .state .picks)
+handed-leaf s o counted a x p e =
+    leaf-of (p .state .picks) (p .state .phase) (handed-phase (p .state .phase) (ap (λ (y : State). y .phase) (p .is) ∙ e)) (p .good)
+  where
+    handed-phase : (g : Phase) → renamedPhase (indexAt o) g ≡ Handed → g ≡ Handed
+    handed-phase Down z = let y : _≡_ {A = ℕ} 0 1 = cc in absurd (omega arith)
+    handed-phase Handed z = refl
+    handed-phase (Back i) z = let y : _≡_ {A = ℕ} 0 1 = cc in absurd (omega arith)
+    handed-phase Ended z = let y : _≡_ {A = ℕ} 0 1 = cc in absurd (omega arith)
+
+    leaf-of : (q : List ℕ) (g : Phase) → g ≡ Handed → Fits (candidates (prefer o s .rows)) q g → IsLeaf (prefer o s .rows) q
+    leaf-of q g z h = subst (λ (y : Phase). Fits (candidates (prefer o s .rows)) q y) z h
+
 -- ---- the sequence
-pub sequence-of : (t : Table) (s : Side) → Fair t s → (p : List ℕ) → IsLeaf (s .rows) p → padded (map suc p) ≡ sequence s (handOut s p)
-sequence-of t s f p l =
-    ap (λ (q : List ℕ). padded (map suc q))
-    (sym (ap pickSeq (f .home (chainOf (s .rows) p) (leaf-maximal (s .rows) p l) .1) ∙ leaf-pickSeq (s .rows) p l))
+module _ (t : Table) (s : Side) (f : Fair t s) (o : List ℕ) (a : IsArrangement (s .count) o) where
+  -- of the picks q of the arranged rows, by place, after which there is no candidate
+  leaf-sequence : (q : List ℕ) → IsLeaf (prefer o s .rows) q → AllBelow (s .count) q → pickSeqBy o (s .view (handOut s (map (indexAt o) q))) ≡ map (indexAt o) q
+  leaf-sequence q l b =
+      ap (λ (x : List ℕ). pickSeqBy o (s .view x)) (hand-out-placed s o (f .counted) a q b)
+      ∙ sequence-placed (s .count) o a (s .view (handOut (prefer o s) q)) size
+      ∙ ap (map (indexAt o)) (ap pickSeq (home .1) ∙ leaf-pickSeq (prefer o s .rows) q l)
+    where
+      home : IsMaximal (tableRows t) (handOut (prefer o s) q) × (prefer o s .view (handOut (prefer o s) q) ≡ chainOf (prefer o s .rows) q)
+      home = prefer-fair t s f o a .home (chainOf (prefer o s .rows) q) (leaf-maximal (prefer o s .rows) q l)
+
+      size : length (s .view (handOut (prefer o s) q)) ≡ s .count
+      size = f .over (handOut (prefer o s) q) (home .0) .0 .within .size ∙ f .counted
+
+  pub sequence-of : (x : State) → ReachedOn s o x → x .phase ≡ Handed → padded (map suc (x .picks)) ≡ sequence s o (handOut s (x .picks))
+  sequence-of x r e =
+      let p = reached-placed s o (f .counted) a x .0 r in
+      let q = p .state .picks in
+      let d : map (indexAt o) q ≡ x .picks = ap (λ (y : State). y .picks) (p .is) in
+      let l : IsLeaf (prefer o s .rows) q = handed-leaf s o (f .counted) a x p e in
+      ap (λ (z : List ℕ). padded (map suc z))
+      (sym (ap (λ (z : List ℕ). pickSeqBy o (s .view (handOut s z))) (sym d)
+      ∙ leaf-sequence q l (good-below s o (f .counted) a (p .state) (p .good) .picks) ∙ d))
 
 -- ---- the phase
 -- a move gives a hand-out only as it becomes Handed
@@ -36,30 +82,29 @@ back-hands : (c : Cut) (p : List ℕ) → takeBack c .given ≡ hands p → take
 back-hands empty p e = let z : _≡_ {A = ℕ} 0 1 = cc in absurd (omega arith)
 back-hands (cut q g) p e = let z : _≡_ {A = ℕ} 0 1 = cc in absurd (omega arith)
 
-move-hands : (kids : List ℕ → List ℕ) (q : List ℕ) (f : Phase) (p : List ℕ) → move kids (record { picks = q; phase = f }) .given ≡ hands p
-    → move kids (record { picks = q; phase = f }) .next .phase ≡ Handed
-move-hands kids q Down p = go (head? (kids q))
-  where
-    go : (o : Option ℕ) → down q o .given ≡ hands p → down q o .next .phase ≡ Handed
-    go none e = refl
-    go (some g) e = let z : _≡_ {A = ℕ} 0 1 = cc in absurd (omega arith)
-move-hands kids q Handed p = back-hands (cutLast q) p
-move-hands kids q (Back g) p = go (head? (above g (kids q)))
-  where
-    go : (o : Option ℕ) → back q o .given ≡ hands p → back q o .next .phase ≡ Handed
-    go none e = back-hands (cutLast q) p e
-    go (some h) e = let z : _≡_ {A = ℕ} 0 1 = cc in absurd (omega arith)
-move-hands kids q Ended p = λ e. let z : _≡_ {A = ℕ} 0 1 = cc in absurd (omega arith)
-
-module _ (t : Table) (s : Side) where
-  hands-at : (omit : Bool) (x : State) (p : List ℕ) → movesOf t s omit x .given ≡ hands p → movesOf t s omit x .next .phase ≡ Handed
-  hands-at false x p e = move-hands (candidates (s .rows)) (x .picks) (x .phase) p e
-  hands-at true x p e = go (move (candidates (s .rows)) x .given) refl e
+module _ (place : ℕ → ℕ) (kids : List ℕ → List ℕ) where
+  move-hands : (q : List ℕ) (f : Phase) (p : List ℕ) → stepIn place kids q f .given ≡ hands p → stepIn place kids q f .next .phase ≡ Handed
+  move-hands q Down p = go (head? (kids q))
     where
-      go : (g : Given) → move (candidates (s .rows)) x .given ≡ g → taken (candidates (s .rows)) (handOut s) (keepsOf t) g ≡ hands p
-          → move (candidates (s .rows)) x .next .phase ≡ Handed
+      go : (o : Option ℕ) → down q o .given ≡ hands p → down q o .next .phase ≡ Handed
+      go none e = refl
+      go (some g) e = let z : _≡_ {A = ℕ} 0 1 = cc in absurd (omega arith)
+  move-hands q Handed p = back-hands (cutLast q) p
+  move-hands q (Back g) p = go (head? (aboveIn place g (kids q)))
+    where
+      go : (o : Option ℕ) → back q o .given ≡ hands p → back q o .next .phase ≡ Handed
+      go none e = back-hands (cutLast q) p e
+      go (some h) e = let z : _≡_ {A = ℕ} 0 1 = cc in absurd (omega arith)
+  move-hands q Ended p = λ e. let z : _≡_ {A = ℕ} 0 1 = cc in absurd (omega arith)
+
+module _ (t : Table) (s : Side) (o : List ℕ) where
+  hands-at : (omit : Bool) (x : State) (p : List ℕ) → movesOf t s o omit x .given ≡ hands p → movesOf t s o omit x .next .phase ≡ Handed
+  hands-at false x p e = move-hands (placeOf o) (candidatesBy o (s .rows)) (x .picks) (x .phase) p e
+  hands-at true x p e = go (moveOn s o x .given) refl e
+    where
+      go : (g : Given) → moveOn s o x .given ≡ g → taken (handOut s) (keepsOf t) g ≡ hands p → moveOn s o x .next .phase ≡ Handed
       go nothing d z = let y : _≡_ {A = ℕ} 0 1 = cc in absurd (omega arith)
-      go (hands q) d z = move-hands (candidates (s .rows)) (x .picks) (x .phase) q d
+      go (hands q) d z = move-hands (placeOf o) (candidatesBy o (s .rows)) (x .picks) (x .phase) q d
       go ends d z = let y : _≡_ {A = ℕ} 0 1 = cc in absurd (omega arith)
 
   -- so does a call
@@ -68,7 +113,7 @@ module _ (t : Table) (s : Side) where
     out = handOut s
 
     abbrev mv : State → Move
-    mv = movesOf t s omit
+    mv = movesOf t s o omit
 
     carried : (b : ℕ) (x : State) (y : List ℕ) → carryBy mv out b x .answer ≡ handed y → carryBy mv out b x .next .phase ≡ Handed
     carried zero x y e = let z : _≡_ {A = ℕ} 0 1 = cc in absurd (omega arith)
@@ -82,8 +127,8 @@ module _ (t : Table) (s : Side) where
         go (hands p) d ih z = hands-at omit x p d
         go ends d ih z = let w : _≡_ {A = ℕ} 0 1 = cc in absurd (omega arith)
 
-    pub handed-out : (b : ℕ) (x : State) (o : Outcome) (k : ℕ) (y : State) → o ≡ HandedOut
-        → carryBy mv out b x ≡ result (outcome o (out (y .picks))) k y → y .phase ≡ Handed
-    handed-out b x o k y d e =
+    pub handed-out : (b : ℕ) (x : State) (oc : Outcome) (k : ℕ) (y : State) → oc ≡ HandedOut
+        → carryBy mv out b x ≡ result (outcome oc (out (y .picks))) k y → y .phase ≡ Handed
+    handed-out b x oc k y d e =
         sym (ap (λ (c : Call). c .next .phase) e)
         ∙ carried b x (out (y .picks)) (ap (λ (c : Call). c .answer) e ∙ ap (λ (z : Outcome). outcome z (out (y .picks))) d)

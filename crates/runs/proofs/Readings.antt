@@ -8,7 +8,7 @@ use native.Mathlib.Decide.{ℕ-discrete}
 use native.Mathlib.Omega.{arith}
 use lib.Dec.{eqb}
 use lib.ListN.{getD}
-use Rattle.table.specs.Tables.{chainRows, tableRefusal}
+use Rattle.table.specs.Tables.{chainRows}
 use Rattle.refusals.specs.Answers.{Answer as Reading}
 use Rattle.table.specs.declared.Table.{Table}
 use Rattle.table.specs.declared.Chain.{Chain}
@@ -30,7 +30,7 @@ use Rattle.runs.specs.declared.cases.CaseStep.{CaseStep}
 use Rattle.runs.specs.declared.Outcome.{Outcome}
 use Rattle.runs.specs.declared.Outcome.the-variants.{HandedOut, Spent, End, Refused}
 use Rattle.runs.specs.Paused.{Value, gaugePhase, casePhase, gaugeValue, caseValue, gaugeStarted, caseStarted}
-use Rattle.runs.specs.Calling.{Step, outcome, gaugeStep, caseStep, PausedAt, Called}
+use Rattle.runs.specs.Calling.{Step, outcome, gaugeStep, caseStep, valueRefusal, PausedAt, Called}
 
 -- ---- an answer, and a phase, from its kind and its numbers
 kind : Reply → ℕ
@@ -93,9 +93,10 @@ table-same : (g h c d : ℕ) (r q : List ℕ) → g ≡ h → c ≡ d → r ≡ 
     → _≡_ {A = Table} (record { gauges = g; cases = c; rows = r }) (record { gauges = h; cases = d; rows = q })
 table-same g h c d r q a b e = rw (a, b, e)
 
-value-same : (t u : Table) (p q : List ℕ) (n m : ℕ) (f e : Phase) (o z : Bool) → t ≡ u → p ≡ q → n ≡ m → f ≡ e → o ≡ z
-    → _≡_ {A = Value} (record { table = t; picks = p; count = n; phase = f; omit = o }) (record { table = u; picks = q; count = m; phase = e; omit = z })
-value-same t u p q n m f e o z a b c d h = rw (a, b, c, d, h)
+value-same : (t u : Table) (k l p q : List ℕ) (n m : ℕ) (f e : Phase) (o z : Bool) → t ≡ u → k ≡ l → p ≡ q → n ≡ m → f ≡ e → o ≡ z
+    → _≡_ {A = Value} (record { table = t; order = k; picks = p; count = n; phase = f; omit = o })
+    (record { table = u; order = l; picks = q; count = m; phase = e; omit = z })
+value-same t u k l p q n m f e o z a i b c d h = rw (a, i, b, c, d, h)
 
 step-same : (a b : Reply) (k l : ℕ) (c d : Chain) (p q : List ℕ) (v w : Value) → a ≡ b → k ≡ l → c ≡ d → p ≡ q → v ≡ w
     → _≡_ {A = Step} (record { answer = a; moves = k; chain = c; picks = p; next = v }) (record { answer = b; moves = l; chain = d; picks = q; next = w })
@@ -109,10 +110,11 @@ step-settled r q n =
     (number (λ x. x .moves))
     (ap₂ (λ (g : ℕ) (rows : List ℕ). record { gauges = g; rows = rows }) (number (λ x. x .chain .gauges)) (list (λ x. x .chain .rows)))
     (list (λ x. x .picks))
-    (value-same (r .next .table) (q .next .table) (r .next .picks) (q .next .picks) (r .next .count) (q .next .count) (r .next .phase) (q .next .phase)
-    (r .next .omit) (q .next .omit)
+    (value-same (r .next .table) (q .next .table) (r .next .order) (q .next .order) (r .next .picks) (q .next .picks) (r .next .count) (q .next .count)
+    (r .next .phase) (q .next .phase) (r .next .omit) (q .next .omit)
     (table-same (r .next .table .gauges) (q .next .table .gauges) (r .next .table .cases) (q .next .table .cases) (r .next .table .rows) (q .next .table .rows)
     (number (λ x. x .next .table .gauges)) (number (λ x. x .next .table .cases)) (list (λ x. x .next .table .rows)))
+    (list (λ x. x .next .order))
     (list (λ x. x .next .picks))
     (number (λ x. x .next .count))
     (sym (phase-of (r .next .phase)) ∙ ap₂ phaseOf (number (λ x. stage (x .next .phase))) (number (λ x. from (x .next .phase))) ∙ phase-of (q .next .phase))
@@ -129,9 +131,9 @@ step-settled r q n =
     list f = settle f (List-discrete ℕ-discrete (f r) (f q))
 
 pub called-unique : (side : Table → Side) (v : Value) (b : ℕ) (r q : Step) → Called side v b r → Called side v b q → r ≡ q
-called-unique side v b r q a c = step-settled r q (λ n. go n (ℕ-discrete (tableRefusal (v .table)) 0))
+called-unique side v b r q a c = step-settled r q (λ n. go n (ℕ-discrete (valueRefusal side v) 0))
   where
-    go : ¬ (r ≡ q) → Dec (tableRefusal (v .table) ≡ 0) → ⊥
+    go : ¬ (r ≡ q) → Dec (valueRefusal side v ≡ 0) → ⊥
     go n (no z) = n (a .table (omega (arith, z)) ∙ sym (c .table (omega (arith, z))))
     go n (yes z) =
         let none : (s : State) → PausedAt side v s → ⊥ = λ s p. n (a .rules z s p ∙ sym (c .rules z s p)) in
@@ -169,10 +171,19 @@ gauge-phase-of (gaugeBack g) = refl
 gauge-phase-of gaugeEnded = refl
 
 abbrev gaugeRunOf : Value → GaugeRun
-gaugeRunOf v = record { table = v .table; picks = record { 0 = v .picks }; count = v .count; phase = gaugePhaseOf (v .phase); omit = v .omit }
+gaugeRunOf v = record {
+  table = v .table;
+  order = record { 0 = v .order };
+  picks = record { 0 = v .picks };
+  count = v .count;
+  phase = gaugePhaseOf (v .phase);
+  omit = v .omit;
+}
 
 gauge-run-of : (p : GaugeRun) → gaugeRunOf (gaugeValue p) ≡ p
-gauge-run-of p = ap (λ (f : GaugePhase). record { table = p .table; picks = p .picks; count = p .count; phase = f; omit = p .omit }) (gauge-phase-of (p .phase))
+gauge-run-of p =
+    ap (λ (f : GaugePhase). record { table = p .table; order = p .order; picks = p .picks; count = p .count; phase = f; omit = p .omit })
+    (gauge-phase-of (p .phase))
 
 pub gauge-value-injective : (p q : GaugeRun) → gaugeValue p ≡ gaugeValue q → p ≡ q
 gauge-value-injective = injective gaugeValue gaugeRunOf gauge-run-of
@@ -204,10 +215,19 @@ case-phase-of (caseBack c) = refl
 case-phase-of caseEnded = refl
 
 abbrev caseRunOf : Value → CaseRun
-caseRunOf v = record { table = v .table; picks = record { 0 = v .picks }; count = v .count; phase = casePhaseOf (v .phase); omit = v .omit }
+caseRunOf v = record {
+  table = v .table;
+  order = record { 0 = v .order };
+  picks = record { 0 = v .picks };
+  count = v .count;
+  phase = casePhaseOf (v .phase);
+  omit = v .omit;
+}
 
 case-run-of : (p : CaseRun) → caseRunOf (caseValue p) ≡ p
-case-run-of p = ap (λ (f : CasePhase). record { table = p .table; picks = p .picks; count = p .count; phase = f; omit = p .omit }) (case-phase-of (p .phase))
+case-run-of p =
+    ap (λ (f : CasePhase). record { table = p .table; order = p .order; picks = p .picks; count = p .count; phase = f; omit = p .omit })
+    (case-phase-of (p .phase))
 
 pub case-value-injective : (p q : CaseRun) → caseValue p ≡ caseValue q → p ≡ q
 case-value-injective = injective caseValue caseRunOf case-run-of

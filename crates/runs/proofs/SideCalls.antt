@@ -1,8 +1,8 @@
--- A run call of either side, put together from what the core reports: which refusal, or the moves with the chain by gauge rows and the next
--- value (`call-answer`), and the three answers of the functions above the core. Each promises demand 3, or what is promised of the runs that
--- omit, beside (`promise`).
+-- A run call of either side, put together from what the core reports under the value's preference: which refusal, or the moves with the chain by
+-- gauge rows and the next value (`call-answer`), and the three answers of the functions above the core. Each promises demand 3, or what is promised
+-- of the runs that omit, beside (`promise`).
 use mathlib.Core.Path.{_≡_, refl, sym, ap, _∙_, subst}
-use mathlib.Core.Bool.{Bool}
+use mathlib.Core.Bool.{Bool, true, false}
 use mathlib.Core.List.{List, [], _∷_, map}
 use mathlib.Core.Logic.{⊎-elim}
 use Prim.Native.Nat.{ℕ, suc, _≤_}
@@ -11,32 +11,34 @@ use native.Mathlib.Omega.{arith}
 use lib.ListN.{length, take}
 use denote.Enum.Declared
 use Rattle.refusals.specs.Answers.{number}
-use Rattle.table.specs.Tables.{Legal, chainRows, noRows, blankChain, tableRefusal, padded}
+use Rattle.table.specs.Tables.{chainRows, noRows, blankChain, tableRefusal, padded}
 use Rattle.table.specs.declared.Table.{Table}
 use Rattle.table.specs.declared.Chain.{Chain}
 use Rattle.refusals.specs.declared.Refusal.{Refusal}
 use Rattle.rules.specs.Machine.{Phase, State, Move}
 use Rattle.rules.specs.Calls.{handed, mostBudget}
-use Rattle.rules.specs.private.Fitting.{Fits}
 use Rattle.rules.proofs.Calls.{above-by, within-by}
+use Rattle.lists.specs.Arrangements.{IsArrangement}
 use Rattle.lists.specs.Lists.{Side}
-use Rattle.lists.specs.Picks.{candidates}
-use Rattle.lists.specs.OnTable.{chainOf, handOut}
+use Rattle.lists.specs.OnTable.{chainOf, handOut, ReachedOn}
 use Rattle.lists.proofs.BothSides.{Fair}
 use Rattle.runs.specs.Paused.{Value, numbered, paused}
-use Rattle.runs.specs.Calling.{Step, outcome, refusal, sequence, byRules, told, movesOf, callOf, Called, CarriesDemand}
+use Rattle.preference.specs.Preferences.{isPreference}
+use Rattle.preference.proofs.Holding.{preference-of}
+use Rattle.preference.proofs.Placing.{both-pass, preference-refused}
+use Rattle.runs.specs.Calling.{Step, outcome, refusal, sequence, arrangement, byRules, told, movesOf, callOf, held, Called, CarriesDemand}
 use Rattle.runs.specs.Omitting.{CarriesOmits}
-use Rattle.runs.specs.private.Working.{modePhase, StandsFor, Went, CarriesOn, nextOf, stepBy}
+use Rattle.runs.specs.private.Working.{modePhase, StandsBy, WentBy, CarriesBy, Ordered, nextOf, stepBy}
 use Rattle.runs.specs.declared.Outcome.{Outcome}
 use Rattle.runs.specs.declared.Outcome.the-variants.{HandedOut, Spent, End, Refused}
 use Rattle.runs.specs.declared.engine.Mode.{Mode}
 use Rattle.runs.specs.declared.engine.Report.{Report}
 use Rattle.runs.proofs.Outcome.{the-type}
 use Rattle.runs.proofs.Padding.{take-padded}
-use Rattle.runs.proofs.Answered.{stands-paused, paused-stands}
+use Rattle.runs.proofs.Answered.{stands-paused, paused-stands, called-refused}
 use Rattle.runs.proofs.Sides.{Ladder}
 use Rattle.runs.proofs.HandOuts.{sequence-of, handed-out}
-use Rattle.runs.proofs.Demands.{carries-demand, carries-omits}
+use Rattle.runs.proofs.Demands.{Starts, carries-demand, carries-omits}
 
 -- the variant of an outcome, and that it is one of some
 abbrev pub tag : Outcome → ℕ
@@ -46,86 +48,120 @@ abbrev pub OneOf : List ℕ → ℕ → Type 0
 OneOf ks k = types.Run.OneOf ks k
 
 -- the report of moves as the public answer
-abbrev handedWith : Table → Bool → Report → List ℕ → List ℕ → List ℕ → Step
-handedWith t omit o k rows picks = record {
+abbrev handedWith : Table → List ℕ → Bool → Report → List ℕ → List ℕ → List ℕ → Step
+handedWith t order omit o k rows picks = record {
   answer = handed (take (t .gauges) rows);
   moves = o .moves;
   chain = record { gauges = t .gauges; rows = rows };
   picks = picks;
-  next = nextOf t omit o k;
+  next = nextOf t order omit o k;
 }
 
-by-moves : (t : Table) (s : Side) (omit : Bool) (o : Report) (k rows x : List ℕ) (y : State) (oc : Outcome)
-    → (oc ≡ HandedOut → (rows ≡ padded x) × (length x ≡ t .gauges) × (k ≡ sequence s x))
-    → nextOf t omit o k ≡ paused t omit y
-    → stepBy t omit o k rows oc ≡ byRules t s omit (outcome oc x) (o .moves) y
-by-moves t s omit o k rows x y HandedOut e w =
-    let (a, n, q) = e refl in ap (handedWith t omit o k rows) q ∙ rw (a, w, take-padded x (t .gauges) (sym n))
-by-moves t s omit o k rows x y Spent e w = rw w
-by-moves t s omit o k rows x y End e w = rw w
-by-moves t s omit o k rows x y (Refused why) e w = refl
+by-moves : (t : Table) (s : Side) (order : List ℕ) (omit : Bool) (o : Report) (k rows x : List ℕ) (y : State) (oc : Outcome)
+    → (oc ≡ HandedOut → (rows ≡ padded x) × (length x ≡ t .gauges) × (k ≡ sequence s (arrangement s order) x))
+    → nextOf t order omit o k ≡ paused t order omit y
+    → stepBy t order omit o k rows oc ≡ byRules t s order omit (outcome oc x) (o .moves) y
+by-moves t s order omit o k rows x y HandedOut e w =
+    let (a, n, q) = e refl in ap (handedWith t order omit o k rows) q ∙ rw (a, w, take-padded x (t .gauges) (sym n))
+by-moves t s order omit o k rows x y Spent e w = rw w
+by-moves t s order omit o k rows x y End e w = rw w
+by-moves t s order omit o k rows x y (Refused why) e w = refl
 
 -- a call on the value v of a legal table, where the core left the chain c′ and the picks k′
 pub record Worked (side : Table → Side) (v : Value) (b : ℕ) (m : Mode) (c′ k′ : List ℕ) (o : Report) : Type 0 where
   pub passed : tableRefusal (v .table) ≡ 0
+  pub fair : Fair (v .table) (side (v .table))
+  pub few : side (v .table) .count ≤ 64
+  pub long : length (v .order) ≡ 64
   pub mode-is : modePhase m ≡ v .phase
-  pub carried : CarriesOn (movesOf (v .table) (side (v .table)) (v .omit)) (side (v .table) .rows) (v .picks) (v .count) (modePhase m) b c′ k′ o
+  pub ordered : Ordered (λ q. movesOf (v .table) (side (v .table)) q (v .omit)) (side (v .table) .count) (side (v .table) .rows) (v .order) (v .picks)
+      (v .count) (modePhase m) b c′ k′ o
 
-module _ (side : Table → Side) (v : Value) (b : ℕ) (m : Mode) (c′ k′ : List ℕ) (o : Report) (fair : Fair (v .table) (side (v .table)))
-    (h : Worked side v b m c′ k′ o) where
+module _ (side : Table → Side) (v : Value) (b : ℕ) (m : Mode) (c′ k′ : List ℕ) (o : Report) (h : Worked side v b m c′ k′ o) where
   abbrev t : Table
   t = v .table
 
-  abbrev mv : State → Move
-  mv = movesOf t (side t) (v .omit)
+  abbrev n : ℕ
+  n = side t .count
 
-  carries : CarriesOn mv (side t .rows) (v .picks) (v .count) (v .phase) b c′ k′ o
-  carries = subst (λ (f : Phase). CarriesOn mv (side t .rows) (v .picks) (v .count) f b c′ k′ o) (h .mode-is) (h .carried)
+  abbrev q : List ℕ
+  q = held side v
+
+  abbrev mv : State → Move
+  mv = movesOf t (side t) q (v .omit)
+
+  -- the step that the report o comes to
+  abbrev step : List ℕ → Outcome → Step
+  step rows oc = stepBy t (v .order) (v .omit) o k′ rows oc
+
+  -- ---- the preference is none
+  order-answer : isPreference n (v .order) ≡ false → (rows : List ℕ) (r : Step) → r ≡ step rows (o .outcome) → Called side v b r
+  order-answer z rows r e =
+      called-refused side v b 27 (sym (preference-refused t n (v .order) (h .passed) z)) (omega arith) r (e ∙ ap (step rows) (h .ordered .none z))
+
+  -- ---- it is one
+  module _ (z : isPreference n (v .order) ≡ true) where
+    arranged : IsArrangement n q
+    arranged = preference-of n (v .order) (h .few) (h .long) (rw z tt) .arranged
+
+    carries : CarriesBy mv (ReachedOn (side t) q) (chainOf (side t .rows)) (v .picks) (v .count) (v .phase) b c′ k′ o
+    carries =
+        subst (λ (f : Phase). CarriesBy mv (ReachedOn (side t) q) (chainOf (side t .rows)) (v .picks) (v .count) f b c′ k′ o) (h .mode-is)
+        (h .ordered .carried z)
+
+    value-answer : (rows : List ℕ) → (o .outcome ≡ HandedOut → (p : List ℕ) → c′ ≡ padded (chainOf (side t .rows) p) → Ladder t (side t) p rows)
+        → (r : Step) → r ≡ step rows (o .outcome) → Called side v b r
+    value-answer rows chain r e = record {
+      table = λ l. absurd (omega (arith, both-pass t n (v .order) (h .passed) z));
+      value = λ y none. e ∙ ap (step rows) (carries .value (λ s l. none s (stands-paused side v s l)));
+      rules = λ y s p. by-rules s (paused-stands side v s p) (decLe b mostBudget);
+    }
+      where
+        by-rules : (s : State) → StandsBy (ReachedOn (side t) q) (v .picks) (v .count) (v .phase) s → Dec (b ≤ mostBudget)
+            → r ≡ told t (side t) (v .order) (v .omit) (callOf t (side t) q (v .omit) b s)
+        by-rules s l (no y) =
+            e ∙ ap (step rows) (carries .large s l (omega arith))
+            ∙ sym (ap (told t (side t) (v .order) (v .omit)) (above-by mv (handOut (side t)) b s (omega arith)))
+        by-rules s l (yes y) =
+            let w = carries .moves s l y in
+            e
+            ∙ by-moves t (side t) (v .order) (v .omit) o k′ rows (handOut (side t) (w .to .picks)) (w .to) (o .outcome)
+            (λ d. let a = chain d (w .to .picks) (w .chained) in (a .rows-are, a .size, sequence-is d w))
+            (value-of (w .to) (w .stands))
+            ∙ sym (ap (told t (side t) (v .order) (v .omit)) (within-by mv (handOut (side t)) b s y ∙ w .comes (handOut (side t))))
+          where
+            -- the picks that the core left are the pick sequence of the chain handed out
+            sequence-is : o .outcome ≡ HandedOut → (w : WentBy mv (ReachedOn (side t) q) (chainOf (side t .rows)) b s c′ k′ o)
+                → k′ ≡ sequence (side t) q (handOut (side t) (w .to .picks))
+            sequence-is d w =
+                w .stands .picked
+                ∙ sequence-of t (side t) (h .fair) q arranged (w .to) (w .stands .fits)
+                (handed-out t (side t) q (v .omit) b s (o .outcome) (o .moves) (w .to) d (w .comes (handOut (side t))))
+
+            value-of : (y : State) → StandsBy (ReachedOn (side t) q) k′ (o .spot .count) (modePhase (o .spot .mode)) y
+                → nextOf t (v .order) (v .omit) o k′ ≡ paused t (v .order) (v .omit) y
+            value-of y g = same (o .spot .count) (modePhase (o .spot .mode)) k′ (g .picked) (g .counted) (g .phased)
+              where
+                same : (c : ℕ) (f : Phase) (k : List ℕ) → k ≡ padded (map suc (y .picks)) → c ≡ length (y .picks) → f ≡ numbered (y .phase)
+                    → record { table = t; order = v .order; picks = k; count = c; phase = f; omit = v .omit } ≡ paused t (v .order) (v .omit) y
+                same c f k a d g = rw (a, d, g)
 
   -- what the core reports, whichever it is, is the answer of the call
   call-answer : (rows : List ℕ) → (o .outcome ≡ HandedOut → (p : List ℕ) → c′ ≡ padded (chainOf (side t .rows) p) → Ladder t (side t) p rows)
-      → (r : Step) → r ≡ stepBy t (v .omit) o k′ rows (o .outcome) → Called side v b r
-  call-answer rows chain r e = record {
-    table = λ l. absurd (omega (arith, h .passed));
-    value = λ z none. e ∙ ap (stepBy t (v .omit) o k′ rows) (carries .value (λ s l. none s (stands-paused side v s l)));
-    rules = λ z s p. by-rules s (paused-stands side v s p) (decLe b mostBudget);
-  }
+      → (r : Step) → r ≡ step rows (o .outcome) → Called side v b r
+  call-answer rows chain r e = go (isPreference n (v .order)) refl
     where
-      by-rules : (s : State) → StandsFor (side t .rows) (v .picks) (v .count) (v .phase) s → Dec (b ≤ mostBudget)
-          → r ≡ told t (side t) (v .omit) (callOf t (side t) (v .omit) b s)
-      by-rules s l (no y) =
-          e ∙ ap (stepBy t (v .omit) o k′ rows) (carries .large s l (omega arith))
-          ∙ sym (ap (told t (side t) (v .omit)) (above-by mv (handOut (side t)) b s (omega arith)))
-      by-rules s l (yes y) =
-          let w : Went mv (side t .rows) b s c′ k′ o = carries .moves s l y in
-          e
-          ∙ by-moves t (side t) (v .omit) o k′ rows (handOut (side t) (w .to .picks)) (w .to) (o .outcome)
-          (λ d. let a = chain d (w .to .picks) (w .chained) in (a .rows-are, a .size, sequence-is d w))
-          (value-of (w .to) (w .stands))
-          ∙ sym (ap (told t (side t) (v .omit)) (within-by mv (handOut (side t)) b s y ∙ w .comes (handOut (side t))))
-        where
-          -- the picks that the core left are the pick sequence of the chain handed out
-          sequence-is : o .outcome ≡ HandedOut → (w : Went mv (side t .rows) b s c′ k′ o) → k′ ≡ sequence (side t) (handOut (side t) (w .to .picks))
-          sequence-is d w =
-              w .stands .picked
-              ∙ sequence-of t (side t) fair (w .to .picks)
-              (subst (λ (f : Phase). Fits (candidates (side t .rows)) (w .to .picks) f)
-              (handed-out t (side t) (v .omit) b s (o .outcome) (o .moves) (w .to) d (w .comes (handOut (side t)))) (w .stands .fits))
-
-          value-of : (y : State) → StandsFor (side t .rows) k′ (o .spot .count) (modePhase (o .spot .mode)) y → nextOf t (v .omit) o k′ ≡ paused t (v .omit) y
-          value-of y g = same (o .spot .count) (modePhase (o .spot .mode)) k′ (g .picked) (g .counted) (g .phased)
-            where
-              same : (c : ℕ) (f : Phase) (k : List ℕ) → k ≡ padded (map suc (y .picks)) → c ≡ length (y .picks) → f ≡ numbered (y .phase)
-                  → record { table = t; picks = k; count = c; phase = f; omit = v .omit } ≡ paused t (v .omit) y
-              same c f k a d g = rw (a, d, g)
+      go : (x : Bool) → isPreference n (v .order) ≡ x → Called side v b r
+      go true z = value-answer z rows chain r e
+      go false z = order-answer z rows r e
 
   -- ---- the answers
   pub call-refused : (why : Refusal) → o .outcome ≡ Refused why → (r : Step) → r ≡ refusal (number why) → Called side v b r
-  call-refused why e r d = call-answer [] (λ x. let z : _≡_ {A = ℕ} 0 1 = cc in absurd (omega arith)) r (d ∙ sym (ap (stepBy t (v .omit) o k′ []) e))
+  call-refused why e r d = call-answer [] (λ x. let z : _≡_ {A = ℕ} 0 1 = cc in absurd (omega arith)) r (d ∙ sym (ap (step []) e))
 
   module _ (f : Phase) (ef : f ≡ modePhase (o .spot .mode)) where
     abbrev next : Value
-    next = record { table = t; picks = k′; count = o .spot .count; phase = f; omit = v .omit }
+    next = record { table = t; order = v .order; picks = k′; count = o .spot .count; phase = f; omit = v .omit }
 
     pub call-handed : (rows : List ℕ) → o .outcome ≡ HandedOut → ((p : List ℕ) → c′ ≡ padded (chainOf (side t .rows) p) → Ladder t (side t) p rows)
         → Called side v b (record {
@@ -144,7 +180,7 @@ module _ (side : Table → Side) (v : Value) (b : ℕ) (m : Mode) (c′ k′ : L
           picks = k′;
           next = next;
         })
-        (rw ef (sym (ap (stepBy t (v .omit) o k′ rows) e)))
+        (rw ef (sym (ap (step rows) e)))
 
     pub call-other : (c : Chain) → c ≡ blankChain → OneOf (0 ∷ 1 ∷ 2 ∷ []) (tag (o .outcome)) → OneOf (1 ∷ 2 ∷ 3 ∷ []) (tag (o .outcome))
         → Called side v b (record { answer = outcome (o .outcome) (chainRows c); moves = o .moves; chain = c; picks = noRows; next = next })
@@ -157,14 +193,13 @@ module _ (side : Table → Side) (v : Value) (b : ℕ) (m : Mode) (c′ k′ : L
 
         as-step : (oc : Outcome) → OneOf (0 ∷ 1 ∷ 2 ∷ []) (tag oc) → OneOf (1 ∷ 2 ∷ 3 ∷ []) (tag oc)
             → _≡_ {A = Step} (record { answer = outcome oc (chainRows c); moves = o .moves; chain = c; picks = noRows; next = next })
-            (stepBy t (v .omit) o k′ [] oc)
+            (step [] oc)
         as-step HandedOut a d = absurd (not-handed d)
         as-step Spent a d = rw (ec, ef)
         as-step End a d = rw (ec, ef)
         as-step (Refused why) a d = ⊎-elim (λ i. absurd (omega arith)) (λ j. ⊎-elim (λ i. absurd (omega arith)) (λ i. absurd (omega arith)) j) a
 
 -- an answer that is what `Called` says carries demand 3 on, and what is promised of the runs that omit
-pub promise : (side : Table → Side) (v : Value) (b : ℕ) (r : Step) → (tableRefusal (v .table) ≡ 0 → Legal (v .table) × Fair (v .table) (side (v .table)))
-    → Called side v b r
+pub promise : (side : Table → Side) (v : Value) (b : ℕ) (r : Step) → Starts side v → Called side v b r
     → Called side v b r × (CarriesDemand side v b r × CarriesOmits side v b r)
 promise side v b r f h = (h, (carries-demand side v b r f h, carries-omits side v b r f h))

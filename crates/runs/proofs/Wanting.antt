@@ -26,11 +26,10 @@ use Rattle.table.proofs.Places.{has-place, place-has, row-past}
 use Rattle.table.proofs.Legality.{length-rows, legal-cases, legal-passes}
 use Rattle.transpose.specs.Transposing.{transpose}
 use Rattle.transpose.proofs.Transposition.{length-transpose, cases-transpose, has-transpose, cases-within}
-use Rattle.rules.specs.Machine.{Phase, State, Move, Given, nothing, hands, ends, gives, move}
+use Rattle.rules.specs.Machine.{Phase, State, Move, Given, nothing, hands, ends, gives}
 use Rattle.rules.specs.Keeping.{taken}
 use Rattle.lists.specs.Lists.{Side, gaugeSide, caseSide}
-use Rattle.lists.specs.Picks.{candidates}
-use Rattle.lists.specs.OnTable.{chainOf, handOut}
+use Rattle.lists.specs.OnTable.{chainOf, handOut, moveOn}
 use Rattle.lists.proofs.ChainRows.{chainOf-within}
 use Rattle.conflicts.specs.Conflicts.{Essential, HoldsEssential}
 use Rattle.conflicts.specs.Omitting.{keepsOf}
@@ -39,7 +38,7 @@ use Rattle.essentials.specs.Answers.{EssentialRows}
 use Rattle.turn.specs.Places.{places}
 use Rattle.turn.proofs.Columns.{length-places, row-places}
 use Rattle.runs.specs.Calling.{movesOf}
-use Rattle.runs.specs.private.Working.{Works, CarriesOn, apart, handsOver, moveBy}
+use Rattle.runs.specs.private.Working.{Works, Ordered, apart, handsOver, placedMove}
 use Rattle.runs.specs.declared.engine.Report.{Report}
 
 -- ---- what the core asks of a row, and of all
@@ -97,25 +96,25 @@ module _ (t : Table) (s : Side) (w : List ℕ) where
   abbrev Wants : Type 0
   Wants = (p : List ℕ) → handsOver true (length (s .rows)) w (chainOf (s .rows) p) ≡ keepsOf t (handOut s p)
 
-  core-moves : (omit : Bool) → (omit ≡ true → Wants) → moveBy (s .rows) omit w ≡ movesOf t s omit
-  unfolding moveBy
-  core-moves false h = refl
-  core-moves true h = fun-ext (λ x. ap (λ (g : Given). gives g (move (candidates (s .rows)) x .next)) (same (move (candidates (s .rows)) x .given)))
+  core-moves : (o : List ℕ) (omit : Bool) → (omit ≡ true → Wants) → placedMove (s .rows) o omit w ≡ movesOf t s o omit
+  unfolding placedMove
+  core-moves o false h = refl
+  core-moves o true h = fun-ext (λ x. ap (λ (g : Given). gives g (moveOn s o x .next)) (same (moveOn s o x .given)))
     where
-      same : (g : Given) → taken (candidates (s .rows)) (chainOf (s .rows)) (handsOver true (length (s .rows)) w) g
-          ≡ taken (candidates (s .rows)) (handOut s) (keepsOf t) g
+      same : (g : Given) → taken (chainOf (s .rows)) (handsOver true (length (s .rows)) w) g ≡ taken (handOut s) (keepsOf t) g
       same nothing = refl
       same (hands p) = ap (λ (b : Bool). cond b (hands p) nothing) (h refl p)
       same ends = refl
 
   -- so a call of the core is one of the run
   pub carried-by : (n : ℕ) (R : List ℕ) → Works s n R → (omit flag : Bool) → omit ≡ flag → (flag ≡ true → Wants)
-      → (k : List ℕ) (count : ℕ) (f : Phase) (b : ℕ) (c′ k′ : List ℕ) (o : Report)
-      → CarriesOn (moveBy (take n R) flag w) (take n R) k count f b c′ k′ o → CarriesOn (movesOf t s omit) (s .rows) k count f b c′ k′ o
-  carried-by n R v omit flag e h k count f b c′ k′ o d =
-      subst (λ (x : Bool). CarriesOn (movesOf t s x) (s .rows) k count f b c′ k′ o) (sym e)
-      (subst (λ (m : State → Move). CarriesOn m (s .rows) k count f b c′ k′ o) (core-moves flag h)
-      (subst (λ (r : List ℕ). CarriesOn (moveBy r flag w) r k count f b c′ k′ o) (v .rows-are) d))
+      → (order k : List ℕ) (count : ℕ) (f : Phase) (b : ℕ) (c′ k′ : List ℕ) (o : Report)
+      → Ordered (λ q. placedMove (take n R) q flag w) n (take n R) order k count f b c′ k′ o
+      → Ordered (λ q. movesOf t s q omit) n (s .rows) order k count f b c′ k′ o
+  carried-by n R v omit flag e h order k count f b c′ k′ o d =
+      subst (λ (x : Bool). Ordered (λ q. movesOf t s q x) n (s .rows) order k count f b c′ k′ o) (sym e)
+      (subst (λ (m : List ℕ → State → Move). Ordered m n (s .rows) order k count f b c′ k′ o) (fun-ext (λ q. core-moves q flag h))
+      (subst (λ (r : List ℕ). Ordered (λ q. placedMove r q flag w) n r order k count f b c′ k′ o) (v .rows-are) d))
 
 module _ (t : Table) (l : Legal t) where
   -- the test of a set that is within the table

@@ -1,7 +1,7 @@
 -- Paused values (01: "A paused run is a value: the table, the gauges picked so far, and a phase"; 02, R-2: "Whether a run omits is fixed at its
--- fresh start and kept in its paused value"), read from the two structs alike, and the value of a state of rules 1 to 5 on a table. Picks stand
--- by number from 1, in 64 places with zeros behind the last; a state of the theory has them by place from 0. A value is legal exactly when it
--- is the paused value of a state that some number of moves reaches.
+-- fresh start and kept in its paused value"; R-12: "A paused run keeps its preference"), read from the two structs alike, and the value of a state
+-- of rules 1 to 5 on a table. Picks stand by number from 1, in 64 places with zeros behind the last, as the preference does; a state of the theory
+-- has them by row index from 0. A value is legal exactly when it is the paused value of a state that some number of moves reaches.
 use mathlib.Core.Bool.{Bool, false}
 use mathlib.Core.List.{List, map}
 use Prim.Native.Nat.{ℕ, suc}
@@ -22,25 +22,27 @@ use Rattle.runs.specs.declared.cases.CaseStart.{CaseStart}
 -- a paused value of either side
 pub record Value : Type 0 where
   pub table : Table
+  pub order : List ℕ
   pub picks : List ℕ
   pub count : ℕ
   pub phase : Phase
   pub omit : Bool
 
--- the number of a place
+-- the number of an index
 abbrev pub numbered : Phase → Phase
 numbered Down = Down
 numbered Handed = Handed
 numbered (Back i) = Back (suc i)
 numbered Ended = Ended
 
--- the paused value of a table and a state, of a run that omits or does not
-abbrev pub paused : Table → Bool → State → Value
-paused t omit s = record { table = t; picks = padded (map suc (s .picks)); count = length (s .picks); phase = numbered (s .phase); omit = omit }
+-- the paused value of a table, the 64 numbers k of a preference and a state, of a run that omits or does not
+abbrev pub paused : Table → List ℕ → Bool → State → Value
+paused t k omit s =
+    record { table = t; order = k; picks = padded (map suc (s .picks)); count = length (s .picks); phase = numbered (s .phase); omit = omit }
 
 -- what stands beside a refusal
 abbrev pub blankValue : Value
-blankValue = record { table = blankTable; picks = noRows; count = 0; phase = Down; omit = false }
+blankValue = record { table = blankTable; order = noRows; picks = noRows; count = 0; phase = Down; omit = false }
 
 -- ---- how the two structs read
 abbrev pub gaugePhase : GaugePhase → Phase
@@ -56,10 +58,10 @@ casePhase (caseBack c) = Back (c .0)
 casePhase caseEnded = Ended
 
 abbrev pub gaugeValue : GaugeRun → Value
-gaugeValue r = record { table = r .table; picks = r .picks .0; count = r .count; phase = gaugePhase (r .phase); omit = r .omit }
+gaugeValue r = record { table = r .table; order = r .order .0; picks = r .picks .0; count = r .count; phase = gaugePhase (r .phase); omit = r .omit }
 
 abbrev pub caseValue : CaseRun → Value
-caseValue r = record { table = r .table; picks = r .picks .0; count = r .count; phase = casePhase (r .phase); omit = r .omit }
+caseValue r = record { table = r .table; order = r .order .0; picks = r .picks .0; count = r .count; phase = casePhase (r .phase); omit = r .omit }
 
 -- how the fresh starts read: 01's number, 0 where nothing is refused, and the value
 abbrev pub gaugeStarted : GaugeStart → Answer Value

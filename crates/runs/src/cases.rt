@@ -4,7 +4,10 @@ use crate::Outcome;
 use crate::engine;
 use crate::engine::Mode;
 use crate::engine::Report;
+use crate::ordered;
 use essentials;
+use preference;
+use preference::CaseOrder;
 use refusals::Refusal;
 use refusals::Verdict;
 use table;
@@ -15,14 +18,15 @@ use turn;
 ghost use mathlib.Core.Path.{_≡_};
 ghost use mathlib.Core.Bool.{true, false};
 ghost use lib.ListN.{length};
-ghost use Rattle.table.specs.Tables.{tableRefusal, Legal, noRows};
+ghost use Rattle.table.specs.Tables.{Legal, noRows};
 ghost use Rattle.refusals.specs.Answers.{answer, number};
 ghost use Rattle.rules.specs.Machine.{fresh};
 ghost use Rattle.lists.specs.Lists.{caseSide};
 ghost use Rattle.runs.specs.Paused.{casePhase, caseValue, caseStarted, paused, blankValue};
-ghost use Rattle.runs.specs.Calling.{Called, caseStep, refusal, movesOf, KeepsDemand, CarriesDemand, SharesSet};
+ghost use Rattle.runs.specs.Calling.{Called, caseStep, refusal, movesOf, KeepsDemand, CarriesDemand, SharesAll};
 ghost use Rattle.runs.specs.Omitting.{KeepsOmits, CarriesOmits};
-ghost use Rattle.runs.specs.private.Working.{tableOf, modePhase, Works, CarriesOn};
+ghost use Rattle.runs.specs.private.Working.{tableOf, modePhase, Works, Ordered};
+ghost use Rattle.preference.specs.Preferences.{preferredRefusal};
 
 // The phase of a case run (01: "Down, Handed, Back from gauge g, or Ended").
 pub enum CasePhase {
@@ -35,10 +39,11 @@ pub enum CasePhase {
 // The cases picked so far, by number, in the order of the picks; zeros behind them.
 pub struct CasePicks(pub [u8; 64]);
 
-// A paused case run: its table, as it was given and not exchanged, the picks and how many, the phase, and whether it omits the ladders that
-// hold no essential pair.
+// A paused case run: its table, as it was given and not exchanged, its order of the cases, the picks and how many, the phase, and whether it
+// omits the ladders that hold no essential pair.
 pub struct CaseRun {
     pub table: Table,
+    pub order: CaseOrder,
     pub picks: CasePicks,
     pub count: u64,
     pub phase: CasePhase,
@@ -61,29 +66,31 @@ pub struct CaseStart {
     pub run: CaseRun,
 }
 
-// A fresh case run of `t`: 10 and 11 are refused. Every list of run calls from it keeps demand 3, and shares its set with the gauge run; from
-// one that omits, every list of run calls hands out a front of the ladders that hold an essential pair, and all of them by its end.
-pub fn start_cases(t: Table, omit: bool) -> CaseStart
-    ensures { λ r. ⌜ caseStarted r ≡ answer (tableRefusal t) (paused t omit fresh) blankValue ⌝ }
-    ensures demand { λ r. ⌜ (omit ≡ false → KeepsDemand caseSide t (caseValue (r .run))) ⌝ }
-    ensures shared { λ r. ⌜ (omit ≡ false → SharesSet t (paused t false fresh) (caseValue (r .run))) ⌝ }
-    ensures omits { λ r. ⌜ (omit ≡ true → KeepsOmits caseSide t (caseValue (r .run))) ⌝ }
+// A fresh case run of `t` under an order of its cases: 10, 11 and 27 are refused. Every list of run calls from it keeps demand 3, and shares its
+// set with every run of the table; from one that omits, every list of run calls hands out a front of the ladders that hold an essential pair,
+// and all of them by its end.
+pub fn start_cases(t: Table, order: CaseOrder, omit: bool) -> CaseStart
+    ensures { λ r. ⌜ caseStarted r ≡ answer (preferredRefusal t (t .cases) (order .0)) (paused t (order .0) omit fresh) blankValue ⌝ }
+    ensures demand { λ r. ⌜ (omit ≡ false → KeepsDemand caseSide t (order .0) (caseValue (r .run))) ⌝ }
+    ensures shared { λ r. ⌜ (omit ≡ false → SharesAll caseSide t (order .0) (caseValue (r .run))) ⌝ }
+    ensures omits { λ r. ⌜ (omit ≡ true → KeepsOmits caseSide t (order .0) (caseValue (r .run))) ⌝ }
 {
-    let checked = table::check_table(t);
+    let numbers = order.0;
+    let checked = preference::check(t, t.cases, numbers);
     if let Verdict::Refused(why) = checked {
         return CaseStart {
             verdict: Verdict::Refused(why),
-            run: case_run(engine::blank_table(), false),
+            run: blank_run(),
         };
     }
     CaseStart {
         verdict: Verdict::Accepted,
-        run: case_run(t, omit),
+        run: case_run(t, order, omit),
     }
 }
 
-// A call of the case run with a budget of moves, on any paused value: 10, 11, 15 and 18 are refused. Added to the calls that led to the
-// value, it keeps demand 3, or what is promised of a run that omits.
+// A call of the case run with a budget of moves, on any paused value: 10, 11, 27, 15 and 18 are refused. Added to the calls that led to
+// the value, it keeps demand 3, or what is promised of a run that omits.
 pub fn run_cases(p: CaseRun, budget: u64) -> CaseStep
     ensures { λ r. ⌜ Called caseSide (caseValue p) budget (caseStep r) ⌝ }
     ensures demand { λ r. ⌜ CarriesDemand caseSide (caseValue p) budget (caseStep r) ⌝ }
@@ -96,6 +103,8 @@ pub fn run_cases(p: CaseRun, budget: u64) -> CaseStep
     }
     let given = t.rows;
     let rows = turn::turned(&given, t.gauges as usize, t.cases as usize);
+    let kept = p.order;
+    let order = kept.0;
     let held = p.picks;
     let mut picks = held.0;
     let mut chain = [0u64; 64];
@@ -108,6 +117,7 @@ pub fn run_cases(p: CaseRun, budget: u64) -> CaseStep
         t.cases,
         p.omit,
         &rows,
+        &order,
         &mut chain,
         &mut picks,
         count,
@@ -122,6 +132,7 @@ pub fn run_cases(p: CaseRun, budget: u64) -> CaseStep
     let after = spot.mode;
     let next = CaseRun {
         table: t,
+        order: kept,
         picks: CasePicks(picks),
         count: spot.count as u64,
         phase: case_phase(after),
@@ -151,7 +162,7 @@ pub fn run_cases(p: CaseRun, budget: u64) -> CaseStep
     }
 }
 
-// The core's call, on the table with the rows `given`. The essential pairs are looked for only where the run omits; else the core looks at
+// The core's call under the order, on the table with the rows `given`. The essential pairs are looked for only where the run omits; else the core looks at
 // none, and gets any rows. The table comes by reference and is put together only where it is needed: a run that omits nothing copies none.
 fn call_cases(
     given: &[u64; 64],
@@ -159,6 +170,7 @@ fn call_cases(
     cases: u64,
     omit: bool,
     rows: &[u64; 64],
+    order: &[u8; 64],
     chain: &mut [u64; 64],
     picks: &mut [u8; 64],
     count: u64,
@@ -166,10 +178,10 @@ fn call_cases(
     budget: u64,
 ) -> Report
     requires { ⌜ (Legal (tableOf gauges cases (now given))) × (Works (caseSide (tableOf gauges cases (now given))) cases (now rows))
-        × (now chain ≡ noRows) × (length (now picks) ≡ 64) ⌝ }
-    ensures { λ r. ⌜ CarriesOn (movesOf (tableOf gauges cases (now (given .entry))) (caseSide (tableOf gauges cases (now (given .entry)))) omit)
-        (caseSide (tableOf gauges cases (now (given .entry))) .rows) (now (picks .entry)) count (modePhase mode) budget (now (chain .exit))
-        (now (picks .exit)) r ⌝ }
+        × (length (now order) ≡ 64) × (now chain ≡ noRows) × (length (now picks) ≡ 64) ⌝ }
+    ensures { λ r. ⌜ Ordered (λ o. movesOf (tableOf gauges cases (now (given .entry))) (caseSide (tableOf gauges cases (now (given .entry)))) o omit) cases
+        (caseSide (tableOf gauges cases (now (given .entry))) .rows) (now (order .entry)) (now (picks .entry)) count (modePhase mode) budget
+        (now (chain .exit)) (now (picks .exit)) r ⌝ }
 {
     let n = cases as usize;
     if omit {
@@ -180,22 +192,53 @@ fn call_cases(
         };
         let found = essentials::essential_rows(t);
         let wanted = turn::turned(&found, gauges as usize, n);
-        return engine::call(rows, n, true, &wanted, chain, picks, count, mode, budget);
+        return ordered::call(
+            rows,
+            n,
+            order,
+            true,
+            &wanted,
+            chain,
+            picks,
+            count,
+            mode,
+            budget,
+        );
     }
-    engine::call(rows, n, false, rows, chain, picks, count, mode, budget)
+    ordered::call(
+        rows,
+        n,
+        order,
+        false,
+        rows,
+        chain,
+        picks,
+        count,
+        mode,
+        budget,
+    )
 }
 
-// The fresh value on a table.
-fn case_run(table: Table, omit: bool) -> CaseRun
-    ensures { λ r. ⌜ caseValue r ≡ paused table omit fresh ⌝ }
+// The fresh value on a table, under an order.
+fn case_run(table: Table, order: CaseOrder, omit: bool) -> CaseRun
+    ensures { λ r. ⌜ caseValue r ≡ paused table (order .0) omit fresh ⌝ }
 {
     CaseRun {
         table: table,
+        order: order,
         picks: CasePicks([0u8; 64]),
         count: 0,
         phase: CasePhase::Down,
         omit: omit,
     }
+}
+
+// The value beside a refusal.
+fn blank_run() -> CaseRun
+    ensures { λ r. ⌜ caseValue r ≡ blankValue ⌝ }
+{
+    let none = CaseOrder([0u8; 64]);
+    case_run(engine::blank_table(), none, false)
 }
 
 fn case_refusal(why: Refusal) -> CaseStep
@@ -207,7 +250,7 @@ fn case_refusal(why: Refusal) -> CaseStep
         moves: 0,
         chain: none,
         picks: CasePicks([0u8; 64]),
-        next: case_run(engine::blank_table(), false),
+        next: blank_run(),
     }
 }
 

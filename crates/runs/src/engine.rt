@@ -125,7 +125,7 @@ pub fn blank_chain() -> Chain
 }
 
 // A call that makes no move.
-fn refused(why: Refusal) -> Report
+pub fn refused(why: Refusal) -> Report
     ensures { λ r. ⌜ r ≡ refusedReport why ⌝ }
 {
     Report {

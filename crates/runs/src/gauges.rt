@@ -4,7 +4,10 @@ use crate::Outcome;
 use crate::engine;
 use crate::engine::Mode;
 use crate::engine::Report;
+use crate::ordered;
 use essentials;
+use preference;
+use preference::GaugeOrder;
 use refusals::Refusal;
 use refusals::Verdict;
 use table;
@@ -14,14 +17,15 @@ use table::Table;
 ghost use mathlib.Core.Path.{_≡_};
 ghost use mathlib.Core.Bool.{true, false};
 ghost use lib.ListN.{length};
-ghost use Rattle.table.specs.Tables.{tableRefusal, Legal, noRows};
+ghost use Rattle.table.specs.Tables.{Legal, noRows};
 ghost use Rattle.refusals.specs.Answers.{answer, number};
 ghost use Rattle.rules.specs.Machine.{fresh};
 ghost use Rattle.lists.specs.Lists.{gaugeSide};
 ghost use Rattle.runs.specs.Paused.{gaugePhase, gaugeValue, gaugeStarted, paused, blankValue};
-ghost use Rattle.runs.specs.Calling.{Called, gaugeStep, refusal, movesOf, KeepsDemand, CarriesDemand, SharesSet};
+ghost use Rattle.runs.specs.Calling.{Called, gaugeStep, refusal, movesOf, KeepsDemand, CarriesDemand, SharesAll};
 ghost use Rattle.runs.specs.Omitting.{KeepsOmits, CarriesOmits};
-ghost use Rattle.runs.specs.private.Working.{tableOf, modePhase, Works, CarriesOn};
+ghost use Rattle.runs.specs.private.Working.{tableOf, modePhase, Works, Ordered};
+ghost use Rattle.preference.specs.Preferences.{preferredRefusal};
 
 // The phase of a gauge run (01: "Down, Handed, Back from gauge g, or Ended").
 pub enum Phase {
@@ -34,9 +38,11 @@ pub enum Phase {
 // The gauges picked so far, by number, in the order of the picks; zeros behind them.
 pub struct GaugePicks(pub [u8; 64]);
 
-// A paused gauge run: its table, the picks and how many, the phase, and whether it omits the ladders that hold no essential pair.
+// A paused gauge run: its table, its order of the gauges, the picks and how many, the phase, and whether it omits the ladders that hold no
+// essential pair.
 pub struct GaugeRun {
     pub table: Table,
+    pub order: GaugeOrder,
     pub picks: GaugePicks,
     pub count: u64,
     pub phase: Phase,
@@ -59,29 +65,31 @@ pub struct GaugeStart {
     pub run: GaugeRun,
 }
 
-// A fresh gauge run of `t`: 10 and 11 are refused. Every list of run calls from it keeps demand 3, and shares its set with the case run; from
-// one that omits, every list of run calls hands out a front of the ladders that hold an essential pair, and all of them by its end.
-pub fn start_gauges(t: Table, omit: bool) -> GaugeStart
-    ensures { λ r. ⌜ gaugeStarted r ≡ answer (tableRefusal t) (paused t omit fresh) blankValue ⌝ }
-    ensures demand { λ r. ⌜ (omit ≡ false → KeepsDemand gaugeSide t (gaugeValue (r .run))) ⌝ }
-    ensures shared { λ r. ⌜ (omit ≡ false → SharesSet t (gaugeValue (r .run)) (paused t false fresh)) ⌝ }
-    ensures omits { λ r. ⌜ (omit ≡ true → KeepsOmits gaugeSide t (gaugeValue (r .run))) ⌝ }
+// A fresh gauge run of `t` under an order of its gauges: 10, 11 and 27 are refused. Every list of run calls from it keeps demand 3, and shares its
+// set with every run of the table; from one that omits, every list of run calls hands out a front of the ladders that hold an essential pair,
+// and all of them by its end.
+pub fn start_gauges(t: Table, order: GaugeOrder, omit: bool) -> GaugeStart
+    ensures { λ r. ⌜ gaugeStarted r ≡ answer (preferredRefusal t (t .gauges) (order .0)) (paused t (order .0) omit fresh) blankValue ⌝ }
+    ensures demand { λ r. ⌜ (omit ≡ false → KeepsDemand gaugeSide t (order .0) (gaugeValue (r .run))) ⌝ }
+    ensures shared { λ r. ⌜ (omit ≡ false → SharesAll gaugeSide t (order .0) (gaugeValue (r .run))) ⌝ }
+    ensures omits { λ r. ⌜ (omit ≡ true → KeepsOmits gaugeSide t (order .0) (gaugeValue (r .run))) ⌝ }
 {
-    let checked = table::check_table(t);
+    let numbers = order.0;
+    let checked = preference::check(t, t.gauges, numbers);
     if let Verdict::Refused(why) = checked {
         return GaugeStart {
             verdict: Verdict::Refused(why),
-            run: gauge_run(engine::blank_table(), false),
+            run: blank_run(),
         };
     }
     GaugeStart {
         verdict: Verdict::Accepted,
-        run: gauge_run(t, omit),
+        run: gauge_run(t, order, omit),
     }
 }
 
-// A call of the gauge run with a budget of moves, on any paused value: 10, 11, 15 and 18 are refused. Added to the calls that led to the
-// value, it keeps demand 3, or what is promised of a run that omits.
+// A call of the gauge run with a budget of moves, on any paused value: 10, 11, 27, 15 and 18 are refused. Added to the calls that led to
+// the value, it keeps demand 3, or what is promised of a run that omits.
 pub fn run_gauges(p: GaugeRun, budget: u64) -> GaugeStep
     ensures { λ r. ⌜ Called gaugeSide (gaugeValue p) budget (gaugeStep r) ⌝ }
     ensures demand { λ r. ⌜ CarriesDemand gaugeSide (gaugeValue p) budget (gaugeStep r) ⌝ }
@@ -93,6 +101,8 @@ pub fn run_gauges(p: GaugeRun, budget: u64) -> GaugeStep
         return gauge_refusal(why);
     }
     let rows = t.rows;
+    let kept = p.order;
+    let order = kept.0;
     let held = p.picks;
     let mut picks = held.0;
     let mut chain = [0u64; 64];
@@ -104,6 +114,7 @@ pub fn run_gauges(p: GaugeRun, budget: u64) -> GaugeStep
         t.cases,
         p.omit,
         &rows,
+        &order,
         &mut chain,
         &mut picks,
         count,
@@ -118,6 +129,7 @@ pub fn run_gauges(p: GaugeRun, budget: u64) -> GaugeStep
     let after = spot.mode;
     let next = GaugeRun {
         table: t,
+        order: kept,
         picks: GaugePicks(picks),
         count: spot.count as u64,
         phase: gauge_phase(after),
@@ -146,13 +158,14 @@ pub fn run_gauges(p: GaugeRun, budget: u64) -> GaugeStep
     }
 }
 
-// The core's call, on the table with these rows. The essential pairs are looked for only where the run omits; else the core looks at none,
+// The core's call under the order, on the table with these rows. The essential pairs are looked for only where the run omits; else the core looks at none,
 // and gets any rows. The table comes by reference and is put together only where it is needed: a run that omits nothing copies none.
 fn call_gauges(
     gauges: u64,
     cases: u64,
     omit: bool,
     rows: &[u64; 64],
+    order: &[u8; 64],
     chain: &mut [u64; 64],
     picks: &mut [u8; 64],
     count: u64,
@@ -160,10 +173,10 @@ fn call_gauges(
     budget: u64,
 ) -> Report
     requires { ⌜ (Legal (tableOf gauges cases (now rows))) × (Works (gaugeSide (tableOf gauges cases (now rows))) gauges (now rows))
-        × (now chain ≡ noRows) × (length (now picks) ≡ 64) ⌝ }
-    ensures { λ r. ⌜ CarriesOn (movesOf (tableOf gauges cases (now (rows .entry))) (gaugeSide (tableOf gauges cases (now (rows .entry)))) omit)
-        (gaugeSide (tableOf gauges cases (now (rows .entry))) .rows) (now (picks .entry)) count (modePhase mode) budget (now (chain .exit))
-        (now (picks .exit)) r ⌝ }
+        × (length (now order) ≡ 64) × (now chain ≡ noRows) × (length (now picks) ≡ 64) ⌝ }
+    ensures { λ r. ⌜ Ordered (λ o. movesOf (tableOf gauges cases (now (rows .entry))) (gaugeSide (tableOf gauges cases (now (rows .entry)))) o omit) gauges
+        (gaugeSide (tableOf gauges cases (now (rows .entry))) .rows) (now (order .entry)) (now (picks .entry)) count (modePhase mode) budget
+        (now (chain .exit)) (now (picks .exit)) r ⌝ }
 {
     let n = gauges as usize;
     if omit {
@@ -173,22 +186,53 @@ fn call_gauges(
             rows: *rows,
         };
         let wanted = essentials::essential_rows(t);
-        return engine::call(rows, n, true, &wanted, chain, picks, count, mode, budget);
+        return ordered::call(
+            rows,
+            n,
+            order,
+            true,
+            &wanted,
+            chain,
+            picks,
+            count,
+            mode,
+            budget,
+        );
     }
-    engine::call(rows, n, false, rows, chain, picks, count, mode, budget)
+    ordered::call(
+        rows,
+        n,
+        order,
+        false,
+        rows,
+        chain,
+        picks,
+        count,
+        mode,
+        budget,
+    )
 }
 
-// The fresh value on a table.
-fn gauge_run(table: Table, omit: bool) -> GaugeRun
-    ensures { λ r. ⌜ gaugeValue r ≡ paused table omit fresh ⌝ }
+// The fresh value on a table, under an order.
+fn gauge_run(table: Table, order: GaugeOrder, omit: bool) -> GaugeRun
+    ensures { λ r. ⌜ gaugeValue r ≡ paused table (order .0) omit fresh ⌝ }
 {
     GaugeRun {
         table: table,
+        order: order,
         picks: GaugePicks([0u8; 64]),
         count: 0,
         phase: Phase::Down,
         omit: omit,
     }
+}
+
+// The value beside a refusal.
+fn blank_run() -> GaugeRun
+    ensures { λ r. ⌜ gaugeValue r ≡ blankValue ⌝ }
+{
+    let none = GaugeOrder([0u8; 64]);
+    gauge_run(engine::blank_table(), none, false)
 }
 
 fn gauge_refusal(why: Refusal) -> GaugeStep
@@ -200,7 +244,7 @@ fn gauge_refusal(why: Refusal) -> GaugeStep
         moves: 0,
         chain: none,
         picks: GaugePicks([0u8; 64]),
-        next: gauge_run(engine::blank_table(), false),
+        next: blank_run(),
     }
 }
 

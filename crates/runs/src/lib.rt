@@ -1,10 +1,11 @@
-// The gauge run and the case run (01, "Moves of a run"): fresh starts that promise demand 3, and run calls with a budget on a paused
-// value, any value and any budget. gauges.rt and cases.rt have what a side has of its own, line by line alike: its types, which no value of
-// the other side fits, its fresh start and its call. engine.rt is the one core below both, on plain numbers and arrays. No function that
-// another crate can call has a `requires`, and none is lent memory.
+// The gauge run and the case run (01, "Moves of a run"), each under a preference (02, R-12): fresh starts that promise demand 3, and run calls with a
+// budget on a paused value, any value and any budget. gauges.rt and cases.rt have what a side has of its own, line by line alike: its types,
+// which no value of the other side fits, its fresh start and its call. Below both are engine.rt, the one core, on plain numbers and arrays and
+// by number, and ordered.rt, the core's call under an order. No function that another crate can call has a `requires`, and none is lent memory.
 mod cases;
 mod engine;
 mod gauges;
+mod ordered;
 
 pub use cases::CasePhase;
 pub use cases::CasePicks;

@@ -1,6 +1,7 @@
 // Asking the library: what it must answer for a table whose ladders and sequences are known, by 02's words alone, and the comparison.
 use count;
 use count::Count;
+use preference::GaugeOrder;
 use table;
 use table::Table;
 
@@ -95,7 +96,7 @@ fn known(t: Tally, table: Table, ladders: u64, sequences: u64, budget: u64) -> T
 
 // One count, compared with what is due.
 pub fn ask(t: Tally, table: Table, budget: u64, want: Said) -> Tally {
-    let got = heard(count::count_ladders(table, budget));
+    let got = heard(count::count_ladders(table, GaugeOrder::plain(table.gauges), budget));
     let mut now = t;
     now.counts = std::num::wrapping_add_u64(t.counts, 1);
     if same(want, got) {

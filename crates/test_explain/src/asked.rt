@@ -6,6 +6,8 @@ use super::sides::Value;
 use super::tally;
 use super::tally::Tally;
 use super::tally::What;
+use preference::CaseOrder;
+use preference::GaugeOrder;
 use runs;
 use runs::CaseStep;
 use runs::GaugeStep;
@@ -17,7 +19,7 @@ use table::Table;
 const MOVES: u64 = 3_000;
 
 pub fn gauges(t: Tally, table: Table, all: u64) -> Tally {
-    let start = runs::start_gauges(table, false);
+    let start = runs::start_gauges(table, GaugeOrder::plain(table.gauges), false);
     let mut run = start.run;
     let mut after = t;
     let mut moves: u64 = 0;
@@ -45,7 +47,7 @@ fn gauge_step(t: Tally, step: GaugeStep, all: u64) -> Tally {
 }
 
 pub fn cases(t: Tally, table: Table, all: u64) -> Tally {
-    let start = runs::start_cases(table, false);
+    let start = runs::start_cases(table, CaseOrder::plain(table.cases), false);
     let mut run = start.run;
     let mut after = t;
     let mut moves: u64 = 0;

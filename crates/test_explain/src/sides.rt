@@ -4,6 +4,8 @@ use super::tally;
 use super::tally::Tally;
 use super::tally::What;
 use explain;
+use preference::CaseOrder;
+use preference::GaugeOrder;
 use refusals::Refusal;
 use refusals::Verdict;
 use runs::CasePhase;
@@ -49,6 +51,7 @@ pub fn handed(table: Table, picks: [u8; 64], count: u64) -> Value {
         by_cases: false,
         gauges: GaugeRun {
             table: table,
+            order: GaugeOrder::plain(table.gauges),
             picks: GaugePicks(picks),
             count: count,
             phase: Phase::Handed,
@@ -56,6 +59,7 @@ pub fn handed(table: Table, picks: [u8; 64], count: u64) -> Value {
         },
         cases: CaseRun {
             table: table,
+            order: CaseOrder::plain(table.cases),
             picks: CasePicks(picks),
             count: count,
             phase: CasePhase::Handed,

@@ -1,4 +1,4 @@
-// Boards as rows and rows as boards; and the state of a paused value as the number of `path`.
+// Boards as rows and rows as boards; plain orders; and the state of a paused value as the number of `path`.
 use super::arrays;
 use super::path;
 use super::plain;
@@ -62,6 +62,26 @@ pub fn differ(a: &[u64; 64], b: &[u64; 64]) -> u64 {
     off
 }
 
+// How many of 64 numbers differ from the arrangement 1, 2, 3 and on of `n` of them, with zeros behind.
+pub fn order_off(order: &[u8; 64], n: u64) -> u64 {
+    let mut off: u64 = 0;
+    let mut i: u64 = 0;
+    while i < 64 {
+        if arrays::get_pick(order, i) != plain_number(i, n) {
+            off = arrays::plus(off, 1);
+        }
+        i += 1;
+    }
+    off
+}
+
+fn plain_number(i: u64, n: u64) -> u64 {
+    if n <= i {
+        return 0;
+    }
+    arrays::plus(i, 1)
+}
+
 // The first eight rows as a set of pairs, eight cases each.
 pub fn pairs_of(rows: &[u64; 64]) -> u64 {
     let mut pairs: u64 = 0;
@@ -73,7 +93,7 @@ pub fn pairs_of(rows: &[u64; 64]) -> u64 {
     pairs
 }
 
-// The state of a value, all its numbers but the table's.
+// The state of a value, all its numbers but the table's and the order's.
 pub fn state_of(v: Value) -> u64 {
     let picks = v.picks;
     let stage = v.stage;

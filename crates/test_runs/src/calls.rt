@@ -204,10 +204,7 @@ fn limit(t: Tally, side: u64, handed: u64, ends: u64, since: u64) -> Tally {
     if 0 < ends {
         return t;
     }
-    let mut n = t.cases;
-    if side == plain::GAUGES {
-        n = t.gauges;
-    }
+    let n = tally::size(t, side);
     if handed == 0 {
         return tally::holds(t, tally::LIMIT, since <= arrays::plus(n, 1));
     }

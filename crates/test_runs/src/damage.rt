@@ -1,5 +1,6 @@
 // Group 3: each value that a run passes through, with one of its numbers or one pair of its table changed. The call must answer 15, also
 // where the budget is above 1,000,000, unless the changed value is itself one that the run passes through; then it must answer as from there.
+// With a number of its order changed it must answer 27, ahead of both.
 use super::arrays;
 use super::boards;
 use super::expect;
@@ -16,6 +17,9 @@ const ODD: u64 = 18;
 
 // The changes tried on each value: odd numbers at eight places of the picks, in the count and in the pick gone back from, and three phases.
 const CHANGES: u64 = 183;
+
+// The changes tried on its order: odd numbers at five places.
+const ORDERS: u64 = 90;
 
 const TOO_LARGE: u64 = 1_000_001;
 
@@ -89,7 +93,7 @@ fn one_value(
     if flip != 0 {
         return own;
     }
-    changes(own, side, v, sets, keys, count)
+    orders(changes(own, side, v, sets, keys, count), side, v)
 }
 
 fn changes(t: Tally, side: u64, v: Value, sets: &[u64; 64], keys: &[u64; 64], count: u64) -> Tally {
@@ -125,6 +129,45 @@ fn one_change(
         18,
         large,
     )
+}
+
+fn orders(t: Tally, side: u64, v: Value) -> Tally {
+    let mut now = t;
+    let mut change: u64 = 0;
+    while change < ORDERS {
+        now.budgets = arrays::plus(CHANGES, change);
+        now = one_order(now, side, v, change / ODD, odd(0, change % ODD));
+        change += 1;
+    }
+    now
+}
+
+// One number of the order changed, near the front or the last, and nothing else, or also the count and the budget to such as get 15 and 18. A
+// number that stands there anyway leaves the order as it is.
+fn one_order(t: Tally, side: u64, v: Value, which: u64, number: u64) -> Tally {
+    let place = place_of(which);
+    let mut order = v.order;
+    if arrays::get_pick(&order, place) == number % 256 {
+        return t;
+    }
+    arrays::put_pick(&mut order, place, number);
+    let mut after = v;
+    after.order = order;
+    let small = sides::call(side, after, 3);
+    after.count = 99;
+    let large = sides::call(side, after, TOO_LARGE);
+    expect::refused_call(
+        expect::refused_call(tally::called(t, 2), 27, small),
+        27,
+        large,
+    )
+}
+
+fn place_of(which: u64) -> u64 {
+    match which {
+        4 => 63,
+        place => place,
+    }
 }
 
 // One number of a value changed: a pick near the front, right behind what fits a small table, or the last; the count; the pick gone back

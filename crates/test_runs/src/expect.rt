@@ -1,5 +1,5 @@
 // The comparisons that the groups share: an answer, a chain, a table or a value with what is due. Blank fields are those of no gauges, no
-// cases, no pairs and the fresh state.
+// cases, no pairs, no order and the fresh state.
 use super::arrays;
 use super::boards;
 use super::path;
@@ -26,19 +26,26 @@ pub fn a_table(t: Tally, gauges: u64, cases: u64, pairs: u64, table: Table) -> T
     tally::same(wide, tally::TABLE, 0, boards::rows_off(&rows, pairs))
 }
 
+// A value's order of preference: 1, 2, 3 and on, so many numbers; none where it is blank.
+pub fn an_order(t: Tally, n: u64, v: Value) -> Tally {
+    let order = v.order;
+    tally::same(t, tally::PREFERS, 0, boards::order_off(&order, n))
+}
+
 // A paused value of the table at hand.
 pub fn a_value(t: Tally, state: u64, v: Value) -> Tally {
     let table = v.table;
     let stated = tally::same(t, tally::STATE, state, boards::state_of(v));
     let flagged = tally::holds(stated, tally::OMITS, v.omit == t.omit);
-    a_table(flagged, t.gauges, t.cases, t.pairs, table)
+    let preferred = an_order(flagged, tally::size(t, t.side), v);
+    a_table(preferred, t.gauges, t.cases, t.pairs, table)
 }
 
 pub fn blank_value(t: Tally, v: Value) -> Tally {
     let table = v.table;
     let stated = tally::same(t, tally::STATE, 0, boards::state_of(v));
     let flagged = tally::holds(stated, tally::OMITS, !v.omit);
-    a_table(flagged, 0, 0, 0, table)
+    a_table(an_order(flagged, 0, v), 0, 0, 0, table)
 }
 
 // An answer that is due where a call begins at a number of moves: what it says, its moves, its chain, and the next value.

@@ -123,7 +123,7 @@ fn given(t: Tally, says: u64, table: Table, got: Given) -> Tally {
     tally::same(wide, tally::TABLE, 0, boards::differ(&rows, &own_rows))
 }
 
-// A fresh value has the table and the state of no moves; a blank one has that state too.
+// A fresh value has the table, its plain order and the state of no moves; a blank one has no order and that state too.
 fn started(t: Tally, side: u64, says: u64, table: Table) -> Tally {
     let begun = sides::start(side, table, false);
     let value = begun.value;
@@ -132,15 +132,20 @@ fn started(t: Tally, side: u64, says: u64, table: Table) -> Tally {
         says: begun.says,
         table: own,
     };
-    tally::same(
+    let stated = tally::same(
         given(t, says, table, got),
         tally::STATE,
         0,
         boards::state_of(value),
-    )
+    );
+    if says != sides::ACCEPTED {
+        return expect::an_order(stated, 0, value);
+    }
+    expect::an_order(stated, tally::size(t, side), value)
 }
 
-// Run calls on the table: with a value that is fresh but for it, and with one and a budget that get 15 and 18 elsewhere.
+// Run calls on the table: with a value that is fresh but for it and has no order, which gets 27 elsewhere, and with one and a budget that get 15
+// and 18 besides.
 fn refused_calls(t: Tally, side: u64, says: u64, table: Table) -> Tally {
     let fresh = sides::call(side, value_on(table, 0), 5);
     let worse = sides::call(side, value_on(table, 99), 1_000_001);
@@ -154,6 +159,7 @@ fn refused_calls(t: Tally, side: u64, says: u64, table: Table) -> Tally {
 fn value_on(table: Table, count: u64) -> Value {
     Value {
         table: table,
+        order: [0u8; 64],
         picks: [0u8; 64],
         count: count,
         stage: sides::stage_of(path::DOWN, 0),

@@ -6,6 +6,8 @@
 use super::path;
 use super::plain;
 use judge::Judgement;
+use preference::CaseOrder;
+use preference::GaugeOrder;
 use refusals::Verdict;
 use runs::CasePhase;
 use runs::CasePicks;
@@ -36,6 +38,7 @@ pub struct Stage {
 // A paused value of either side.
 pub struct Value {
     pub table: Table,
+    pub order: [u8; 64],
     pub picks: [u8; 64],
     pub count: u64,
     pub stage: Stage,
@@ -68,10 +71,10 @@ pub struct Given {
     pub table: Table,
 }
 
-// A fresh run of a side, one that omits or does not.
+// A fresh run of a side in plain order, one that omits or does not. Other orders are tried in `test_preferred`.
 pub fn start(side: u64, t: Table, omit: bool) -> Started {
     if side == plain::GAUGES {
-        let begun = runs::start_gauges(t, omit);
+        let begun = runs::start_gauges(t, GaugeOrder::plain(t.gauges), omit);
         let verdict = begun.verdict;
         let run = begun.run;
         return Started {
@@ -79,7 +82,7 @@ pub fn start(side: u64, t: Table, omit: bool) -> Started {
             value: of_gauges(run),
         };
     }
-    let begun = runs::start_cases(t, omit);
+    let begun = runs::start_cases(t, CaseOrder::plain(t.cases), omit);
     let verdict = begun.verdict;
     let run = begun.run;
     Started {
@@ -98,10 +101,12 @@ pub fn call(side: u64, v: Value, budget: u64) -> Answer {
 
 fn call_gauges(v: Value, budget: u64) -> Answer {
     let table = v.table;
+    let order = v.order;
     let picks = v.picks;
     let stage = v.stage;
     let run = GaugeRun {
         table: table,
+        order: GaugeOrder(order),
         picks: GaugePicks(picks),
         count: v.count,
         phase: gauge_phase(stage),
@@ -121,10 +126,12 @@ fn call_gauges(v: Value, budget: u64) -> Answer {
 
 fn call_cases(v: Value, budget: u64) -> Answer {
     let table = v.table;
+    let order = v.order;
     let picks = v.picks;
     let stage = v.stage;
     let run = CaseRun {
         table: table,
+        order: CaseOrder(order),
         picks: CasePicks(picks),
         count: v.count,
         phase: case_phase(stage),
@@ -144,11 +151,14 @@ fn call_cases(v: Value, budget: u64) -> Answer {
 
 fn of_gauges(run: GaugeRun) -> Value {
     let table = run.table;
+    let kept = run.order;
+    let order = kept.0;
     let held = run.picks;
     let picks = held.0;
     let phase = run.phase;
     Value {
         table: table,
+        order: order,
         picks: picks,
         count: run.count,
         stage: gauge_stage(phase),
@@ -158,11 +168,14 @@ fn of_gauges(run: GaugeRun) -> Value {
 
 fn of_cases(run: CaseRun) -> Value {
     let table = run.table;
+    let kept = run.order;
+    let order = kept.0;
     let held = run.picks;
     let picks = held.0;
     let phase = run.phase;
     Value {
         table: table,
+        order: order,
         picks: picks,
         count: run.count,
         stage: case_stage(phase),
@@ -227,9 +240,9 @@ pub fn judged_maximal(t: Table, s: Chain) -> u64 {
     of_judgement(judged)
 }
 
-// What growing a chain says and gives.
+// What growing a chain says and gives, in plain order.
 pub fn grow(t: Table, s: Chain) -> Grown {
-    let made = extend::extend_chain(t, s);
+    let made = extend::extend_chain(t, GaugeOrder::plain(t.gauges), s);
     let verdict = made.verdict;
     let chain = made.chain;
     Grown {

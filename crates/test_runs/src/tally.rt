@@ -1,8 +1,10 @@
 // What a group of checks has counted, and the account of its first disagreement: the table, what differed, what was expected and found.
 use super::arrays;
+use super::plain;
 
 // What a comparison is of, by the place of its name in `say`: the number of chains, the members and the length of a list, what an answer
-// says, moves, a chain, a table, the picks and phase of a value, a move limit, hand-outs, ends, the order of a list, whether a value omits.
+// says, moves, a chain, a table, the picks and phase of a value, a move limit, hand-outs, ends, the order of a list, whether a value omits, its
+// order of preference.
 pub const CHAINS: u64 = 0;
 
 pub const MEMBERS: u64 = 1;
@@ -28,6 +30,8 @@ pub const ENDS: u64 = 10;
 pub const ORDER: u64 = 11;
 
 pub const OMITS: u64 = 12;
+
+pub const PREFERS: u64 = 13;
 
 // The table at hand (its pairs as a board), whether its run omits and then its essential pairs, the side, the list of budgets or for damaged
 // values the change, and the counts.
@@ -107,6 +111,14 @@ pub fn of_side(t: Tally, side: u64, ladders: u64) -> Tally {
     after
 }
 
+// How many numbers a side picks from, and puts into an order.
+pub fn size(t: Tally, side: u64) -> u64 {
+    if side == plain::GAUGES {
+        return t.gauges;
+    }
+    t.cases
+}
+
 // So many more calls of the library.
 pub fn called(t: Tally, calls: u64) -> Tally {
     let mut after = t;
@@ -155,19 +167,19 @@ fn report_place(t: Tally) {
     io::write_all(1, b"\n");
 }
 
-// The name of a comparison, of 13 that are 11 bytes each.
+// The name of a comparison, of 14 that are 10 bytes each.
 fn say(what: u64) {
     let names =
-        b"chains    ,members   ,length    ,answer    ,moves     ,chain     ,table     ,state     ,limit     ,hand-outs ,ends      ,order     ,omits     ,";
+        b"chains   ,members  ,length   ,answer   ,moves    ,chain    ,table    ,state    ,limit    ,hand-outs,ends     ,order    ,omits    ,prefers  ,";
     say_part(names, what);
 }
 
 fn say_part(names: &[u8], what: u64) {
-    if 12 < what {
+    if 13 < what {
         return;
     }
-    let from = (what as usize) * 11;
-    let to = from + 11;
+    let from = (what as usize) * 10;
+    let to = from + 10;
     if to <= names.len() {
         io::write_all(1, &names[from..to]);
     }

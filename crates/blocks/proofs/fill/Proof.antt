@@ -7,6 +7,7 @@ use borrow.Author.Needs.{needs}
 use Rattle.refusals.specs.Answers.{verdict}
 use Rattle.refusals.proofs.Answering.{number-pos}
 use Rattle.runs.specs.Paused.{gaugeValue}
+use Rattle.runs.proofs.Starting.{gauge-started}
 use Rattle.blocks.specs.Filling.{Filling, Filled, CarriesList}
 use Rattle.blocks.specs.private.Turning.{Checked}
 use Rattle.blocks.proofs.Fillings.{filled-refused, filled-short, filled-on}
@@ -17,11 +18,18 @@ use Rattle.blocks.proofs.fill.Tie as tie
 rows-length : (c : tie.Start) → length (c .args .run .table .rows) ≡ 64
 rows-length c = search needs
 
+order-length : (c : tie.Start) → length (c .args .run .order .0) ≡ 64
+order-length c = search needs
+
 -- both promises from the first
 carried : (c : tie.Start) (f : Filling) (now : List ℕ) → Filled (gaugeValue (c .args .run)) (c .args .out .now) f now
     → Filled (gaugeValue (c .args .run)) (c .args .out .now) f now
     × CarriesList (gaugeValue (c .args .run)) (record { before = c .args .out .now; answer = f; now = now })
-carried c f now h = (h, carries-list (gaugeValue (c .args .run)) (rows-length c) (record { before = c .args .out .now; answer = f; now = now }) h)
+carried c f now h = (
+  h,
+  carries-list (gaugeValue (c .args .run)) (gauge-started (c .args .run .table) (rows-length c) (c .args .run .order .0) (order-length c))
+      (record { before = c .args .out .now; answer = f; now = now }) h,
+)
 
 -- ---- places on the way: the start, from the check, and from where it passed
 abbrev start : tie.After-check-run → tie.Start

@@ -1,16 +1,15 @@
 -- `blocks::fill_on` meets its contract: after each turn the buffer is what `UpTo` says of the calls made so far, and each return is where no
 -- call follows (Fillings.antt).
-use mathlib.Core.Path.{_≡_, refl, sym, ap, _∙_, subst}
+use mathlib.Core.Path.{_≡_, refl, sym, _∙_, subst}
 use mathlib.Core.Bool.{false}
 use Prim.Native.Nat.{ℕ, _+_, _≤_, _<_}
 use native.Mathlib.Omega.{arith}
 use lib.ListN.{length}
 use borrow.Author.Needs.{needs}
-use Rattle.table.specs.Tables.{tableRefusal}
 use Rattle.rules.specs.Machine.{State}
 use Rattle.lists.specs.Lists.{gaugeSide}
 use Rattle.runs.specs.Paused.{Value, gaugeValue}
-use Rattle.runs.specs.Calling.{PausedAt}
+use Rattle.runs.specs.Calling.{valueRefusal, PausedAt}
 use Rattle.blocks.specs.Filling.{Filling, longest}
 use Rattle.blocks.specs.private.Turning.{FillsOn}
 use Rattle.blocks.proofs.Fillings.{going, UpToOn, upto-start, turn-on, some-on, full-on, stop-on, going-on}
@@ -19,7 +18,7 @@ use Rattle.blocks.proofs.fill_on.Tie as tie
 
 -- enough turns are left for the room, where the value is not refused
 abbrev Lasts : Value → ℕ → ℕ → ℕ → ℕ → Type 0
-Lasts v room most used turns = tableRefusal (v .table) ≡ 0 → (s : State) → PausedAt gaugeSide v s → longest ≤ room → most ≤ used + turns
+Lasts v room most used turns = valueRefusal gaugeSide v ≡ 0 → (s : State) → PausedAt gaugeSide v s → longest ≤ room → most ≤ used + turns
 
 abbrev Inv-loop : tie.InvT-loop
 Inv-loop out₀ most run₀ used₀ turns₀ out run used turns =
@@ -73,7 +72,7 @@ turned k =
     turn-on (gaugeValue (start k .args .start)) (start k .args .out .now) (gaugeValue (round k .loop .run)) (round k .loop .used) (round k .loop .out)
     (round k .loop .inv .3) _ _ _ _ _ (one k .list-one .ensures) (round k .loop .inv .2) (room k)
 
-some : (k : tie.After-slice-known2 Inv-loop μ-loop) → tableRefusal (start k .args .start .table) ≡ 0
+some : (k : tie.After-slice-known2 Inv-loop μ-loop) → valueRefusal gaugeSide (gaugeValue (start k .args .start)) ≡ 0
     → (x : State) → PausedAt gaugeSide (gaugeValue (start k .args .start)) x → longest ≤ length (start k .args .out .now)
     → one k .list-one .result .stop ≡ false → round k .loop .used < one k .list-one .result .next
 some k =

@@ -15,6 +15,8 @@ use Rattle.refusals.proofs.Answering.{verdict-refused, verdict-accepted}
 use Rattle.lists.specs.Lists.{caseSide}
 use Rattle.runs.specs.Paused.{Value, caseValue}
 use Rattle.runs.specs.Calling.{Step, caseStep, Called}
+use Rattle.runs.proofs.Demands.{Starts}
+use Rattle.runs.proofs.Starting.{case-started}
 use Rattle.explain.specs.Reasons.{caseQuestion, HasReasons}
 use Rattle.explain.proofs.Reasoning.{case-sees}
 use Rattle.explain.proofs.Answers.{Asked, works-row, refused-explained, asked, legal, pair, numbers, named-explained, has-reasons}
@@ -49,30 +51,38 @@ called c = c .run-cases .ensures .0
 rows-length : (c : tie.Start) → length (c .args .p .table .rows) ≡ 64
 rows-length c = search needs
 
+order-length : (c : tie.Start) → length (c .args .p .order .0) ≡ 64
+order-length c = search needs
+
+-- what a value that 10, 11 and 27 do not refuse comes with
+starts : (c : tie.Start) → Starts caseSide (caseValue (c .args .p))
+starts c = case-started (c .args .p .table) (rows-length c) (c .args .p .order .0) (order-length c)
+
 picks-length : (c : tie.Start) → length (c .args .p .picks .0) ≡ 64
 picks-length c = search needs
 
 reasons : (c : tie.Start) → HasReasons caseSide caseQuestion (caseValue (c .args .p))
-reasons c = has-reasons caseSide (caseValue (c .args .p)) caseQuestion (λ g c. g) (case-sees (c .args .p .table)) (rows-length c)
+reasons c = has-reasons caseSide (caseValue (c .args .p)) (starts c) caseQuestion (λ g c. g) (case-sees (c .args .p .table))
 
 -- what the checks say that passed
 facts : (e : tie.After-enum-told) → (let r = ran (checked e) in Asked (value r) (step r) (start r .args .g .0) (start r .args .c .0))
 facts e =
     let k = checked e in
     let r = ran k in
-    asked caseSide (value r) (step r) (called r) (start r .args .g .0) (start r .args .c .0) (rows-length (start r)) (r .run-cases .result .outcome)
+    asked caseSide (value r) (starts (start r)) (step r) (called r) (start r .args .g .0) (start r .args .c .0)
+    (rows-length (start r)) (r .run-cases .result .outcome)
     (chainRows (r .run-cases .result .chain)) refl (k .before .case-handed .result) (k .before .case-handed .ensures)
     (verdict-accepted _ _ (e .enum-told .given .1) (k .check .ensures))
 
 legal-table : (e : tie.After-enum-told) → Legal (start (ran (checked e)) .args .p .table)
 legal-table e =
     let r = ran (checked e) in
-    legal caseSide (value r) (step r) (called r) (start r .args .g .0) (start r .args .c .0) (rows-length (start r)) (facts e)
+    legal caseSide (value r) (starts (start r)) (step r) (called r) (start r .args .g .0) (start r .args .c .0) (rows-length (start r)) (facts e)
 
 table-pair : (e : tie.After-enum-told) → (let s = start (ran (checked e)) in Has (s .args .p .table .rows) (s .args .g .0) (s .args .c .0))
 table-pair e =
     let r = ran (checked e) in
-    pair caseSide (value r) (step r) (called r) (start r .args .g .0) (start r .args .c .0) (rows-length (start r)) (facts e)
+    pair caseSide (value r) (starts (start r)) (step r) (called r) (start r .args .g .0) (start r .args .c .0) (rows-length (start r)) (facts e)
 
 few : (t : Table) → Legal t → length (caseSide t .rows) ≤ 64
 few t l = omega (arith, length-transpose (t .cases) (tableRows t), l .cases-high)
@@ -93,7 +103,8 @@ returns : tie.Need-returns
 returns c =
     let k = c .before .before .before in
     let r = ran k in (
-      refused-explained caseSide (value r) (step r) (called r) (start r .args .g .0) (start r .args .c .0) (rows-length (start r)) caseQuestion
+      refused-explained caseSide (value r) (starts (start r)) (step r) (called r) (start r .args .g .0) (start r .args .c .0)
+          (rows-length (start r)) caseQuestion
           (r .run-cases .result .outcome) (chainRows (r .run-cases .result .chain)) refl (k .before .case-handed .result) (k .before .case-handed .ensures)
           (c .before .checked .given .0 .0)
           (verdict-refused _ _ _ (c .before .checked .given .1) (k .check .ensures)),
@@ -113,7 +124,8 @@ first-lacking-requires : tie.Need-first-lacking-requires
 first-lacking-requires c κs =
     let e = told c in
     let r = ran (checked e) in
-    numbers caseSide (value r) (step r) (called r) (start r .args .g .0) (start r .args .c .0) (rows-length (start r)) (facts e) (picks-length (start r))
+    numbers caseSide (value r) (starts (start r)) (step r) (called r) (start r .args .g .0) (start r .args .c .0)
+    (rows-length (start r)) (facts e) (picks-length (start r))
     (few (start r .args .p .table) (legal-table e))
 
 named-requires : tie.Need-named-requires
@@ -123,7 +135,8 @@ returns-2 : tie.Need-returns-2
 returns-2 c =
     let e = told (c .before .before) in
     let r = ran (checked e) in (
-      named-explained caseSide (value r) (step r) (called r) (start r .args .g .0) (start r .args .c .0) (rows-length (start r)) (facts e) caseQuestion
+      named-explained caseSide (value r) (starts (start r)) (step r) (called r) (start r .args .g .0) (start r .args .c .0)
+          (rows-length (start r)) (facts e) caseQuestion
           (start r .args .g .0)
           (case-sees (start r .args .p .table) (legal-table e) (start r .args .g .0) (start r .args .c .0) (table-pair e .gauge) (table-pair e .case))
           (turned-at (c .before .before) .turned .result)

@@ -13,6 +13,8 @@ use Rattle.refusals.proofs.Answering.{verdict-refused, verdict-accepted}
 use Rattle.lists.specs.Lists.{gaugeSide}
 use Rattle.runs.specs.Paused.{Value, gaugeValue}
 use Rattle.runs.specs.Calling.{Step, gaugeStep, Called}
+use Rattle.runs.proofs.Demands.{Starts}
+use Rattle.runs.proofs.Starting.{gauge-started}
 use Rattle.explain.specs.Reasons.{gaugeQuestion, HasReasons}
 use Rattle.explain.proofs.Reasoning.{gauge-sees}
 use Rattle.explain.proofs.Answers.{Asked, refused-explained, asked, legal, pair, numbers, named-explained, has-reasons}
@@ -44,30 +46,38 @@ called c = c .run-gauges .ensures .0
 rows-length : (c : tie.Start) → length (c .args .p .table .rows) ≡ 64
 rows-length c = search needs
 
+order-length : (c : tie.Start) → length (c .args .p .order .0) ≡ 64
+order-length c = search needs
+
+-- what a value that 10, 11 and 27 do not refuse comes with
+starts : (c : tie.Start) → Starts gaugeSide (gaugeValue (c .args .p))
+starts c = gauge-started (c .args .p .table) (rows-length c) (c .args .p .order .0) (order-length c)
+
 picks-length : (c : tie.Start) → length (c .args .p .picks .0) ≡ 64
 picks-length c = search needs
 
 reasons : (c : tie.Start) → HasReasons gaugeSide gaugeQuestion (gaugeValue (c .args .p))
-reasons c = has-reasons gaugeSide (gaugeValue (c .args .p)) gaugeQuestion (λ g c. c) (gauge-sees (c .args .p .table)) (rows-length c)
+reasons c = has-reasons gaugeSide (gaugeValue (c .args .p)) (starts c) gaugeQuestion (λ g c. c) (gauge-sees (c .args .p .table))
 
 -- what the checks say that passed
 facts : (e : tie.After-enum-told) → (let r = ran (checked e) in Asked (value r) (step r) (start r .args .g .0) (start r .args .c .0))
 facts e =
     let k = checked e in
     let r = ran k in
-    asked gaugeSide (value r) (step r) (called r) (start r .args .g .0) (start r .args .c .0) (rows-length (start r)) (r .run-gauges .result .outcome)
+    asked gaugeSide (value r) (starts (start r)) (step r) (called r) (start r .args .g .0) (start r .args .c .0)
+    (rows-length (start r)) (r .run-gauges .result .outcome)
     (chainRows (r .run-gauges .result .chain)) refl (k .before .gauge-handed .result) (k .before .gauge-handed .ensures)
     (verdict-accepted _ _ (e .enum-told .given .1) (k .check .ensures))
 
 legal-table : (e : tie.After-enum-told) → Legal (start (ran (checked e)) .args .p .table)
 legal-table e =
     let r = ran (checked e) in
-    legal gaugeSide (value r) (step r) (called r) (start r .args .g .0) (start r .args .c .0) (rows-length (start r)) (facts e)
+    legal gaugeSide (value r) (starts (start r)) (step r) (called r) (start r .args .g .0) (start r .args .c .0) (rows-length (start r)) (facts e)
 
 table-pair : (e : tie.After-enum-told) → (let s = start (ran (checked e)) in Has (s .args .p .table .rows) (s .args .g .0) (s .args .c .0))
 table-pair e =
     let r = ran (checked e) in
-    pair gaugeSide (value r) (step r) (called r) (start r .args .g .0) (start r .args .c .0) (rows-length (start r)) (facts e)
+    pair gaugeSide (value r) (starts (start r)) (step r) (called r) (start r .args .g .0) (start r .args .c .0) (rows-length (start r)) (facts e)
 
 few : (t : Table) → Legal t → length (gaugeSide t .rows) ≤ 64
 few t l = omega (arith, length-rows t l, l .gauges-high)
@@ -88,7 +98,8 @@ returns : tie.Need-returns
 returns c =
     let k = c .before .before .before in
     let r = ran k in (
-      refused-explained gaugeSide (value r) (step r) (called r) (start r .args .g .0) (start r .args .c .0) (rows-length (start r)) gaugeQuestion
+      refused-explained gaugeSide (value r) (starts (start r)) (step r) (called r) (start r .args .g .0) (start r .args .c .0)
+          (rows-length (start r)) gaugeQuestion
           (r .run-gauges .result .outcome) (chainRows (r .run-gauges .result .chain)) refl (k .before .gauge-handed .result) (k .before .gauge-handed .ensures)
           (c .before .checked .given .0 .0)
           (verdict-refused _ _ _ (c .before .checked .given .1) (k .check .ensures)),
@@ -105,7 +116,8 @@ first-lacking-requires : tie.Need-first-lacking-requires
 first-lacking-requires c κs =
     let e = told c in
     let r = ran (checked e) in
-    numbers gaugeSide (value r) (step r) (called r) (start r .args .g .0) (start r .args .c .0) (rows-length (start r)) (facts e) (picks-length (start r))
+    numbers gaugeSide (value r) (starts (start r)) (step r) (called r) (start r .args .g .0) (start r .args .c .0)
+    (rows-length (start r)) (facts e) (picks-length (start r))
     (few (start r .args .p .table) (legal-table e))
 
 named-requires : tie.Need-named-requires
@@ -115,7 +127,8 @@ returns-2 : tie.Need-returns-2
 returns-2 c =
     let e = told (c .before .before) in
     let r = ran (checked e) in (
-      named-explained gaugeSide (value r) (step r) (called r) (start r .args .g .0) (start r .args .c .0) (rows-length (start r)) (facts e) gaugeQuestion
+      named-explained gaugeSide (value r) (starts (start r)) (step r) (called r) (start r .args .g .0) (start r .args .c .0)
+          (rows-length (start r)) (facts e) gaugeQuestion
           (start r .args .c .0)
           (gauge-sees (start r .args .p .table) (legal-table e) (start r .args .g .0) (start r .args .c .0) (table-pair e .gauge) (table-pair e .case))
           (start r .args .p .table .rows)

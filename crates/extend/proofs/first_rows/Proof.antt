@@ -15,7 +15,7 @@ abbrev μ-loop : tie.MeasureT-loop
 μ-loop n unpicked₀ owed₀ left₀ rows₀ turns₀ unpicked owed left rows turns = n - turns
 
 given : (c : tie.Start Inv-loop μ-loop) → Given (c .args .t) (c .args .s)
-given c = record { passes = c .pre .0; chain = c .pre .1; size = search needs; size-chain = search needs }
+given c = record { facts = c .pre .0; chain = c .pre .1; size = search needs; size-chain = search needs }
 
 -- ---- places on the way: the loop and the start, from where a place to pick was looked for
 abbrev round : tie.After-next-fitting Inv-loop μ-loop → tie.At-loop Inv-loop μ-loop

@@ -19,6 +19,9 @@ filled c = c .before .before .before .before .before
 abbrev round : tie.After-fill Inv-loop μ-loop → tie.At-loop Inv-loop μ-loop
 round c = c .before .before .before
 
+plain-requires : tie.Need-plain-requires Inv-loop μ-loop
+plain-requires c κs = search needs
+
 start-gauges-requires : tie.Need-start-gauges-requires Inv-loop μ-loop
 start-gauges-requires c κs = search needs
 
@@ -76,6 +79,7 @@ list-spec =
     (tie.spec
     Inv-loop
     μ-loop
+    plain-requires
     start-gauges-requires
     large-buffer-requires
     loop-holds

@@ -12,17 +12,21 @@ use Rattle.table.specs.Tables.{noRows, padded, blankChain}
 use Rattle.sets.specs.Sets.{_⊆_, lowest}
 use Rattle.sets.specs.Lists.{allBelow}
 use Rattle.table.specs.Pairs.{row}
-use Rattle.rules.specs.Machine.{Phase, Down, Handed, Back, Ended, State, Move, gives, nothing, hands, ends, move}
+use Rattle.rules.specs.Machine.{Phase, Down, Handed, Back, Ended, State, Move, gives, nothing, hands, ends, move, moveIn, ReachedBy}
 use Rattle.rules.specs.Calls.{spent, handed, end, Call, result, carryBy, mostBudget}
 use Rattle.rules.specs.Keeping.{moveKeeping}
 use Rattle.rules.specs.private.Fitting.{Valid, Fits}
 use Rattle.lists.specs.Lists.{Side}
+use Rattle.lists.specs.Arrangements.{placeOf}
 use Rattle.lists.specs.Picks.{candidates}
+use Rattle.lists.specs.Preferred.{candidatesBy}
 use Rattle.lists.specs.OnTable.{chainOf}
 use Rattle.search.specs.Finding.{candidateIn, within}
 use Rattle.search.proofs.AfterPicks.{After}
 use Rattle.refusals.specs.declared.Refusal.{Refusal}
-use Rattle.refusals.specs.declared.Refusal.the-variants.{NotReached, BudgetTooLarge}
+use Rattle.refusals.specs.declared.Refusal.the-variants.{NotReached, BudgetTooLarge, NotAnArrangement}
+use Rattle.preference.specs.Preferences.{isPreference, orderOf}
+use Rattle.preference.specs.private.Placing.{renumber}
 use Rattle.table.specs.declared.Table.{Table}
 use Rattle.runs.specs.Paused.{Value, numbered}
 use Rattle.runs.specs.Calling.{Step, outcome, refusal}
@@ -129,7 +133,7 @@ handsOver omit n w c = cond omit (not (apart n w c)) true
 -- the moves of the core on the rows r: rules 1 to 5, and where it omits, nothing is given of a set that has no pair of w
 unfoldable pub moveBy : List ℕ → Bool → List ℕ → State → Move
 moveBy r false w x = move (candidates r) x
-moveBy r true w x = moveKeeping (candidates r) (chainOf r) (handsOver true (length r) w) x
+moveBy r true w x = moveKeeping (move (candidates r)) (chainOf r) (handsOver true (length r) w) x
 
 -- ---- a call's moves, by the rule mv
 -- b moves from the state x come out as o, in k moves, at the state y, whatever is handed out for the picks there
@@ -175,43 +179,75 @@ PhaseIn u left count Handed = (i : ℕ) → i < 64 → candidateIn u left 64 i �
 PhaseIn u left count (Back k) = (1 ≤ k) × (candidateIn u left 64 (k - 1) ≡ true)
 PhaseIn u left count Ended = count ≡ 0
 
--- k, a count and a phase by number are those of the paused value of the state s, whose picks fit its phase
-pub record StandsFor (r k : List ℕ) (count : ℕ) (f : Phase) (s : State) : Type 0 where
+-- k, a count and a phase by number are those of the paused value of the state s, which is a good one
+pub record StandsBy (good : State → Type 0) (k : List ℕ) (count : ℕ) (f : Phase) (s : State) : Type 0 where
   pub picked : k ≡ padded (map suc (s .picks))
   pub counted : count ≡ length (s .picks)
   pub phased : f ≡ numbered (s .phase)
-  pub fits : Fits (candidates r) (s .picks) (s .phase)
+  pub fits : good s
 
 -- b moves from the state x: they come out as the report says, and the arrays and numbers are those of the state that they lead to
-pub record Went (mv : State → Move) (r : List ℕ) (b : ℕ) (x : State) (c′ k′ : List ℕ) (o : Report) : Type 0 where
+pub record WentBy (mv : State → Move) (good : State → Type 0) (chain : List ℕ → List ℕ) (b : ℕ) (x : State) (c′ k′ : List ℕ) (o : Report) : Type 0 where
   pub to : State
   pub comes : ComesOut mv b x (o .outcome) (o .moves) to
-  pub chained : c′ ≡ padded (chainOf r (to .picks))
-  pub stands : StandsFor r k′ (o .spot .count) (modePhase (o .spot .mode)) to
+  pub chained : c′ ≡ padded (chain (to .picks))
+  pub stands : StandsBy good k′ (o .spot .count) (modePhase (o .spot .mode)) to
 
--- what a call on the value of k, `count` and f comes to: no state is its state; or it is the value of a state, and the budget is too large,
--- or it makes its moves, by the rule mv
-pub record CarriesOn (mv : State → Move) (r k : List ℕ) (count : ℕ) (f : Phase) (b : ℕ) (c′ k′ : List ℕ) (o : Report) : Type 0 where
-  pub value : ((s : State) → StandsFor r k count f s → ⊥) → o .outcome ≡ Refused NotReached
-  pub large : (s : State) → StandsFor r k count f s → mostBudget < b → o .outcome ≡ Refused BudgetTooLarge
-  pub moves : (s : State) → StandsFor r k count f s → b ≤ mostBudget → Went mv r b s c′ k′ o
+-- what a call on the value of k, `count` and f comes to: no good state is its state; or it is the value of one, and the budget is too large, or it
+-- makes its moves, by the rule mv; `chain` has the chain of some picks
+pub record CarriesBy (mv : State → Move) (good : State → Type 0) (chain : List ℕ → List ℕ) (k : List ℕ) (count : ℕ) (f : Phase) (b : ℕ)
+    (c′ k′ : List ℕ) (o : Report) : Type 0 where
+  pub value : ((s : State) → StandsBy good k count f s → ⊥) → o .outcome ≡ Refused NotReached
+  pub large : (s : State) → StandsBy good k count f s → mostBudget < b → o .outcome ≡ Refused BudgetTooLarge
+  pub moves : (s : State) → StandsBy good k count f s → b ≤ mostBudget → WentBy mv good chain b s c′ k′ o
+
+-- ---- the same by number, on the rows r
+abbrev pub FitsOn : List ℕ → State → Type 0
+FitsOn r s = Fits (candidates r) (s .picks) (s .phase)
+
+abbrev pub StandsFor : List ℕ → List ℕ → ℕ → Phase → State → Type 0
+StandsFor r k count f s = StandsBy (FitsOn r) k count f s
+
+abbrev pub CarriesOn : (State → Move) → List ℕ → List ℕ → ℕ → Phase → ℕ → List ℕ → List ℕ → Report → Type 0
+CarriesOn mv r k count f b c′ k′ o = CarriesBy mv (FitsOn r) (chainOf r) k count f b c′ k′ o
+
+-- ---- under a preference, on the rows r
+-- the moves of the core: rules 1 to 5 by place, and where it omits, nothing is given of a set that has no pair of w
+unfoldable pub placedMove : List ℕ → List ℕ → Bool → List ℕ → State → Move
+placedMove r o false w x = moveIn (placeOf o) (candidatesBy o r) x
+placedMove r o true w x = moveKeeping (moveIn (placeOf o) (candidatesBy o r)) (chainOf r) (handsOver true (length r) w) x
+
+abbrev pub ReachedIn : List ℕ → List ℕ → State → Type 0
+ReachedIn r o s = ReachedBy (moveIn (placeOf o) (candidatesBy o r)) s
+
+-- a phase by number, its number as the array l has it
+abbrev pub renumberedPhase : List ℕ → ℕ → Phase → Phase
+renumberedPhase l n Down = Down
+renumberedPhase l n Handed = Handed
+renumberedPhase l n (Back g) = Back (renumber l n g)
+renumberedPhase l n Ended = Ended
+
+-- what a call under the preference in the n numbers of `order` comes to: 27 where they are none, and else as above, by the rule mv at each arrangement
+pub record Ordered (mv : List ℕ → State → Move) (n : ℕ) (r order k : List ℕ) (count : ℕ) (f : Phase) (b : ℕ) (c′ k′ : List ℕ) (o : Report) : Type 0 where
+  pub none : isPreference n order ≡ false → o .outcome ≡ Refused NotAnArrangement
+  pub carried : isPreference n order ≡ true → CarriesBy (mv (orderOf n order)) (ReachedIn r (orderOf n order)) (chainOf r) k count f b c′ k′ o
 
 abbrev pub refusedReport : Refusal → Report
 refusedReport why = record { outcome = Refused why; moves = 0; spot = spotDown 0 0 0 }
 
 -- ---- what the functions above the core make of its report, on the table t, with the picks k that it left and the chain by gauge rows
-abbrev pub nextOf : Table → Bool → Report → List ℕ → Value
-nextOf t omit o k = record { table = t; picks = k; count = o .spot .count; phase = modePhase (o .spot .mode); omit = omit }
+abbrev pub nextOf : Table → List ℕ → Bool → Report → List ℕ → Value
+nextOf t order omit o k = record { table = t; order = order; picks = k; count = o .spot .count; phase = modePhase (o .spot .mode); omit = omit }
 
-abbrev pub stepBy : Table → Bool → Report → List ℕ → List ℕ → Outcome → Step
-stepBy t omit o k rows HandedOut =
+abbrev pub stepBy : Table → List ℕ → Bool → Report → List ℕ → List ℕ → Outcome → Step
+stepBy t order omit o k rows HandedOut =
     record {
       answer = handed (take (t .gauges) rows);
       moves = o .moves;
       chain = record { gauges = t .gauges; rows = rows };
       picks = k;
-      next = nextOf t omit o k;
+      next = nextOf t order omit o k;
     }
-stepBy t omit o k rows Spent = record { answer = spent; moves = o .moves; chain = blankChain; picks = noRows; next = nextOf t omit o k }
-stepBy t omit o k rows End = record { answer = end; moves = o .moves; chain = blankChain; picks = noRows; next = nextOf t omit o k }
-stepBy t omit o k rows (Refused why) = refusal (number why)
+stepBy t order omit o k rows Spent = record { answer = spent; moves = o .moves; chain = blankChain; picks = noRows; next = nextOf t order omit o k }
+stepBy t order omit o k rows End = record { answer = end; moves = o .moves; chain = blankChain; picks = noRows; next = nextOf t order omit o k }
+stepBy t order omit o k rows (Refused why) = refusal (number why)

@@ -1,4 +1,4 @@
--- `runs::cases::call_cases` meets its contract: the core's moves are the run's (`carried-by`), where the run omits by the essential pairs of the
+-- `runs::cases::call_cases` meets its contract: the moves under the order are the run's (`carried-by`), where the run omits by the essential pairs of the
 -- table, turned (`case-wants`).
 use mathlib.Core.Path.{_≡_, refl}
 use mathlib.Core.Bool.{true, false}
@@ -6,6 +6,7 @@ use Prim.Native.Nat.{ℕ}
 use native.Mathlib.Omega.{arith}
 use borrow.Author.Needs.{needs}
 use denote.Ref.{now}
+use lib.ListN.{length}
 use Rattle.table.specs.declared.Table.{Table}
 use Rattle.lists.specs.Lists.{caseSide}
 use Rattle.runs.specs.private.Working.{tableOf}
@@ -27,8 +28,14 @@ begun c = c .before .before .before
 abbrev table : tie.Start → Table
 table s = tableOf (s .args .gauges) (s .args .cases) (now (s .args .given))
 
+wanted-length : (w : tie.After-turned) → length (w .turned .result) ≡ 64
+wanted-length w = search needs
+
 call-requires : tie.Need-call-requires
-call-requires c κs = let s = begun (c .before .before .before .before .before) in (s .pre .1 .sized, s .pre .2, s .pre .3)
+call-requires c κs =
+    let w = c .before .before .before in
+    let s = begun (w .before .before) in
+    (s .pre .1 .sized, s .pre .2, wanted-length w, s .pre .3, s .pre .4)
 
 returns : tie.Need-returns
 returns c =
@@ -36,16 +43,16 @@ returns c =
     let e = w .before .before in
     let s = begun e in
     carried-by (table s) (caseSide (table s)) _ _ _ (s .pre .1) _ true (e .before .before .if1 .taken)
-    (λ x. case-wants (table s) (s .pre .0) _ (e .essential-rows .ensures) _ (w .turned .ensures)) _ _ _ _ _ _ _ (c .call .ensures)
+    (λ x. case-wants (table s) (s .pre .0) _ (e .essential-rows .ensures) _ (w .turned .ensures)) _ _ _ _ _ _ _ _ (c .call .ensures)
 
 call-requires-2 : tie.Need-call-requires-2
-call-requires-2 c κs = let s = c .before .before .before in (s .pre .1 .sized, s .pre .2, s .pre .3)
+call-requires-2 c κs = let s = c .before .before .before in (s .pre .1 .sized, s .pre .2, s .pre .1 .sized .size, s .pre .3, s .pre .4)
 
 returns-2 : tie.Need-returns-2
 returns-2 c =
     let s = c .before .before .before .before in
     carried-by (table s) (caseSide (table s)) _ _ _ (s .pre .1) _ false (c .before .before .before .if1 .left)
-    (λ x. let z : _≡_ {A = ℕ} 0 1 = cc in absurd (omega arith)) _ _ _ _ _ _ _ (c .call2 .ensures)
+    (λ x. let z : _≡_ {A = ℕ} 0 1 = cc in absurd (omega arith)) _ _ _ _ _ _ _ _ (c .call2 .ensures)
 
 pub call-cases-spec : {M : Type 1} → statement M
 call-cases-spec = tie.close (tie.spec essential-rows-requires turned-requires call-requires returns call-requires-2 returns-2)

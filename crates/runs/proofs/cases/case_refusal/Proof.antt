@@ -7,15 +7,11 @@ use Rattle.runs.proofs.cases.case_refusal.Tie as tie
 blank-chain-requires : tie.Need-blank-chain-requires
 blank-chain-requires c κs = search needs
 
-blank-table-requires : tie.Need-blank-table-requires
-blank-table-requires c κs = search needs
-
-case-run-requires : tie.Need-case-run-requires
-case-run-requires c κs = search needs
+blank-run-requires : tie.Need-blank-run-requires
+blank-run-requires c κs = search needs
 
 returns : tie.Need-returns
-returns c = refusal-step _ _ _ _ (c .before .before .blank-chain .ensures) (c .before .blank-table .ensures) (c .case-run .ensures)
+returns c = refusal-step _ _ _ (c .before .blank-chain .ensures) (c .blank-run .ensures)
 
 pub case-refusal-spec : {M : Type 1} → statement M
-case-refusal-spec =
-    tie.close (tie.spec blank-chain-requires blank-table-requires case-run-requires returns)
+case-refusal-spec = tie.close (tie.spec blank-chain-requires blank-run-requires returns)

@@ -9,13 +9,15 @@ use Rattle.table.specs.Tables.{Legal, tableRefusal}
 use Rattle.refusals.proofs.Answering.{number-pos, verdict-refused, verdict-accepted}
 use Rattle.table.proofs.Legality.{legal-of}
 use Rattle.lists.specs.Lists.{caseSide}
-use Rattle.lists.proofs.BothSides.{Fair, case-fair}
+use Rattle.lists.proofs.BothSides.{case-fair}
+use Rattle.preference.proofs.Placing.{table-first}
 use Rattle.runs.specs.Paused.{caseValue}
 use Rattle.runs.specs.Calling.{Step, movesOf, Called, CarriesDemand}
 use Rattle.runs.specs.Omitting.{CarriesOmits}
-use Rattle.runs.specs.private.Working.{modePhase, Works, CarriesOn}
+use Rattle.runs.specs.private.Working.{modePhase, Works, Ordered}
 use Rattle.runs.proofs.Answered.{called-refused}
 use Rattle.runs.proofs.Sides.{case-works, case-chain}
+use Rattle.runs.proofs.Starting.{case-started}
 use Rattle.runs.proofs.SideCalls.{Worked, call-refused, call-handed, call-other, promise}
 use Rattle.runs.proofs.cases.run_cases.Statement.{statement}
 use Rattle.runs.proofs.cases.run_cases.Tie as tie
@@ -28,19 +30,22 @@ abbrev checked : tie.After-enum-told → tie.After-check-table
 checked c = c .before .before
 
 abbrev rows : tie.After-case-mode → tie.After-turned
-rows c = c .before .before .before
+rows c = c .before .before .before .before .before
 
 abbrev told : tie.After-case-mode → tie.After-enum-told
 told c = rows c .before .before .before
 
 abbrev moded : tie.After-call-cases → tie.After-case-mode
-moded c = c .before .before .before .before .before
+moded c = c .before .before .before .before .before .before
 
 abbrev begun : tie.After-case-phase → tie.After-call-cases
 begun c = c .before .before .before
 
 rows-length : (c : tie.Start) → length (c .args .p .table .rows) ≡ 64
 rows-length c = search needs
+
+order-length : (c : tie.Start) → length (c .args .p .order .0) ≡ 64
+order-length c = search needs
 
 picks-length : (c : tie.Start) → length (c .args .p .picks .0) ≡ 64
 picks-length c = search needs
@@ -51,17 +56,12 @@ passed c = verdict-accepted _ _ (c .enum-told .given .1) (checked c .check-table
 legal : (c : tie.After-enum-told) → Legal (start (checked c) .args .p .table)
 legal c = legal-of (start (checked c) .args .p .table) (rows-length (start (checked c))) (passed c)
 
-fair : (c : tie.After-enum-told) → Fair (start (checked c) .args .p .table) (caseSide (start (checked c) .args .p .table))
-fair c = case-fair (start (checked c) .args .p .table) (legal c)
-
 -- an answer that is what `Called` says carries the promises on
 answered : (c : tie.Start) (r : Step) → Called caseSide (caseValue (c .args .p)) (c .args .budget) r
     → Called caseSide (caseValue (c .args .p)) (c .args .budget) r × (CarriesDemand caseSide (caseValue (c .args .p)) (c .args .budget) r
     × CarriesOmits caseSide (caseValue (c .args .p)) (c .args .budget) r)
 answered c r =
-    promise caseSide (caseValue (c .args .p)) (c .args .budget) r (λ ok.
-    let l = legal-of (c .args .p .table) (rows-length c) ok in
-    (l, case-fair (c .args .p .table) l))
+    promise caseSide (caseValue (c .args .p)) (c .args .budget) r (case-started (c .args .p .table) (rows-length c) (c .args .p .order .0) (order-length c))
 
 -- the core's rows are the side's
 works : (c : tie.After-case-mode) → (let t = start (checked (told c)) .args .p .table in Works (caseSide t) (t .cases) (rows c .turned .result))
@@ -70,10 +70,19 @@ works c = case-works _ (legal (told c)) _ (rows c .turned .ensures)
 -- what the core reported
 worked : (c : tie.After-call-cases) {chain picks : List ℕ}
     → (let m = moded c in let p = start (checked (told m)) .args .p in let b = start (checked (told m)) .args .budget in
-    CarriesOn (movesOf (p .table) (caseSide (p .table)) (p .omit)) (caseSide (p .table) .rows) (p .picks .0) (p .count)
+    Ordered (λ q. movesOf (p .table) (caseSide (p .table)) q (p .omit)) (p .table .cases) (caseSide (p .table) .rows) (p .order .0) (p .picks .0) (p .count)
     (modePhase (m .case-mode .result)) b chain picks (c .call-cases .result)
     → Worked caseSide (caseValue p) b (m .case-mode .result) chain picks (c .call-cases .result))
-worked c h = let m = moded c in record { passed = passed (told m); mode-is = m .case-mode .ensures; carried = h }
+worked c h =
+    let m = moded c in
+    let l = legal (told m) in record {
+      passed = passed (told m);
+      fair = case-fair _ l;
+      few = l .cases-high;
+      long = order-length (start (checked (told m)));
+      mode-is = m .case-mode .ensures;
+      ordered = h;
+    }
 
 check-table-requires : tie.Need-check-table-requires
 check-table-requires c κs = search needs
@@ -88,7 +97,9 @@ returns : tie.Need-returns
 returns c =
     let k = c .before .before in
     let t = k .before .before in
-    answered (start t) _ (called-refused caseSide _ _ _ (verdict-refused _ _ _ (k .checked .given .1) (t .check-table .ensures))
+    answered (start t) _
+    (called-refused caseSide _ _ _
+    (table-first _ _ _ _ (number-pos (k .checked .given .0 .0)) (verdict-refused _ _ _ (k .checked .given .1) (t .check-table .ensures)))
     (number-pos (k .checked .given .0 .0)) _ (c .case-refusal .ensures))
 
 enum-told : tie.Need-enum-told
@@ -101,7 +112,10 @@ case-mode-requires : tie.Need-case-mode-requires
 case-mode-requires c κs = search needs
 
 call-cases-requires : tie.Need-call-cases-requires
-call-cases-requires c κs = let m = c .before .before .before .before in (legal (told m), works m, refl, picks-length (start (checked (told m))))
+call-cases-requires c κs =
+    let m = c .before .before .before .before .before in
+    let s = start (checked (told m)) in
+    (legal (told m), works m, order-length s, refl, picks-length s)
 
 enum-known-outcome : tie.Need-enum-known-outcome
 enum-known-outcome c = search needs
@@ -114,7 +128,7 @@ returns-2 c =
     let o = c .before .before in
     let k = o .before .before in
     answered (start (checked (told (moded k)))) _
-    (call-refused _ _ _ _ _ _ _ (fair (told (moded k))) (worked k (k .call-cases .ensures)) _ (o .outcome .given .1) _ (c .case-refusal2 .ensures))
+    (call-refused _ _ _ _ _ _ _ (worked k (k .call-cases .ensures)) _ (o .outcome .given .1) _ (c .case-refusal2 .ensures))
 
 case-phase-requires : tie.Need-case-phase-requires
 case-phase-requires c κs = search needs
@@ -131,7 +145,7 @@ returns-3 c =
     let f = e .before .before in
     let k = begun f in
     answered (start (checked (told (moded k)))) _
-    (call-handed _ _ _ _ _ _ _ (fair (told (moded k))) (worked k (k .call-cases .ensures)) _ (f .case-phase .ensures) _ (e .enum-told2 .given .1)
+    (call-handed _ _ _ _ _ _ _ (worked k (k .call-cases .ensures)) _ (f .case-phase .ensures) _ (e .enum-told2 .given .1)
     (λ p d. case-chain _ (legal (told (moded k))) p _ _ d (c .turned2 .ensures)))
 
 blank-chain-requires : tie.Need-blank-chain-requires
@@ -142,7 +156,7 @@ returns-4 c =
     let f = c .before .before in
     let k = begun f in
     answered (start (checked (told (moded k)))) _
-    (call-other _ _ _ _ _ _ _ (fair (told (moded k))) (worked k (k .call-cases .ensures)) _ (f .case-phase .ensures) _ (c .blank-chain .ensures)
+    (call-other _ _ _ _ _ _ _ (worked k (k .call-cases .ensures)) _ (f .case-phase .ensures) _ (c .blank-chain .ensures)
     (f .before .before .match2 .keys2) (c .before .match3 .keys2))
 
 pub run-cases-spec : {M : Type 1} → statement M

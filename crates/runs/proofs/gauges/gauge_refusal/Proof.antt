@@ -7,15 +7,11 @@ use Rattle.runs.proofs.gauges.gauge_refusal.Tie as tie
 blank-chain-requires : tie.Need-blank-chain-requires
 blank-chain-requires c κs = search needs
 
-blank-table-requires : tie.Need-blank-table-requires
-blank-table-requires c κs = search needs
-
-gauge-run-requires : tie.Need-gauge-run-requires
-gauge-run-requires c κs = search needs
+blank-run-requires : tie.Need-blank-run-requires
+blank-run-requires c κs = search needs
 
 returns : tie.Need-returns
-returns c = refusal-step _ _ _ _ (c .before .before .blank-chain .ensures) (c .before .blank-table .ensures) (c .gauge-run .ensures)
+returns c = refusal-step _ _ _ (c .before .blank-chain .ensures) (c .blank-run .ensures)
 
 pub gauge-refusal-spec : {M : Type 1} → statement M
-gauge-refusal-spec =
-    tie.close (tie.spec blank-chain-requires blank-table-requires gauge-run-requires returns)
+gauge-refusal-spec = tie.close (tie.spec blank-chain-requires blank-run-requires returns)

@@ -7,5 +7,5 @@ use Rattle.test_explain.proofs.asked.cases.Tie as tie
 pub cases-spec : {M : Type 1} → statement M
 cases-spec =
     tie.close (tie.spec (λ all run₀ after₀ moves₀ run after moves. Unit {0}) (λ all run₀ after₀ moves₀ run after moves. 3000 - moves)
-    (λ c κs. tt) (λ c. tt) (λ c κs. tt) (λ c κs. tt) (λ c κs. tt) (λ c. tt) (λ c. omega arith) (λ c. omega arith) (λ c. tt)
+    (λ c κs. tt) (λ c κs. tt) (λ c. tt) (λ c κs. tt) (λ c κs. tt) (λ c κs. tt) (λ c. tt) (λ c. omega arith) (λ c. omega arith) (λ c. tt)
     (λ c. omega arith))

@@ -1,0 +1,70 @@
+-- `preference::is_plain` meets its contract: the numbers passed that differ are counted.
+use borrow.Author.Needs.{needs}
+use native.Mathlib.Omega.{arith}
+use Prim.Native.Nat.{_-_}
+use Rattle.preference.proofs.PlainOrder.{Counted, counted-none, counted-stray, counted-same, counted-all}
+use Rattle.preference.proofs.is_plain.Statement.{statement}
+use Rattle.preference.proofs.is_plain.Tie as tie
+
+abbrev Inv-loop : tie.InvT-loop
+Inv-loop order n strays₀ i₀ strays i = Counted n order strays i
+
+abbrev μ-loop : tie.MeasureT-loop
+μ-loop order n strays₀ i₀ strays i = 64 - i
+
+loop-holds : tie.Need-loop-holds Inv-loop μ-loop
+loop-holds c = counted-none _ _
+
+element-copy-out-if1 : tie.Need-element-copy-out-if1 Inv-loop μ-loop
+element-copy-out-if1 c = omega arith
+
+plain-number-requires : tie.Need-plain-number-requires Inv-loop μ-loop
+plain-number-requires c κs = search needs
+
+add-strays : tie.Need-add-strays Inv-loop μ-loop
+add-strays c = omega arith
+
+add-i : tie.Need-add-i Inv-loop μ-loop
+add-i c = omega arith
+
+loop-less : tie.Need-loop-less Inv-loop μ-loop
+loop-less c = omega arith
+
+loop-again : tie.Need-loop-again Inv-loop μ-loop
+loop-again c =
+    let p = c .before in
+    let t = p .before .before in
+    counted-stray _ _ _ _ _ (t .before .loop .inv) (t .loop-test .taken) (p .plain-number .ensures) (c .if1 .taken)
+
+add-i-2 : tie.Need-add-i-2 Inv-loop μ-loop
+add-i-2 c = omega arith
+
+loop-less-2 : tie.Need-loop-less-2 Inv-loop μ-loop
+loop-less-2 c = omega arith
+
+loop-again-2 : tie.Need-loop-again-2 Inv-loop μ-loop
+loop-again-2 c =
+    let p = c .before in
+    let t = p .before .before in
+    counted-same _ _ _ _ _ (t .before .loop .inv) (t .loop-test .taken) (p .plain-number .ensures) (c .if1 .left)
+
+returns : tie.Need-returns Inv-loop μ-loop
+returns c = counted-all _ _ _ _ (c .before .loop .inv) (omega arith)
+
+pub is-plain-spec : {M : Type 1} → statement M
+is-plain-spec =
+    tie.close
+    (tie.spec
+    Inv-loop
+    μ-loop
+    loop-holds
+    element-copy-out-if1
+    plain-number-requires
+    add-strays
+    add-i
+    loop-less
+    loop-again
+    add-i-2
+    loop-less-2
+    loop-again-2
+    returns)
