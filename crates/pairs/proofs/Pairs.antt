@@ -3,7 +3,8 @@
 use mathlib.Core.Path.{_≡_, refl, sym, ap, subst, subst₂}
 use mathlib.Core.Logic.{_⊎_, inl, inr, _↔_}
 use mathlib.Core.Bool.{Bool}
-use mathlib.Core.List.{List, [], _∷_, _++_, map, List·Memᴰ, List·Memᴰ·head, List·Memᴰ·tail, List·Memᴰ·not-nil, List·Memᴰ·append-cases, Memᴰ·append-left, Memᴰ·append-right, Memᴰ·cast, Memᴰ·map, Memᴰ·of-map}
+use mathlib.Core.List.{List, [], _∷_, _++_, map, List·Memᴰ, List·Memᴰ·head, List·Memᴰ·tail, List·Memᴰ·not-nil, List·Memᴰ·append-cases}
+use mathlib.Core.List.{Memᴰ·append-left, Memᴰ·append-right, Memᴰ·cast, Memᴰ·map, Memᴰ·of-map}
 use Prim.Native.Nat.{ℕ, zero, suc, _+_, _-_, _≤_, _<_}
 use native.Mathlib.Omega.{arith}
 use lib.Dec.{T}
@@ -59,9 +60,11 @@ of-row w g a p m = let r = Memᴰ·of-map (λ (k : ℕ). (g, suc k)) (select (bi
 
 from-place : (w g : ℕ) (x : List ℕ) (p : Pair) → List·Memᴰ p (pairsFrom w g x) → PlaceOf w g x p
 from-place w g [] p m = absurd (List·Memᴰ·not-nil (rw (from-nil w g) at m))
-from-place w g (a ∷ x) p m = go (List·Memᴰ·append-cases (map (λ (k : ℕ). (g, suc k)) (select (bit a) w)) (rw (from-cons w g a x) at m)) (from-place w (suc g) x p)
+from-place w g (a ∷ x) p m =
+    go (List·Memᴰ·append-cases (map (λ (k : ℕ). (g, suc k)) (select (bit a) w)) (rw (from-cons w g a x) at m)) (from-place w (suc g) x p)
   where
-    go : List·Memᴰ p (map (λ (k : ℕ). (g, suc k)) (select (bit a) w)) ⊎ List·Memᴰ p (pairsFrom w (suc g) x) → (List·Memᴰ p (pairsFrom w (suc g) x) → PlaceOf w (suc g) x p)
+    go : List·Memᴰ p (map (λ (k : ℕ). (g, suc k)) (select (bit a) w)) ⊎ List·Memᴰ p (pairsFrom w (suc g) x)
+        → (List·Memᴰ p (pairsFrom w (suc g) x) → PlaceOf w (suc g) x p)
         → PlaceOf w g (a ∷ x) p
     go (inl j) ih =
         let r = of-row w g a p j in
@@ -75,7 +78,8 @@ place-from w g (a ∷ x) zero k l t =
     rw (from-cons w g a x, e) (Memᴰ·append-left (pairsFrom w (suc g) x) (Memᴰ·map (λ (k : ℕ). (g, suc k)) (mem-select (bit a) w k .1 (l, t))))
 place-from w g (a ∷ x) (suc i) k l t =
     let e : g + suc i ≡ suc g + i = omega arith in
-    rw (from-cons w g a x) (Memᴰ·append-right (map (λ (k : ℕ). (g, suc k)) (select (bit a) w)) (Memᴰ·cast (ap (λ (n : ℕ). (n, suc k)) e) (place-from w (suc g) x i k l t)))
+    rw (from-cons w g a x) (Memᴰ·append-right (map (λ (k : ℕ). (g, suc k)) (select (bit a) w))
+    (Memᴰ·cast (ap (λ (n : ℕ). (n, suc k)) e) (place-from w (suc g) x i k l t)))
 
 row-ascends : (g : ℕ) (l : List ℕ) → Ascending l → Sorted PairBefore (map (λ (k : ℕ). (g, suc k)) l)
 row-ascends g [] a = tt
@@ -90,7 +94,8 @@ from-ascends w g [] = rw (from-nil w g) tt
 from-ascends w g (a ∷ x) =
     rw (from-cons w g a x)
     (Sorted-append PairBefore here (pairsFrom w (suc g) x) (row-ascends g (select (bit a) w) (select-ascends (bit a) w)) (from-ascends w (suc g) x)
-    (All-of (λ (p : Pair). All (PairBefore p) (pairsFrom w (suc g) x)) here (λ p m. All-of (PairBefore p) (pairsFrom w (suc g) x) (λ q j. cross p q m (from-place w (suc g) x q j)))))
+    (All-of (λ (p : Pair). All (PairBefore p) (pairsFrom w (suc g) x)) here
+    (λ p m. All-of (PairBefore p) (pairsFrom w (suc g) x) (λ q j. cross p q m (from-place w (suc g) x q j)))))
   where
     here : List Pair
     here = map (λ (k : ℕ). (g, suc k)) (select (bit a) w)
@@ -108,8 +113,11 @@ pairs-listed w x h = record { ascends = from-ascends w 1 x; members = λ p. (int
         at r = let e : suc (r .index) ≡ p .0 = omega (arith, r .gauge) in subst₂ (Has x) e (sym (r .case)) (place-has x (r .index) (r .place) (r .set))
 
     onto : (p : Pair) → Has x (p .0) (p .1) → List·Memᴰ p (pairs w x)
-    onto p t = by-place x (λ g c. List·Memᴰ (g, c) (pairs w x)) (λ i k b. let e : suc i ≡ 1 + i = omega arith in rw e (place-from w 1 x i k (h i k b) b)) (p .0) (p .1) t
+    onto p t =
+        by-place x (λ g c. List·Memᴰ (g, c) (pairs w x))
+        (λ i k b. let e : suc i ≡ 1 + i = omega arith in rw e (place-from w 1 x i k (h i k b) b)) (p .0) (p .1) t
 
 pub pair-list-unique : (x : List ℕ) (ps qs : List Pair) → PairList x ps → PairList x qs → ps ≡ qs
 pair-list-unique x ps qs a b =
-    sorted-unique PairBefore pair-irrefl pair-trans ps qs (a .ascends) (b .ascends) (λ p. (λ m. b .members p .1 (a .members p .0 m), λ m. a .members p .1 (b .members p .0 m)))
+    sorted-unique PairBefore pair-irrefl pair-trans ps qs (a .ascends) (b .ascends)
+    (λ p. (λ m. b .members p .1 (a .members p .0 m), λ m. a .members p .1 (b .members p .0 m)))

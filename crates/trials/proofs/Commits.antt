@@ -1,6 +1,7 @@
 -- The answers of commits. In order: the answer for each outcome of a commit, by the trial that the code makes (`committed-refused`, `committed-trial`,
 -- `committed-differs`, `committed-same`); one answer (`committed-unique`) for every proposal and table (`committed-exists`); what an answer
--- without a refusal is (`commits`); a fresh trial can be committed on its table (`fresh-commits`), and on no other (`other-table`). When two proposals are the same is in Comparing.antt.
+-- without a refusal is (`commits`); a fresh trial can be committed on its table (`fresh-commits`), and on no other
+-- (`other-table`). When two proposals are the same is in Comparing.antt.
 use mathlib.Core.Path.{_≡_, refl, sym, ap, _∙_, subst}
 use mathlib.Core.Logic.{_↔_}
 use mathlib.Core.Bool.{Bool, true, false}
