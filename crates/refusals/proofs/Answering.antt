@@ -41,6 +41,7 @@ use Rattle.refusals.specs.declared.Refusal.the-variants.{
   NotMaximal,
   OtherProposal,
   NotAnArrangement,
+  SampleInput,
 }
 use Rattle.refusals.specs.declared.Verdict.{Verdict}
 use Rattle.refusals.specs.declared.Verdict.the-variants.{Accepted, Refused}
@@ -51,7 +52,7 @@ named n =
     getD
     (FileTooLong ∷ NotTheBanner ∷ LineTooLong ∷ SizeFields ∷ SizeRange ∷ PairFields ∷ PairRange ∷ PairRepeated ∷ PairCount
     ∷ TableShape ∷ TableRows ∷ ChainCount ∷ ChainPairs ∷ NotAChain ∷ NotReached ∷ BufferTooShort ∷ NoSuchComment ∷ BudgetTooLarge
-    ∷ PairAbsent ∷ ReadingRange ∷ CutoffRange ∷ PairInChain ∷ CoverShape ∷ TooManyChains ∷ NotMaximal ∷ OtherProposal ∷ NotAnArrangement ∷ [])
+    ∷ PairAbsent ∷ ReadingRange ∷ CutoffRange ∷ PairInChain ∷ CoverShape ∷ TooManyChains ∷ NotMaximal ∷ OtherProposal ∷ NotAnArrangement ∷ SampleInput ∷ [])
     (n - 1) FileTooLong
 
 pub named-number : (x : Refusal) → named (number x) ≡ x
@@ -83,6 +84,7 @@ named-number TooManyChains = refl
 named-number NotMaximal = refl
 named-number OtherProposal = refl
 named-number NotAnArrangement = refl
+named-number SampleInput = refl
 
 pub number-injective : (x y : Refusal) → number x ≡ number y → x ≡ y
 number-injective x y e = sym (named-number x) ∙ ap named e ∙ named-number y

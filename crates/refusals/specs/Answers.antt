@@ -32,6 +32,7 @@ use Rattle.refusals.specs.declared.Refusal.the-variants.{
   NotMaximal,
   OtherProposal,
   NotAnArrangement,
+  SampleInput,
 }
 use Rattle.refusals.specs.declared.Verdict.{Verdict}
 use Rattle.refusals.specs.declared.Verdict.the-variants.{Accepted, Refused}
@@ -72,6 +73,8 @@ number NotMaximal = 25
 number OtherProposal = 26
 -- 02, R-12: "a preference that is no arrangement"
 number NotAnArrangement = 27
+-- 02, R-13: "the start is zero or the density above 256"
+number SampleInput = 28
 
 -- an answer: 01's number, 0 where nothing is refused, and the value
 pub record Answer (A : Type 0) : Type 0 where

@@ -33,6 +33,7 @@ pub enum Refusal {
     NotMaximal,
     OtherProposal,
     NotAnArrangement,
+    SampleInput,
 }
 
 // Whether a check passed, and if not, which refusal it was.
@@ -73,5 +74,6 @@ pub fn refusal_number(why: Refusal) -> u64
         Refusal::NotMaximal => 25,
         Refusal::OtherProposal => 26,
         Refusal::NotAnArrangement => 27,
+        Refusal::SampleInput => 28,
     }
 }
