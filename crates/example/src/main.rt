@@ -1,7 +1,7 @@
 // The library by example: a file is read, its ladders are counted and listed with a budget of moves, in plain order and with the trusted gauges
 // first, the first says why it lacks a pair, the fewest that hold every pair are found, a chain is judged, grown and wired pair by pair, the flip of
-// one entry is tried and committed, a table is made from rows and listed by cases, and one without the ladders that calibration never needs. Every
-// answer is looked at before its values are used.
+// one entry is tried and committed, a table is made from rows and listed by cases, one without the ladders that calibration never needs, and one is
+// made that anybody can make again. Every answer is looked at before its values are used.
 use count::Count;
 use judge::Judgement;
 use libc::STDOUT_FILENO;
@@ -40,6 +40,7 @@ fn main() {
             flip(t);
             by_cases();
             needed();
+            again();
         }
     }
 }
@@ -276,6 +277,16 @@ fn needed() {
         Judgement::Refused(why) => refused(why),
     }
     list(t, GaugeOrder::plain(t.gauges), true);
+}
+
+// Makes a table from four numbers, the same for everybody: 3 gauges, 4 cases, the start 3, and 128 of 256, about half of the places.
+fn again() {
+    let made = samples::sample_table(3, 4, 3, 128);
+    let verdict = made.verdict;
+    match verdict {
+        Verdict::Accepted => count_them(made.table),
+        Verdict::Refused(why) => refused(why),
+    }
 }
 
 // Writes a ladder as the file of a table of its own, to the front of a buffer and from there to standard output.

@@ -2,7 +2,8 @@
 -- mixing the double shift in (`twice`), and a shift by 64 places or more mixes nothing in.
 use mathlib.Core.Path.{_≡_, refl, sym, ap, ap₂, _∙_}
 use Prim.Native.Nat.{ℕ, zero, suc, _+_, _*_, _/_, _%_, _^_, _<_, _≤_}
-use native.Mathlib.Nat.{add-comm, add-zero, mul-assoc, mul-mod-left, mul-add-mod-self-right, add-mul, mul-comm, div-add-mod', div-eq-of-lt, mod-lt, not-suc-le-zero, le-of-suc-le-suc, zero-lt-suc}
+use native.Mathlib.Nat.{add-comm, add-zero, mul-assoc, mul-mod-left, mul-add-mod-self-right, add-mul, mul-comm, div-add-mod', div-eq-of-lt}
+use native.Mathlib.Nat.{mod-lt, not-suc-le-zero, le-of-suc-le-suc, zero-lt-suc}
 use native.Mathlib.Omega.{arith}
 use lib.Arith.{bin-ind, digits-mod}
 use lib.Pow.{pow-add, pow-pos, shr-shr, pow-mono, shr-le}

@@ -24,25 +24,35 @@ pub fn shape(t: Tally, gauges: u64, cases: u64) -> Tally {
     after
 }
 
-// The full table of a shape, and at each draw of a shift register, the same at every run, two others, the second denser.
+// The full table of a shape, and at each draw two that anyone can make again (02, R-13), with half of the places and with three quarters.
 pub fn sample(t: Tally, gauges: u64, cases: u64, draws: u64) -> Tally {
-    let all = full(gauges, cases);
-    let mut after = one(t, gauges, cases, all);
-    let mut x: u64 = SEED;
+    let mut after = one(t, gauges, cases, full(gauges, cases));
     let mut i: u64 = 0;
     while i < draws {
-        x = shifted(shifted(x));
-        after = one(after, gauges, cases, all & x);
-        after = one(after, gauges, cases, all & (x | shifted(x)));
+        after = one(after, gauges, cases, drawn(gauges, cases, i, 128));
+        after = one(after, gauges, cases, drawn(gauges, cases, i, 192));
         i += 1;
     }
     after
 }
 
-fn shifted(x: u64) -> u64 {
-    let a = x ^ (x << 13);
-    let b = a ^ (a >> 7);
-    b ^ (b << 17)
+// The table of a shape at a draw.
+fn drawn(gauges: u64, cases: u64, draw: u64, density: u64) -> u64 {
+    let made = samples::sample_table(gauges, cases, SEED ^ draw, density);
+    let table = made.table;
+    let rows = table.rows;
+    pairs_of(&rows)
+}
+
+// The first eight rows as a set of pairs, eight cases each.
+fn pairs_of(rows: &[u64; 64]) -> u64 {
+    let mut set: u64 = 0;
+    let mut i: usize = 0;
+    while i < 8 {
+        set = set | (rows[i] << (8 * i));
+        i += 1;
+    }
+    set
 }
 
 // One table: the entries, and the claims where its pairs are few.

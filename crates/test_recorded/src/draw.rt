@@ -1,5 +1,5 @@
-// Tests drawn by a shift register, the same at every run. A reading is drawn as a code, of which `value` gives the reading and the plain
-// computation the magnitude: no signed arithmetic is shared with the library.
+// Tests drawn by the generator of the sample tables (02, R-13), the same at every run. A reading is drawn as a code, of which `value` gives the
+// reading and the plain computation the magnitude: no signed arithmetic is shared with the library.
 use recorded::Kind;
 use recorded::Test;
 
@@ -41,7 +41,7 @@ pub fn value(code: u8) -> i32 {
 // A test of a sort: 0 legal, 1 legal and of 64 by 64, 2 of pairs alone, 3 of a shape out of range, 4 with an entry outside, 5 with a reading
 // at an absent entry, 6 of pairs with a reading, 7 with a reading out of range, 8 with both 5 and 7.
 pub fn one(seed: u64, sort: u64) -> Drawn {
-    let x = shifted(shifted(88172645463325252 ^ (seed << 20) ^ sort));
+    let x = samples::step(samples::step(88172645463325252 ^ (seed << 20) ^ sort));
     let mut gauges = 1 + x % 9;
     let mut cases = 1 + x / 16 % 9;
     if sort == 1 {
@@ -168,7 +168,7 @@ fn rows_of(seed: u64, gauges: u64, cases: u64, sort: u64) -> [u64; 64] {
     let mut i: u64 = 0;
     while i < 64 {
         let k = i as usize;
-        x = shifted(x);
+        x = samples::step(x);
         rows[k] = within(x, i, gauges, cases);
         i += 1;
     }
@@ -195,7 +195,7 @@ fn codes_of(seed: u64, rows: &[u64; 64], sort: u64) -> [u8; 4096] {
     let mut x = seed;
     let mut p: usize = 0;
     while p < 4096 {
-        x = shifted(x);
+        x = samples::step(x);
         let i = p / 64;
         let k = (p % 64) as u64;
         codes[p] = code(x, rows[i] >> k & 1 == 1, sort);
@@ -230,10 +230,4 @@ fn readings_of(codes: &[u8; 4096]) -> [i32; 4096] {
         p += 1;
     }
     readings
-}
-
-fn shifted(x: u64) -> u64 {
-    let a = x ^ (x << 13);
-    let b = a ^ (a >> 7);
-    b ^ (b << 17)
 }

@@ -3,8 +3,8 @@ use super::arrays;
 use super::calls;
 use super::chains;
 use super::damage;
+use super::drawn;
 use super::plain;
-use super::samples;
 use super::tally;
 use super::tally::Tally;
 
@@ -89,11 +89,10 @@ pub fn larger(t: Tally, group: u64) -> Tally {
 
 // The first tables of the sample of a shape; only sets of a table's own pairs are tried with it.
 fn sample(t: Tally, group: u64, gauges: u64, cases: u64) -> Tally {
-    let all = plain::full(gauges, cases);
     let mut now = t;
     let mut k: u64 = 0;
     while k < MANY {
-        let pairs = samples::drawn(all, k);
+        let pairs = drawn::pairs(gauges, cases, k);
         now = one_table(tally::about(now, gauges, cases, pairs), group, pairs);
         k += 1;
     }

@@ -7,6 +7,7 @@ mod boards;
 mod calls;
 mod chains;
 mod damage;
+mod drawn;
 mod essential;
 mod expect;
 mod groups;
@@ -14,7 +15,6 @@ mod large;
 mod path;
 mod plain;
 mod refusing;
-mod samples;
 mod sides;
 mod tally;
 

@@ -1,5 +1,5 @@
-// The sample tables, written out: the first states of the generator, tables of several shapes, and refusals. What this must write was computed
-// by another implementation of the same words of 02.
+// The sample tables, written out: the first states of the generator, tables of several shapes, and refusals. What this must write is made by
+// tools/plain-samples from the same words of 02.
 use refusals::Verdict;
 use samples;
 use table;

@@ -6,6 +6,5 @@ use Rattle.test_explain.proofs.tables.sample.Tie as tie
 
 pub sample-spec : {M : Type 1} → statement M
 sample-spec =
-    tie.close (tie.spec (λ gauges cases draws all after₀ x₀ i₀ after x i. Unit {0})
-    (λ gauges cases draws all after₀ x₀ i₀ after x i. draws - i) (λ c κs. tt) (λ c κs. tt) (λ c. tt) (λ c κs. tt) (λ c κs. tt)
-    (λ c κs. tt) (λ c κs. tt) (λ c κs. tt) (λ c. omega arith) (λ c. omega arith) (λ c. tt) (λ c. tt))
+    tie.close (tie.spec (λ gauges cases draws after₀ i₀ after i. Unit {0}) (λ gauges cases draws after₀ i₀ after i. draws - i) (λ c κs. tt)
+    (λ c κs. tt) (λ c. tt) (λ c κs. tt) (λ c κs. tt) (λ c κs. tt) (λ c κs. tt) (λ c. omega arith) (λ c. omega arith) (λ c. tt) (λ c. tt))
