@@ -3,7 +3,7 @@
 use mathlib.Core.Path.{_≡_, refl, sym, ap, _∙_, subst}
 use mathlib.Core.Bool.{Bool, true, false, _&&_}
 use mathlib.Core.List.{List, map}
-use Prim.Native.Nat.{ℕ, zero, suc, _+_, _≤_, _<_, min}
+use Prim.Native.Nat.{ℕ, zero, suc, _+_, _-_, _≤_, _<_, min}
 use native.Mathlib.Nat.{min-eq-left}
 use native.Mathlib.Numerals.{add-one}
 use native.Mathlib.Decide.{ℕ-discrete, decLt}
@@ -31,6 +31,15 @@ plain-front n i v h e = rw (lt-ltb i n h) (omega (arith, e))
 pub plain-rest : (n i : ℕ) → n ≤ i → 0 ≡ plainAt n i
 unfolding plainAt
 plain-rest n i h = rw (le-ltb i n h)
+
+-- the same by what lifts the places: at most 64 numbers, told from 128
+pub lifted-at : (n lift i v : ℕ) → i < 64 → lift + min n 64 ≡ 128 → v ≡ plainAt (128 - lift) i → v ≡ plainAt n i
+unfolding plainAt
+lifted-at n lift i v h e is = is ∙ go (decLt i n)
+  where
+    go : Dec (i < n) → plainAt (128 - lift) i ≡ plainAt n i
+    go (yes l) = rw (lt-ltb i n l, lt-ltb i (128 - lift) (omega arith))
+    go (no l) = rw (le-ltb i n (omega arith), le-ltb i (128 - lift) (omega arith))
 
 plain-at : (n i : ℕ) → i < 64 → getD (plainNumbers n) i 0 ≡ plainAt n i
 plain-at n i h = pad-getD (map suc (plain (min n 64))) i ∙ go (decLt i n)

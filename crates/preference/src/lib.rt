@@ -8,7 +8,7 @@ use table;
 use table::Table;
 ghost use mathlib.Core.Path.{_≡_};
 ghost use mathlib.Core.Bool.{true};
-ghost use Prim.Native.Nat.{_≤_, _<_};
+ghost use Prim.Native.Nat.{_+_, _-_, _≤_, _<_, min};
 ghost use lib.ListN.{length};
 ghost use Rattle.table.specs.Tables.{padded};
 ghost use Rattle.refusals.specs.Answers.{verdict};
@@ -73,15 +73,16 @@ fn check_order(order: [u8; 64], n: usize) -> Verdict
     Verdict::Accepted
 }
 
-// Whether an order is 1, 2, 3 and on, of `n` numbers. One pass without a way out, which takes a few steps of 16 bytes: most callers have
-// that order, and for it nothing else needs to be done.
+// Whether an order is 1, 2, 3 and on, of `n` numbers. One pass without a way out and in bytes alone, which takes a few steps of 16 bytes: most
+// callers have that order, and for it nothing else needs to be done.
 pub fn is_plain(order: &[u8; 64], n: usize) -> bool
     ensures { λ r. ⌜ r ≡ isPlain n (now (order .entry)) ⌝ }
 {
+    let lift = lift_of(n);
     let mut strays: u8 = 0;
     let mut i: usize = 0;
     while i < MOST {
-        if order[i] != plain_number(i, n) {
+        if order[i] != plain_number(i as u8, lift) {
             strays += 1;
             i += 1;
         } else {
@@ -239,22 +240,34 @@ fn zeros_from(order: &[u8; 64], from: usize) -> bool
 fn plain_numbers(n: u64) -> [u8; 64]
     ensures { λ r. ⌜ r ≡ plainNumbers n ⌝ }
 {
+    let lift = lift_of(n as usize);
     let mut numbers = [0u8; 64];
     let mut i: usize = 0;
     while i < MOST {
-        numbers[i] = plain_number(i, n as usize);
+        numbers[i] = plain_number(i as u8, lift);
         i += 1;
     }
     numbers
 }
 
-// What stands at a place of 1, 2, 3 and on, of `n` numbers.
-fn plain_number(i: usize, n: usize) -> u8
-    requires { ⌜ i < 64 ⌝ }
-    ensures { λ r. ⌜ r ≡ plainAt n i ⌝ }
+// What lifts the places of the first `n` numbers, at most 64, to less than 128 and every other place to 128 or more.
+fn lift_of(n: usize) -> u8
+    ensures { λ r. ⌜ r + min n 64 ≡ 128 ⌝ }
 {
-    if i < n {
-        return (i + 1) as u8;
+    if n < MOST {
+        return (128 - n) as u8;
+    }
+    64
+}
+
+// What stands at a place of 1, 2, 3 and on. How many numbers there are is told by `lift`: a byte that is below 128 is one that is not below 0
+// to a machine that compares 16 bytes at a time, where a comparison of places with a count would take words.
+fn plain_number(i: u8, lift: u8) -> u8
+    requires { ⌜ (i < 64) × (lift ≤ 128) ⌝ }
+    ensures { λ r. ⌜ r ≡ plainAt (128 - lift) i ⌝ }
+{
+    if i + lift < 128 {
+        return i + 1;
     }
     0
 }

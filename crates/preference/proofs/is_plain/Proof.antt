@@ -1,16 +1,21 @@
 -- `preference::is_plain` meets its contract: the numbers passed that differ are counted.
 use borrow.Author.Needs.{needs}
 use native.Mathlib.Omega.{arith}
+use mathlib.Core.Path.{_≡_}
 use Prim.Native.Nat.{_-_}
-use Rattle.preference.proofs.PlainOrder.{Counted, counted-none, counted-stray, counted-same, counted-all}
+use Rattle.preference.specs.private.Placing.{plainAt}
+use Rattle.preference.proofs.PlainOrder.{lifted-at, Counted, counted-none, counted-stray, counted-same, counted-all}
 use Rattle.preference.proofs.is_plain.Statement.{statement}
 use Rattle.preference.proofs.is_plain.Tie as tie
 
 abbrev Inv-loop : tie.InvT-loop
-Inv-loop order n strays₀ i₀ strays i = Counted n order strays i
+Inv-loop order n lift strays₀ i₀ strays i = Counted n order strays i
 
 abbrev μ-loop : tie.MeasureT-loop
-μ-loop order n strays₀ i₀ strays i = 64 - i
+μ-loop order n lift strays₀ i₀ strays i = 64 - i
+
+lift-of-requires : tie.Need-lift-of-requires Inv-loop μ-loop
+lift-of-requires c κs = search needs
 
 loop-holds : tie.Need-loop-holds Inv-loop μ-loop
 loop-holds c = counted-none _ _
@@ -18,8 +23,17 @@ loop-holds c = counted-none _ _
 element-copy-out-if1 : tie.Need-element-copy-out-if1 Inv-loop μ-loop
 element-copy-out-if1 c = omega arith
 
+cast-plain-number : tie.Need-cast-plain-number Inv-loop μ-loop
+cast-plain-number c = omega arith
+
 plain-number-requires : tie.Need-plain-number-requires Inv-loop μ-loop
-plain-number-requires c κs = search needs
+plain-number-requires c κs = (omega arith, omega arith)
+
+-- the number made is the one that belongs there
+due : (p : tie.After-plain-number Inv-loop μ-loop) → p .plain-number .result ≡ plainAt (p .before .before .before .before .before .args .n) (p .before .before .before .loop .i)
+due p =
+    let t = p .before .before in
+    lifted-at _ _ _ _ (t .loop-test .taken) (t .before .before .lift-of .ensures) (p .plain-number .ensures)
 
 add-strays : tie.Need-add-strays Inv-loop μ-loop
 add-strays c = omega arith
@@ -34,7 +48,7 @@ loop-again : tie.Need-loop-again Inv-loop μ-loop
 loop-again c =
     let p = c .before in
     let t = p .before .before in
-    counted-stray _ _ _ _ _ (t .before .loop .inv) (t .loop-test .taken) (p .plain-number .ensures) (c .if1 .taken)
+    counted-stray _ _ _ _ _ (t .before .loop .inv) (t .loop-test .taken) (due p) (c .if1 .taken)
 
 add-i-2 : tie.Need-add-i-2 Inv-loop μ-loop
 add-i-2 c = omega arith
@@ -46,7 +60,7 @@ loop-again-2 : tie.Need-loop-again-2 Inv-loop μ-loop
 loop-again-2 c =
     let p = c .before in
     let t = p .before .before in
-    counted-same _ _ _ _ _ (t .before .loop .inv) (t .loop-test .taken) (p .plain-number .ensures) (c .if1 .left)
+    counted-same _ _ _ _ _ (t .before .loop .inv) (t .loop-test .taken) (due p) (c .if1 .left)
 
 returns : tie.Need-returns Inv-loop μ-loop
 returns c = counted-all _ _ _ _ (c .before .loop .inv) (omega arith)
@@ -57,8 +71,10 @@ is-plain-spec =
     (tie.spec
     Inv-loop
     μ-loop
+    lift-of-requires
     loop-holds
     element-copy-out-if1
+    cast-plain-number
     plain-number-requires
     add-strays
     add-i

@@ -5,21 +5,27 @@ use Prim.Native.Nat.{_-_}
 use mathlib.Core.Path.{refl}
 use Rattle.sets.proofs.Tabulated.{Filled, filled-none, filled-more, filled-all}
 use Rattle.preference.specs.private.Placing.{plainAt}
-use Rattle.preference.proofs.PlainOrder.{plain-written}
+use Rattle.preference.proofs.PlainOrder.{lifted-at, plain-written}
 use Rattle.preference.proofs.plain_numbers.Statement.{statement}
 use Rattle.preference.proofs.plain_numbers.Tie as tie
 
 abbrev Inv-loop : tie.InvT-loop
-Inv-loop n numbers₀ i₀ numbers i = Filled (plainAt n) 64 numbers i
+Inv-loop n lift numbers₀ i₀ numbers i = Filled (plainAt n) 64 numbers i
 
 abbrev μ-loop : tie.MeasureT-loop
-μ-loop n numbers₀ i₀ numbers i = 64 - i
+μ-loop n lift numbers₀ i₀ numbers i = 64 - i
+
+lift-of-requires : tie.Need-lift-of-requires Inv-loop μ-loop
+lift-of-requires c κs = search needs
 
 loop-holds : tie.Need-loop-holds Inv-loop μ-loop
 loop-holds c = filled-none _ _ _ refl
 
+cast-plain-number : tie.Need-cast-plain-number Inv-loop μ-loop
+cast-plain-number c = omega arith
+
 plain-number-requires : tie.Need-plain-number-requires Inv-loop μ-loop
-plain-number-requires c κs = search needs
+plain-number-requires c κs = (omega arith, omega arith)
 
 array-write-numbers : tie.Need-array-write-numbers Inv-loop μ-loop
 array-write-numbers c = omega arith
@@ -31,7 +37,10 @@ loop-less : tie.Need-loop-less Inv-loop μ-loop
 loop-less c = omega arith
 
 loop-again : tie.Need-loop-again Inv-loop μ-loop
-loop-again c = filled-more _ (c .before .before .loop .inv) (omega arith) (c .plain-number .ensures)
+loop-again c =
+    let t = c .before in
+    filled-more _ (t .before .loop .inv) (omega arith)
+    (lifted-at _ _ _ _ (t .loop-test .taken) (t .before .before .lift-of .ensures) (c .plain-number .ensures))
 
 returns : tie.Need-returns Inv-loop μ-loop
 returns c = plain-written _ _ (filled-all _ (c .before .loop .inv) (omega arith))
@@ -42,7 +51,9 @@ plain-numbers-spec =
     (tie.spec
     Inv-loop
     μ-loop
+    lift-of-requires
     loop-holds
+    cast-plain-number
     plain-number-requires
     array-write-numbers
     add-i
