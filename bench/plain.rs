@@ -1,67 +1,25 @@
-// The plain lister that the library's runs are measured against: recursion by the rules for candidates, over arrays on the stack. It does not
-// pause, counts no moves and checks no value; nothing in it is slowed or tuned. bench/run builds it with `rustc -O`.
+// What the library is measured against, in plain Rust: the listers of listers.rs, and a reader and a writer of files as the standard library offers
+// itself for them. bench/run builds it with `rustc -O`.
 //
-// usage: plain SIDE 'BUDGET REPEATS' <FILE, as crates/bench_runs takes it (a budget means nothing here). It writes the number of ladders and
-// the same sum over their rows and their order.
-use std::io::Read;
+// usage: plain WHAT 'BUDGET REPEATS' [arrays|vectors|bits] <FILE
+//
+//   gauges, cases  lists some times over and writes the number of ladders and a sum over their rows and their order, as crates/bench_runs does
+//   read, write    reads, or writes, the file's table some times over, and writes a sum, as crates/bench_entries does
+//   list           writes each ladder of the table as a file, one after another, as crates/ladders does
+//
+// A budget means nothing here: it stands for the library's.
+mod listers;
+use listers::{exchanged, list_vectors, Arrays, Bits};
+use std::fmt::Write as _;
+use std::hint::black_box;
+use std::io::{Read, Write as _};
 
-struct Plain<F: FnMut(&[u64; 64])> {
+const BANNER: &str = "%%MatrixMarket matrix coordinate pattern general";
+
+struct Table {
+    gauges: usize,
+    cases: usize,
     rows: [u64; 64],
-    n: usize,
-    picked: [bool; 64],
-    chain: [u64; 64],
-    out: F,
-}
-
-impl<F: FnMut(&[u64; 64])> Plain<F> {
-    // Gauge g is a candidate: something is left of its row, no unpicked gauge has strictly more left, no lower one has the same.
-    fn is_candidate(&self, g: usize, left: u64) -> bool {
-        let own = self.rows[g] & left;
-        if self.picked[g] || own == 0 {
-            return false;
-        }
-        for h in 0..self.n {
-            if h == g || self.picked[h] {
-                continue;
-            }
-            let other = self.rows[h] & left;
-            if own & !other == 0 && (own != other || h < g) {
-                return false;
-            }
-        }
-        true
-    }
-
-    fn list(&mut self, left: u64) {
-        let mut any = false;
-        for g in 0..self.n {
-            if self.is_candidate(g, left) {
-                any = true;
-                let own = self.rows[g] & left;
-                self.picked[g] = true;
-                self.chain[g] = own;
-                self.list(own);
-                self.picked[g] = false;
-                self.chain[g] = 0;
-            }
-        }
-        if !any {
-            (self.out)(&self.chain);
-        }
-    }
-}
-
-// Rows by cases from rows by gauges, or the other way.
-fn exchanged(rows: &[u64; 64], from: usize, to: usize) -> [u64; 64] {
-    let mut turned = [0u64; 64];
-    for i in 0..from {
-        for k in 0..to {
-            if rows[i] >> k & 1 == 1 {
-                turned[k] |= 1 << i;
-            }
-        }
-    }
-    turned
 }
 
 struct Tally {
@@ -84,10 +42,8 @@ impl Tally {
     }
 }
 
-// Gauges, cases and rows of a legal file.
-fn read_table() -> (usize, usize, [u64; 64]) {
-    let mut file = String::new();
-    std::io::stdin().read_to_string(&mut file).expect("a file on standard input");
+// The table of a file that is known to be legal.
+fn read_table(file: &str) -> Table {
     let mut numbers = file
         .lines()
         .filter(|line| !line.starts_with('%'))
@@ -100,27 +56,88 @@ fn read_table() -> (usize, usize, [u64; 64]) {
         let (g, c) = (next(), next());
         rows[g - 1] |= 1 << (c - 1);
     }
-    (gauges, cases, rows)
+    Table { gauges, cases, rows }
+}
+
+// Writes a set of pairs behind what is there.
+fn write_table(rows: &[u64; 64], gauges: usize, cases: usize, out: &mut String) {
+    let pairs: u32 = rows.iter().map(|row| row.count_ones()).sum();
+    writeln!(out, "{BANNER}\n{gauges} {cases} {pairs}").expect("room");
+    for g in 0..gauges {
+        for c in 0..cases {
+            if rows[g] >> c & 1 == 1 {
+                writeln!(out, "{} {}", g + 1, c + 1).expect("room");
+            }
+        }
+    }
+}
+
+// Lists the table so many times.
+fn repeat(t: &Table, by_cases: bool, kind: &str, repeats: u64) -> Tally {
+    let mut tally = Tally { count: 0, sum: 0 };
+    for _ in 0..repeats {
+        let (rows, n) = if by_cases { (exchanged(&t.rows, t.gauges, t.cases), t.cases) } else { (t.rows, t.gauges) };
+        let tally = &mut tally;
+        let mut out = |chain: &[u64; 64]| {
+            if by_cases {
+                tally.add(&exchanged(chain, t.cases, t.gauges), t.gauges);
+            } else {
+                tally.add(chain, t.gauges);
+            }
+        };
+        match kind {
+            "vectors" => list_vectors(&rows, (0..n).collect(), !0, vec![0; 64], &mut out),
+            "bits" => Bits { rows, chain: [0; 64], out }.list(if n == 64 { !0 } else { (1 << n) - 1 }, !0),
+            _ => Arrays { rows, n, picked: [false; 64], chain: [0; 64], out }.list(!0),
+        }
+    }
+    tally
+}
+
+// Writes each ladder as a file on standard output.
+fn list(t: &Table) {
+    let mut stdout = std::io::stdout().lock();
+    let mut space = String::new();
+    let out = |chain: &[u64; 64]| {
+        write_table(chain, t.gauges, t.cases, &mut space);
+        if space.len() >= 40_000 {
+            stdout.write_all(space.as_bytes()).expect("written");
+            space.clear();
+        }
+    };
+    Arrays { rows: t.rows, n: t.gauges, picked: [false; 64], chain: [0; 64], out }.list(!0);
+    stdout.write_all(space.as_bytes()).expect("written");
 }
 
 fn main() {
     let words: Vec<String> = std::env::args().collect();
-    let by_cases = words[1] == "cases";
     let repeats: u64 = words[2].split_whitespace().nth(1).expect("BUDGET REPEATS").parse().expect("a number");
-    let (gauges, cases, rows) = read_table();
-    let mut tally = Tally { count: 0, sum: 0 };
-    for _ in 0..repeats {
-        let (rows, n) = if by_cases { (exchanged(&rows, gauges, cases), cases) } else { (rows, gauges) };
-        let tally = &mut tally;
-        let out = |chain: &[u64; 64]| {
-            if by_cases {
-                tally.add(&exchanged(chain, cases, gauges), gauges);
-            } else {
-                tally.add(chain, gauges);
+    let kind = words.get(3).map_or("arrays", |word| word.as_str());
+    let mut file = String::new();
+    std::io::stdin().read_to_string(&mut file).expect("a file on standard input");
+    let t = read_table(&file);
+    let mut sum: u64 = 0;
+    match words[1].as_str() {
+        "read" => {
+            for _ in 0..repeats {
+                sum = sum.wrapping_add(read_table(black_box(&file)).rows[0]);
             }
-        };
-        let mut plain = Plain { rows, n, picked: [false; 64], chain: [0; 64], out };
-        plain.list(!0);
+            println!("{sum}");
+        }
+        "write" => {
+            let mut space = String::new();
+            for _ in 0..repeats {
+                space.clear();
+                write_table(black_box(&t.rows), t.gauges, t.cases, &mut space);
+                let byte = space.as_bytes().get((sum % 64) as usize).map_or(0, |byte| *byte as u64);
+                sum = sum.wrapping_add(space.len() as u64).wrapping_add(byte);
+            }
+            println!("{sum}");
+        }
+        "list" => list(&t),
+        side => {
+            let tally = repeat(&t, side == "cases", kind, repeats);
+            println!("{} {}", tally.count, tally.sum);
+        }
     }
-    println!("{} {}", tally.count, tally.sum);
 }

@@ -453,6 +453,13 @@ plain-call n rows order z long test e d omit w k count p b c k′ rep h =
     plain-carried n (take n rows) (length-take-le n rows (omega (arith, z .few, z .size))) (z .few) order (plain-is n order (z .few) long (sym e ∙ d)) omit w k
     count p b c k′ rep h
 
+-- a call with the flag as it was found to be is the call with the flag
+pub flag-found : (r : List ℕ) (omit flag : Bool) → omit ≡ flag → (w : List ℕ) (n : ℕ) (order k : List ℕ) (count : ℕ) (f : Phase) (b : ℕ)
+    (c′ k′ : List ℕ) (rep : Report) → Ordered (λ q. placedMove r q flag w) n r order k count f b c′ k′ rep
+    → Ordered (λ q. placedMove r q omit w) n r order k count f b c′ k′ rep
+flag-found r omit flag e w n order k count f b c′ k′ rep h =
+    subst (λ (x : Bool). Ordered (λ q. placedMove r q x w) n r order k count f b c′ k′ rep) (sym e) h
+
 -- ---- 27
 pub refused-order : (mv : List ℕ → State → Move) (n : ℕ) (r order k : List ℕ) (count : ℕ) (f : Phase) (b : ℕ) (c′ k′ : List ℕ) (rep : Report)
     → isPreference n order ≡ false → rep ≡ refusedReport NotAnArrangement → Ordered mv n r order k count f b c′ k′ rep

@@ -36,6 +36,52 @@ pub fn call(
     if preference::is_plain(order, n) {
         return engine::call(rows, n, omit, wanted, chain, picks, count, mode, budget);
     }
+    if omit {
+        return by_order(
+            rows,
+            n,
+            order,
+            true,
+            wanted,
+            chain,
+            picks,
+            count,
+            mode,
+            budget,
+        );
+    }
+    by_order(
+        rows,
+        n,
+        order,
+        false,
+        wanted,
+        chain,
+        picks,
+        count,
+        mode,
+        budget,
+    )
+}
+
+// The same for any order, placed first. It is called at two places so that it stays a function of its own: then `call` is small, becomes part of
+// both sides' calls, and the order 1, 2, 3 and on costs no call on the way to the core.
+fn by_order(
+    rows: &[u64; 64],
+    n: usize,
+    order: &[u8; 64],
+    omit: bool,
+    wanted: &[u64; 64],
+    chain: &mut [u64; 64],
+    picks: &mut [u8; 64],
+    count: u64,
+    mode: Mode,
+    budget: u64,
+) -> Report
+    requires { ⌜ (Sized n (now rows)) × (length (now order) ≡ 64) × (length (now wanted) ≡ 64) × (now chain ≡ noRows) × (length (now picks) ≡ 64) ⌝ }
+    ensures { λ r. ⌜ Ordered (λ o. placedMove (take n (now (rows .entry))) o omit (now (wanted .entry))) n (take n (now (rows .entry)))
+        (now (order .entry)) (now (picks .entry)) count (modePhase mode) budget (now (chain .exit)) (now (picks .exit)) r ⌝ }
+{
     let placed = preference::place_all(*order, n);
     if !placed.ok {
         return engine::refused(Refusal::NotAnArrangement);

@@ -1,11 +1,9 @@
--- `runs::ordered::call` meets its contract: 1, 2, 3 and on goes straight to the core (`plain-call`); what is no arrangement is refused
--- (`refused-order`); and another order goes by place.
-use mathlib.Core.Path.{_∙_}
+-- `runs::ordered::call` meets its contract: 1, 2, 3 and on goes straight to the core (`plain-call`); any other order goes by order, with the flag as it
+-- was found (`flag-found`).
+use mathlib.Core.Bool.{true, false}
 use borrow.Author.Needs.{needs}
-use borrow.Author.Tests.{not-true, not-false}
 use denote.Ref.{now}
-use Rattle.preference.proofs.Placing.{places-are, places-none}
-use Rattle.runs.proofs.Ordering.{plain-call, refused-order}
+use Rattle.runs.proofs.Ordering.{plain-call, flag-found}
 use Rattle.runs.proofs.ordered.call.Statement.{statement}
 use Rattle.runs.proofs.ordered.call.Tie as tie
 
@@ -22,28 +20,17 @@ returns c =
     let s = p .before in
     plain-call _ _ (now (s .args .order)) (s .pre .0) (s .pre .1) _ (p .is-plain .ensures) (b .if1 .taken) _ _ _ _ _ _ _ _ _ (c .call .ensures)
 
-place-all-requires : tie.Need-place-all-requires
-place-all-requires c κs = search needs
-
-refused-requires : tie.Need-refused-requires
-refused-requires c κs = search needs
+by-order-requires : tie.Need-by-order-requires
+by-order-requires c κs = c .before .before .before .before .before .pre
 
 returns-2 : tie.Need-returns-2
-returns-2 c =
-    let b = c .before in
-    let p = b .before .before in
-    refused-order _ _ _ _ _ _ _ _ _ _ _ (places-none _ _ _ (p .place-all .ensures) (not-true _ (b .if2 .taken))) (c .refused .ensures)
+returns-2 c = flag-found _ _ true (c .before .before .before .if2 .taken) _ _ _ _ _ _ _ _ _ _ (c .by-order .ensures)
 
-by-place-requires : tie.Need-by-place-requires
-by-place-requires c κs =
-    let b = c .before .before .before .before in
-    let p = b .before .before in
-    let s = p .before .before .before .before in
-    let (is, are) = places-are _ _ _ (p .place-all .ensures) (not-false _ (b .if2 .left)) in
-    (s .pre .0, s .pre .1, s .pre .2, s .pre .3, s .pre .4, is, are)
+by-order-requires-2 : tie.Need-by-order-requires-2
+by-order-requires-2 c κs = c .before .before .before .before .before .pre
 
 returns-3 : tie.Need-returns-3
-returns-3 c = search needs
+returns-3 c = flag-found _ _ false (c .before .before .before .if2 .left) _ _ _ _ _ _ _ _ _ _ (c .by-order2 .ensures)
 
 pub call-spec : {M : Type 1} → statement M
 call-spec =
@@ -52,8 +39,7 @@ call-spec =
     is-plain-requires
     call-requires
     returns
-    place-all-requires
-    refused-requires
+    by-order-requires
     returns-2
-    by-place-requires
+    by-order-requires-2
     returns-3)
