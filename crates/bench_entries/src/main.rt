@@ -1,8 +1,8 @@
 // What bench/run measures beside the runs: one entry of the library, called some times over with the table of a file from standard input.
 // Arguments: the entry, `count`, `grow`, `read` or `write`, and a budget, which only `count` takes, with the number of repeats, as one word of two
-// numbers. It writes a sum that depends on every answer: ladders and calls for `count`, the first row for `grow` and `read`, the length and
-// a byte for `write`. What is handed in differs from turn to turn, so that no call can be left out: `count` and `read` get a budget and a file that are one
-// shorter after an odd sum, `grow` a chain of one pair, of each gauge in turn, `write` a buffer that was written before.
+// numbers. It writes a sum that depends on every answer: ladders and calls for `count`, the first row for `grow` and `read`, the length and a byte
+// for `write`. What is handed in differs from turn to turn, so that no call can be left out: `count` and `read` get a budget and a file that are
+// one shorter after an odd sum, `grow` a chain of one row, of each place in turn, `write` a buffer that was written before.
 use count::Count;
 use libc::STDIN_FILENO;
 use libc::STDOUT_FILENO;
@@ -99,18 +99,15 @@ fn repeat_grow(t: Table, repeats: u64) -> u64 {
     sum
 }
 
-// Grows the chain of one pair, the lowest case of the row at a place; the empty chain where that row has no case.
+// Grows the chain that has the row at one place, and no other.
 fn grown(t: Table, order: GaugeOrder, place: u64, before: u64) -> u64 {
     let rows = t.rows;
-    let mut pair = [0u64; 64];
+    let mut one = [0u64; 64];
     let i = (place % 64) as usize;
-    let row = rows[i];
-    if row != 0 {
-        pair[i] = row - (row & (row - 1));
-    }
+    one[i] = rows[i];
     let s = Chain {
         gauges: t.gauges,
-        rows: pair,
+        rows: one,
     };
     let answer = extend::extend_chain(t, order, s);
     let chain = answer.chain;
@@ -170,7 +167,11 @@ fn byte_at(space: &[u8], place: u64) -> u64 {
     if space.len() <= i {
         return 0;
     }
-    space[i] as u64
+    wide(space[i])
+}
+
+fn wide(b: u8) -> u64 {
+    b as u64
 }
 
 fn plus(a: u64, b: u64) -> u64 {
