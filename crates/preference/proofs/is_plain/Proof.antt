@@ -30,7 +30,8 @@ plain-number-requires : tie.Need-plain-number-requires Inv-loop μ-loop
 plain-number-requires c κs = (omega arith, omega arith)
 
 -- the number made is the one that belongs there
-due : (p : tie.After-plain-number Inv-loop μ-loop) → p .plain-number .result ≡ plainAt (p .before .before .before .before .before .args .n) (p .before .before .before .loop .i)
+due : (p : tie.After-plain-number Inv-loop μ-loop)
+    → p .plain-number .result ≡ plainAt (p .before .before .before .before .before .args .n) (p .before .before .before .loop .i)
 due p =
     let t = p .before .before in
     lifted-at _ _ _ _ (t .loop-test .taken) (t .before .before .lift-of .ensures) (p .plain-number .ensures)
