@@ -1,0 +1,70 @@
+-- `c_chains::rivals` meets its contract: the promise of the table that the words read as.
+use mathlib.Core.Logic.{inl, inr}
+use Rattle.essentials.specs.Answers.{conflictSet}
+use Rattle.words.proofs.Serving.{gives-short, gives-refused, gives-accepted, long-two}
+use Rattle.c_chains.proofs.Serving.{conflicts-at}
+use Rattle.conflicts.proofs.Covering.{conflict-claims}
+use borrow.Author.Needs.{needs}
+use Rattle.c_chains.proofs.rivals.Statement.{statement}
+use Rattle.c_chains.proofs.rivals.Tie as tie
+
+returns : tie.Need-returns
+returns c = (gives-short _ (inl (c .if1 .taken)), λ e. conflict-claims _)
+
+returns-2 : tie.Need-returns-2
+returns-2 c = (gives-short _ (inr (c .if2 .taken)), λ e. conflict-claims _)
+
+table-at-requires : tie.Need-table-at-requires
+table-at-requires c κs = search needs
+
+conflicts-of-requires : tie.Need-conflicts-of-requires
+conflicts-of-requires c κs = search needs
+
+verdict-number-requires : tie.Need-verdict-number-requires
+verdict-number-requires c κs = search needs
+
+returns-3 : tie.Need-returns-3
+returns-3 c =
+    let n = c .before in
+    let x = n .before in
+    let e = x .before .before in
+    let a = e .before .before .before .before .args in (
+      gives-refused _ (long-two (e .before .if1 .left) (e .if2 .left)) (conflictSet (x .conflicts-of .result))
+          (conflicts-at (a .table .now) _ (x .before .table-at .ensures) (a .gauge) (a .case) _ (x .conflicts-of .ensures .0)) _
+          (n .verdict-number .ensures) (c .if3 .taken),
+      λ e. conflict-claims _,
+    )
+
+put-rows-requires : tie.Need-put-rows-requires
+put-rows-requires c κs = search needs
+
+same-length : tie.Need-same-length
+same-length c = search needs
+
+returns-4 : tie.Need-returns-4
+returns-4 c =
+    let z = c .before .before .before .before .before .before in
+    let n = z .before in
+    let x = n .before in
+    let e = x .before .before in
+    let a = e .before .before .before .before .args in (
+      gives-accepted _ _ (long-two (e .before .if1 .left) (e .if2 .left)) (conflictSet (x .conflicts-of .result))
+          (conflicts-at (a .table .now) _ (x .before .table-at .ensures) (a .gauge) (a .case) _ (x .conflicts-of .ensures .0)) _
+          (n .verdict-number .ensures) (z .if3 .left)
+          (c .before .before .put-rows .ensures),
+      λ e. conflict-claims _,
+    )
+
+pub rivals-spec : {M : Type 1} → statement M
+rivals-spec =
+    tie.close
+    (tie.spec
+    returns
+    returns-2
+    table-at-requires
+    conflicts-of-requires
+    verdict-number-requires
+    returns-3
+    put-rows-requires
+    same-length
+    returns-4)

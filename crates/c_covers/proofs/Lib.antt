@@ -1,0 +1,5 @@
+-- Laws that belong to no one function.
+pub mod Storing
+pub mod Serving
+pub mod Answers
+pub mod Back

@@ -1,0 +1,2 @@
+-- What a reader must believe of reading, writing and comments on lent words and bytes.
+pub mod Serving

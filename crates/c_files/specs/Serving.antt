@@ -1,0 +1,48 @@
+-- What the entries on files give: in words, what the library's own function promises of the bytes, and of the table that the words read as.
+--
+-- Elsewhere: the layouts, words/specs/Layouts; the number returned and what a slice of words is left with, words/specs/Serving.
+use mathlib.Core.Path.{_≡_}
+use mathlib.Core.Logic.{_⊎_}
+use mathlib.Core.List.{List, [], _∷_}
+use Prim.Native.Nat.{ℕ, _<_}
+use lib.ListN.{length}
+use Rattle.refusals.specs.Answers.{Answer}
+use Rattle.table.specs.declared.Table.{Table}
+use Rattle.reader.specs.Reading.{readFile}
+use Rattle.reader.specs.Comments.{Part, commentAt}
+use Rattle.writer.specs.Writing.{writeAnswer, bufferAfter}
+use Rattle.words.specs.Layouts.{tableAt, tableWords}
+use Rattle.words.specs.Serving.{left, Gives}
+
+-- the table of a file of pairs
+abbrev pub Reads : List ℕ → List ℕ → List ℕ → ℕ → Type 0
+Reads file out out′ r =
+    Gives (length out < 66)
+    (λ (a : Answer Table). a ≡ readFile file)
+    (λ (a : Answer Table). a .refusal)
+    (λ (a : Answer Table). tableWords (a .value))
+    out
+    out′
+    r
+
+-- where comment k of a file starts, and its length
+abbrev pub ShowsComment : List ℕ → ℕ → List ℕ → List ℕ → ℕ → Type 0
+ShowsComment file k out out′ r =
+    Gives (length out < 2)
+    (λ (a : Answer Part). a ≡ commentAt file k)
+    (λ (a : Answer Part). a .refusal)
+    (λ (a : Answer Part). a .value .start ∷ (a .value .len ∷ []))
+    out
+    out′
+    r
+
+-- the file of a table at the front of the bytes, and its length; 16 where they are too few. The bytes are left as the writer leaves them, as they
+-- were where it refuses
+pub record WrittenTable (t : Table) (bytes len bytes′ len′ : List ℕ) (r : ℕ) : Type 0 where
+  pub number : r ≡ writeAnswer t (length bytes) .refusal
+  pub file : bytes′ ≡ bufferAfter t bytes
+  pub size : len′ ≡ left r (writeAnswer t (length bytes) .value ∷ []) len
+
+pub record WritesTable (t bytes len bytes′ len′ : List ℕ) (r : ℕ) : Type 0 where
+  pub short : (length t < 66) ⊎ (length len < 1) → (r ≡ 100) × (bytes′ ≡ bytes) × (len′ ≡ len)
+  pub served : ¬ ((length t < 66) ⊎ (length len < 1)) → WrittenTable (tableAt 0 t) bytes len bytes′ len′ r

@@ -1,0 +1,11 @@
+-- Laws that belong to no one function.
+pub mod Serving
+pub mod Sides
+pub mod Deciding
+pub mod HandOuts
+pub mod Returned
+pub mod Telling
+pub mod WordCalls
+pub mod Contracts
+pub mod Foreign
+pub mod Pinned

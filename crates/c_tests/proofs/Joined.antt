@@ -1,0 +1,70 @@
+-- The entries one after another: what a call of the reader leaves in the slices is what the writer and the comparison take, the test that the file holds
+-- (`read-back`, `read-passes`); and both refuse a word that is no kind with 10, or else 11 (`no-kind-written`,
+-- `no-kind-compared`).
+use mathlib.Core.Path.{_≡_, ap, sym, _∙_}
+use mathlib.Core.Bool.{false}
+use mathlib.Core.Logic.{_⊎_, inl, inr}
+use mathlib.Core.List.{List}
+use Prim.Native.Nat.{ℕ, _<_, _≤_}
+use native.Mathlib.Omega.{arith}
+use lib.IntN.{ℤ}
+use lib.ListN.{length}
+use borrow.Author.Tests.{ne-eqb}
+use Rattle.refusals.specs.Answers.{verdict}
+use Rattle.recorded.specs.Tests.{LegalTest, testRefusal}
+use Rattle.recorded.specs.Equality.{twoRefusal, ComparedAs}
+use Rattle.recorded.specs.declared.Test.{Test}
+use Rattle.recorded.specs.declared.Compared.{Compared}
+use Rattle.recorded.proofs.Legality.{legal-test}
+use Rattle.reader.specs.Reading.{readTest}
+use Rattle.reader.proofs.Answered.{read-test-legal}
+use Rattle.writer.specs.Writing.{roomRefusal}
+use Rattle.words.specs.Layouts.{wordAt}
+use Rattle.words.specs.Serving.{left}
+use Rattle.c_tests.specs.Layouts.{isKind, testAt, testWords}
+use Rattle.c_tests.specs.Serving.{ShortTest, leftReadings, LeavesTest, ReadsTest, WrittenTest}
+use Rattle.c_tests.proofs.Reading.{test-back, no-kind-refused}
+
+not-short : {n m : ℕ} → ¬ (m < n) → n ≤ m
+not-short {n} {m} h = omega arith
+
+-- ---- a call of the reader that returned 0
+module _ (file : List ℕ) (cutoff : ℕ) (w : List ℕ) (v : List ℤ) (t w′ : List ℕ) (v′ : List ℤ) (t′ : List ℕ) (r : ℕ)
+    (given : ReadsTest file cutoff w v t w′ v′ t′ r) (e : r ≡ 0) where
+  long : ¬ (ShortTest w v ⊎ (length t < 66))
+  long s = omega (arith, given .short s .0)
+
+  leaves : LeavesTest (readTest file cutoff) w v t w′ v′ t′ r
+  leaves = given .served long
+
+  legal : LegalTest (readTest file cutoff .value .test)
+  legal = read-test-legal file cutoff (sym (leaves .number) ∙ e) .0
+
+  pub read-back : testAt w′ v′ ≡ readTest file cutoff .value .test
+  read-back =
+      let x = readTest file cutoff .value .test in
+      ap (λ (y : List ℕ). testAt y v′) (leaves .test ∙ ap (λ (n : ℕ). left n (testWords x) w) e)
+      ∙ ap (λ (y : List ℤ). testAt (left 0 (testWords x) w) y) (leaves .readings ∙ ap (λ (n : ℕ). leftReadings n (x .readings) v) e)
+      ∙ test-back x (legal .entries-legal .rows-length) (legal .readings-length) w v
+      (not-short (λ s. long (inl (inl s)))) (not-short (λ s. long (inl (inr s))))
+
+  pub read-passes : testRefusal (testAt w′ v′) ≡ 0
+  read-passes = ap testRefusal read-back ∙ legal-test (readTest file cutoff .value .test) legal
+
+-- ---- a word that is no kind: where the checks of its test refuse, theirs is the number
+ten-or-eleven : (n r : ℕ) → (n ≡ 10) ⊎ (n ≡ 11) → (¬ (n ≡ 0) → r ≡ n) → (r ≡ 10) ⊎ (r ≡ 11)
+ten-or-eleven n r (inl e) f = inl (f (λ z. omega arith) ∙ e)
+ten-or-eleven n r (inr e) f = inr (f (λ z. omega arith) ∙ e)
+
+module _ (w : List ℕ) (v : List ℤ) (h : isKind (wordAt w 0) ≡ false) where
+  pub no-kind-written : (bytes len bytes′ len′ : List ℕ) (r : ℕ) → WrittenTest (testAt w v) bytes len bytes′ len′ r → (r ≡ 10) ⊎ (r ≡ 11)
+  unfolding roomRefusal
+  no-kind-written bytes len bytes′ len′ r x =
+      ten-or-eleven (testRefusal (testAt w v)) r (no-kind-refused w v h) (λ n. x .number ∙ rw (ne-eqb (testRefusal (testAt w v)) 0 n))
+
+  -- of the first of two tests
+  pub no-kind-compared : (b : Test) (x : Compared) → ComparedAs (testAt w v) b x → (verdict (x .verdict) ≡ 10) ⊎ (verdict (x .verdict) ≡ 11)
+  unfolding twoRefusal
+  no-kind-compared b x y =
+      ten-or-eleven (testRefusal (testAt w v)) (verdict (x .verdict)) (no-kind-refused w v h)
+      (λ n. y .refusal ∙ rw (ne-eqb (testRefusal (testAt w v)) 0 n))

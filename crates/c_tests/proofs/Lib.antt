@@ -1,0 +1,6 @@
+-- Laws that belong to no one function. For users of the entries: `Reading` and `Joined`.
+pub mod Readings
+pub mod Reading
+pub mod Serving
+pub mod Joined
+pub mod Answers
