@@ -1,0 +1,283 @@
+/* Every size and every offset of include/ragymolev.h, against what the library does. First the sizes: each entry takes memory of exactly its layouts,
+ * refuses one element less with RG_SHORT, and leaves one element more as it was. Then the offsets: known values go through the library, and
+ * stand where the header says. */
+#include "check.h"
+
+static const uint64_t first_of_k3[RG_CHAIN_WORDS] = {3, 3, 3, 2};
+static const uint64_t second_of_k3[RG_CHAIN_WORDS] = {3, 2, 2, 6};
+
+/* Whether the words from `at` on are these, and zeros up to the end of a set of rows. */
+static int rows_are(const uint64_t *at, uint64_t a, uint64_t b, uint64_t c) {
+    int i, same = at[0] == a && at[1] == b && at[2] == c;
+    for (i = 3; i < RG_ROWS; i++) same = same && at[i] == 0;
+    return same;
+}
+
+/* --- sizes. Each piece of memory has room for one element more than its layout, which holds a mark. */
+
+#define MARK 0x5a5a5a5au
+enum { BYTES = RG_FILE_BYTES + 1 };
+
+static uint64_t table[RG_TABLE_WORDS + 1], order[RG_ORDER_WORDS + 1], chain[RG_CHAIN_WORDS + 1], ladder[RG_CHAIN_WORDS + 1];
+static uint64_t run[RG_RUN_WORDS + 1], by_cases[RG_RUN_WORDS + 1], step[RG_STEP_WORDS + 1], count[RG_COUNT_WORDS + 1], one[RG_ONE_WORDS + 1];
+static uint64_t pairs[RG_PAIRS_WORDS + 1], cover[RG_COVER_WORDS + 1], proposal[RG_PROPOSAL_WORDS + 1], span[RG_SPAN_WORDS + 1];
+static uint64_t made[RG_TABLE_WORDS + 1], grown[RG_CHAIN_WORDS + 1], test[RG_TEST_WORDS + 1];
+static int32_t readings[RG_READINGS + 1];
+static uint8_t bytes[BYTES];
+static const char file[] = "%%MatrixMarket matrix coordinate pattern general\n%note\n3 3 6\n1 1\n1 2\n2 1\n2 2\n3 2\n3 3\n";
+#define FILE_LENT (const uint8_t *)file, sizeof file - 1
+
+static uint64_t at_read(const size_t *n) { return rg_read(FILE_LENT, made, n[0]); }
+static uint64_t at_comment(const size_t *n) { return rg_comment(FILE_LENT, 1, span, n[0]); }
+static uint64_t at_write(const size_t *n) { return rg_write(table, n[0], bytes, BYTES, one, n[1]); }
+static uint64_t at_sample(const size_t *n) { return rg_sample(3, 3, 1, 128, made, n[0]); }
+static uint64_t at_judge_chain(const size_t *n) { return rg_judge_chain(table, n[0], chain, n[1], one, n[2]); }
+static uint64_t at_judge_ladder(const size_t *n) { return rg_judge_ladder(table, n[0], chain, n[1], one, n[2]); }
+static uint64_t at_start_gauges(const size_t *n) { return rg_start_gauges(table, n[0], order, n[1], 0, run, n[2]); }
+static uint64_t at_start_cases(const size_t *n) { return rg_start_cases(table, n[0], order, n[1], 0, by_cases, n[2]); }
+static uint64_t at_run_gauges(const size_t *n) { return rg_run_gauges(run, n[0], 9, step, n[1]); }
+static uint64_t at_run_cases(const size_t *n) { return rg_run_cases(by_cases, n[0], 9, step, n[1]); }
+static uint64_t at_explain_gauge(const size_t *n) { return rg_explain_gauge(run, n[0], 3, 3, one, n[1]); }
+static uint64_t at_explain_case(const size_t *n) { return rg_explain_case(by_cases, n[0], 1, 1, one, n[1]); }
+static uint64_t at_count(const size_t *n) { return rg_count(table, n[0], order, n[1], 99, count, n[2]); }
+static uint64_t at_grow(const size_t *n) { return rg_grow(table, n[0], order, n[1], chain, n[2], grown, n[3]); }
+static uint64_t at_rivals(const size_t *n) { return rg_rivals(table, n[0], 1, 1, pairs, n[1]); }
+static uint64_t at_decides(const size_t *n) { return rg_decides(table, n[0], 1, 1, one, n[1]); }
+static uint64_t at_cover(const size_t *n) { return rg_cover(table, n[0], 99, cover, n[1]); }
+static uint64_t at_order(const size_t *n) { return rg_order(table, n[0], chain, n[1], ladder, n[2], bytes, BYTES, one, n[3]); }
+static uint64_t at_trial(const size_t *n) { return rg_trial(table, n[0], ladder, n[1], 3, 1, proposal, n[2]); }
+static uint64_t at_commit(const size_t *n) { return rg_commit(proposal, n[0], table, n[1], made, n[2]); }
+static uint64_t at_read_test(const size_t *n) { return rg_read_test(FILE_LENT, 5, test, n[0], readings, n[1], made, n[2]); }
+static uint64_t at_write_test(const size_t *n) { return rg_write_test(test, n[0], readings, n[1], bytes, BYTES, one, n[2]); }
+static uint64_t at_equal(const size_t *n) { return rg_equal(test, n[0], readings, n[1], test, n[2], readings, n[3], one, n[4]); }
+
+/* The entries in an order in which each finds what it needs: the layouts of its memory, 0 behind the last. */
+typedef struct {
+    const char *name;
+    uint64_t (*call)(const size_t *);
+    size_t layouts[6];
+} Entry;
+
+static const Entry entries[] = {
+    {"rg_read", at_read, {RG_TABLE_WORDS}},
+    {"rg_comment", at_comment, {RG_SPAN_WORDS}},
+    {"rg_write", at_write, {RG_TABLE_WORDS, RG_ONE_WORDS}},
+    {"rg_sample", at_sample, {RG_TABLE_WORDS}},
+    {"rg_judge_chain", at_judge_chain, {RG_TABLE_WORDS, RG_CHAIN_WORDS, RG_ONE_WORDS}},
+    {"rg_judge_ladder", at_judge_ladder, {RG_TABLE_WORDS, RG_CHAIN_WORDS, RG_ONE_WORDS}},
+    {"rg_start_gauges", at_start_gauges, {RG_TABLE_WORDS, RG_ORDER_WORDS, RG_RUN_WORDS}},
+    {"rg_start_cases", at_start_cases, {RG_TABLE_WORDS, RG_ORDER_WORDS, RG_RUN_WORDS}},
+    {"rg_run_gauges", at_run_gauges, {RG_RUN_WORDS, RG_STEP_WORDS}},
+    {"rg_run_cases", at_run_cases, {RG_RUN_WORDS, RG_STEP_WORDS}},
+    {"rg_count", at_count, {RG_TABLE_WORDS, RG_ORDER_WORDS, RG_COUNT_WORDS}},
+    {"rg_grow", at_grow, {RG_TABLE_WORDS, RG_ORDER_WORDS, RG_CHAIN_WORDS, RG_CHAIN_WORDS}},
+    {"rg_rivals", at_rivals, {RG_TABLE_WORDS, RG_PAIRS_WORDS}},
+    {"rg_decides", at_decides, {RG_TABLE_WORDS, RG_ONE_WORDS}},
+    {"rg_cover", at_cover, {RG_TABLE_WORDS, RG_COVER_WORDS}},
+    {"rg_order", at_order, {RG_TABLE_WORDS, RG_CHAIN_WORDS, RG_CHAIN_WORDS, RG_ONE_WORDS}},
+    {"rg_trial", at_trial, {RG_TABLE_WORDS, RG_CHAIN_WORDS, RG_PROPOSAL_WORDS}},
+    {"rg_commit", at_commit, {RG_PROPOSAL_WORDS, RG_TABLE_WORDS, RG_TABLE_WORDS}},
+    {"rg_read_test", at_read_test, {RG_TEST_WORDS, RG_READINGS, RG_TABLE_WORDS}},
+    {"rg_write_test", at_write_test, {RG_TEST_WORDS, RG_READINGS, RG_ONE_WORDS}},
+    {"rg_equal", at_equal, {RG_TEST_WORDS, RG_READINGS, RG_TEST_WORDS, RG_READINGS, RG_ONE_WORDS}},
+};
+static const Entry questions[] = {
+    {"rg_explain_gauge", at_explain_gauge, {RG_RUN_WORDS, RG_ONE_WORDS}},
+    {"rg_explain_case", at_explain_case, {RG_RUN_WORDS, RG_ONE_WORDS}},
+};
+
+static void set_marks(void) {
+    table[RG_TABLE_WORDS] = order[RG_ORDER_WORDS] = chain[RG_CHAIN_WORDS] = ladder[RG_CHAIN_WORDS] = grown[RG_CHAIN_WORDS] = MARK;
+    run[RG_RUN_WORDS] = by_cases[RG_RUN_WORDS] = step[RG_STEP_WORDS] = count[RG_COUNT_WORDS] = one[RG_ONE_WORDS] = pairs[RG_PAIRS_WORDS] = MARK;
+    cover[RG_COVER_WORDS] = proposal[RG_PROPOSAL_WORDS] = span[RG_SPAN_WORDS] = test[RG_TEST_WORDS] = made[RG_TABLE_WORDS] = MARK;
+    readings[RG_READINGS] = (int32_t)MARK;
+}
+
+static int marks_stand(void) {
+    return table[RG_TABLE_WORDS] == MARK && order[RG_ORDER_WORDS] == MARK && chain[RG_CHAIN_WORDS] == MARK && ladder[RG_CHAIN_WORDS] == MARK &&
+           grown[RG_CHAIN_WORDS] == MARK && run[RG_RUN_WORDS] == MARK && by_cases[RG_RUN_WORDS] == MARK && step[RG_STEP_WORDS] == MARK &&
+           count[RG_COUNT_WORDS] == MARK && one[RG_ONE_WORDS] == MARK && pairs[RG_PAIRS_WORDS] == MARK && cover[RG_COVER_WORDS] == MARK &&
+           proposal[RG_PROPOSAL_WORDS] == MARK && span[RG_SPAN_WORDS] == MARK && test[RG_TEST_WORDS] == MARK && made[RG_TABLE_WORDS] == MARK &&
+           readings[RG_READINGS] == (int32_t)MARK;
+}
+
+static void sizes_of(const Entry *entry) {
+    size_t n[6], i;
+    int before = failed;
+    memcpy(n, entry->layouts, sizeof n);
+    for (i = 0; n[i]; i++) {
+        n[i]--;
+        CHECK(entry->call(n) == RG_SHORT);
+        n[i]++;
+    }
+    CHECK(entry->call(n) == RG_ACCEPTED);
+    for (i = 0; n[i]; i++) n[i]++;
+    CHECK(entry->call(n) == RG_ACCEPTED);
+    CHECK(marks_stand());
+    if (failed != before) printf("  of %s\n", entry->name);
+}
+
+static void sizes(void) {
+    size_t i;
+    const size_t n[] = {RG_RUN_WORDS, RG_STEP_WORDS};
+    memcpy(table, k3, sizeof k3);
+    memcpy(order, plain_of_3, sizeof plain_of_3);
+    memcpy(ladder, first_of_k3, sizeof first_of_k3);
+    chain[RG_CHAIN_COUNT] = 3;
+    set_marks();
+    for (i = 0; i < sizeof entries / sizeof entries[0]; i++) sizes_of(&entries[i]);
+    /* A question is put to a run that is paused at a ladder: the first of the gauge run lacks 3:3, the first of the case run 1:1 or 3:3. */
+    CHECK(rg_start_gauges(k3, RG_TABLE_WORDS, plain_of_3, RG_ORDER_WORDS, 0, run, RG_RUN_WORDS) == 0 && at_run_gauges(n) == 0);
+    CHECK(rg_start_cases(k3, RG_TABLE_WORDS, plain_of_3, RG_ORDER_WORDS, 0, by_cases, RG_RUN_WORDS) == 0);
+    do CHECK(at_run_cases(n) == 0);
+    while (step[RG_STEP_OUTCOME] != RG_END && (step[RG_STEP_CHAIN + RG_CHAIN_ROWS] & 1));
+    for (i = 0; i < sizeof questions / sizeof questions[0]; i++) sizes_of(&questions[i]);
+}
+
+/* --- offsets */
+
+static void offsets_of_table(void) {
+    static const char text[] = "%%MatrixMarket matrix coordinate pattern general\n3 4 4\n1 2\n2 1\n2 4\n3 3\n";
+    uint64_t t[RG_TABLE_WORDS];
+    CHECK(rg_read((const uint8_t *)text, sizeof text - 1, t, RG_TABLE_WORDS) == RG_ACCEPTED);
+    CHECK(t[RG_TABLE_GAUGES] == 3 && t[RG_TABLE_CASES] == 4);
+    CHECK(rows_are(t + RG_TABLE_ROWS, 2, 9, 4));
+    CHECK(RG_TABLE_ROWS + RG_ROWS == RG_TABLE_WORDS);
+}
+
+static void offsets_of_file(void) {
+    uint64_t s[RG_SPAN_WORDS];
+    CHECK(rg_comment(FILE_LENT, 1, s, RG_SPAN_WORDS) == RG_ACCEPTED);
+    CHECK(s[RG_SPAN_START] == 49 && s[RG_SPAN_LENGTH] == 5 && memcmp(file + s[RG_SPAN_START], "%note", 5) == 0);
+}
+
+/* The full table: the bytes that are always enough, and not one fewer. */
+static void bytes_enough(void) {
+    static uint64_t full[RG_TABLE_WORDS], n[1];
+    CHECK(rg_sample(RG_MOST, RG_MOST, 1, 256, full, RG_TABLE_WORDS) == RG_ACCEPTED);
+    CHECK(rg_write(full, RG_TABLE_WORDS, bytes, RG_TABLE_BYTES - 1, n, 1) == RG_BUFFER);
+    CHECK(rg_write(full, RG_TABLE_WORDS, bytes, RG_TABLE_BYTES, n, 1) == RG_ACCEPTED && n[0] == RG_TABLE_BYTES);
+    CHECK(rg_read(bytes, RG_FILE_BYTES + 1, full, RG_TABLE_WORDS) == RG_LONG_FILE);
+}
+
+/* From no pair to the one ladder of the full table: the longest order. */
+static void bytes_of_order(void) {
+    static uint64_t full[RG_TABLE_WORDS], none[RG_CHAIN_WORDS], all[RG_CHAIN_WORDS], n[1];
+    int i;
+    CHECK(rg_sample(RG_MOST, RG_MOST, 1, 256, full, RG_TABLE_WORDS) == RG_ACCEPTED);
+    none[RG_CHAIN_COUNT] = all[RG_CHAIN_COUNT] = RG_MOST;
+    for (i = 0; i < RG_ROWS; i++) all[RG_CHAIN_ROWS + i] = full[RG_TABLE_ROWS + i];
+    CHECK(rg_order(full, RG_TABLE_WORDS, none, RG_CHAIN_WORDS, all, RG_CHAIN_WORDS, bytes, RG_PAIR_BYTES - 1, n, 1) == RG_BUFFER);
+    CHECK(rg_order(full, RG_TABLE_WORDS, none, RG_CHAIN_WORDS, all, RG_CHAIN_WORDS, bytes, RG_PAIR_BYTES, n, 1) == RG_ACCEPTED && n[0] == 4096);
+    CHECK(bytes[0] == 1 && bytes[1] == 1 && bytes[2] == 1 && bytes[3] == 2);
+}
+
+static int run_is(const uint64_t *r, uint64_t phase, uint64_t from, uint64_t picks, uint64_t a, uint64_t b, uint64_t c) {
+    return r[RG_RUN_PHASE] == phase && r[RG_RUN_FROM] == from && r[RG_RUN_COUNT] == picks && rows_are(r + RG_RUN_PICKS, a, b, c);
+}
+
+/* A gauge run of K3 with gauge 3 the most trusted, move by move: picks 3 1 2, hands out, takes 2 back, takes 1 back. */
+static void offsets_of_run(void) {
+    static const uint64_t third_first[RG_ORDER_WORDS] = {3, 1, 2};
+    uint64_t r[RG_RUN_WORDS], s[RG_STEP_WORDS];
+    CHECK(rg_start_gauges(k3, RG_TABLE_WORDS, third_first, RG_ORDER_WORDS, 7, r, RG_RUN_WORDS) == RG_ACCEPTED);
+    CHECK(r[RG_RUN_SIDE] == RG_SIDE_GAUGES && r[RG_RUN_OMIT] == 1 && run_is(r, RG_DOWN, 0, 0, 0, 0, 0));
+    CHECK(memcmp(r + RG_RUN_TABLE, k3, sizeof k3) == 0 && memcmp(r + RG_RUN_ORDER, third_first, sizeof third_first) == 0);
+    CHECK(rg_run_gauges(r, RG_RUN_WORDS, 2, s, RG_STEP_WORDS) == RG_ACCEPTED && run_is(r, RG_DOWN, 0, 2, 3, 1, 0));
+    CHECK(s[RG_STEP_OUTCOME] == RG_SPENT && s[RG_STEP_MOVES] == 2 && s[RG_STEP_CHAIN] == 0);
+    CHECK(rows_are(s + RG_STEP_CHAIN + RG_CHAIN_ROWS, 0, 0, 0) && rows_are(s + RG_STEP_PICKS, 0, 0, 0));
+    CHECK(rg_run_gauges(r, RG_RUN_WORDS, 9, s, RG_STEP_WORDS) == RG_ACCEPTED && run_is(r, RG_HANDED, 0, 3, 3, 1, 2));
+    CHECK(s[RG_STEP_OUTCOME] == RG_HANDED_OUT && s[RG_STEP_MOVES] == 2);
+    CHECK(memcmp(s + RG_STEP_CHAIN, second_of_k3, sizeof second_of_k3) == 0 && rows_are(s + RG_STEP_PICKS, 3, 1, 2));
+    CHECK(rg_run_gauges(r, RG_RUN_WORDS, 1, s, RG_STEP_WORDS) == RG_ACCEPTED && run_is(r, RG_BACK, 2, 2, 3, 1, 0));
+    do CHECK(rg_run_gauges(r, RG_RUN_WORDS, 9, s, RG_STEP_WORDS) == RG_ACCEPTED);
+    while (s[RG_STEP_OUTCOME] != RG_END && failed == 0);
+    CHECK(run_is(r, RG_ENDED, 0, 0, 0, 0, 0));
+    CHECK(r[RG_RUN_SIDE] == RG_SIDE_GAUGES && r[RG_RUN_OMIT] == 1 && memcmp(r + RG_RUN_ORDER, third_first, sizeof third_first) == 0);
+    CHECK(RG_RUN_TABLE + RG_TABLE_WORDS == RG_RUN_ORDER && RG_RUN_ORDER + RG_ORDER_WORDS == RG_RUN_PICKS && RG_RUN_PICKS + 64 == RG_RUN_COUNT);
+    CHECK(RG_RUN_OMIT + 1 == RG_RUN_WORDS && RG_STEP_CHAIN + RG_CHAIN_WORDS == RG_STEP_PICKS && RG_STEP_PICKS + 64 == RG_STEP_WORDS);
+}
+
+/* Of cases: {1} {1,2}, whose one ladder has the rows 1 and 3 by gauges, and picks case 1, then 2. */
+static void offsets_of_case_run(void) {
+    static const uint64_t t[RG_TABLE_WORDS] = {2, 2, 1, 3}, plain_of_2[RG_ORDER_WORDS] = {1, 2};
+    uint64_t r[RG_RUN_WORDS], s[RG_STEP_WORDS];
+    CHECK(rg_start_cases(t, RG_TABLE_WORDS, plain_of_2, RG_ORDER_WORDS, 0, r, RG_RUN_WORDS) == RG_ACCEPTED);
+    CHECK(r[RG_RUN_SIDE] == RG_SIDE_CASES && r[RG_RUN_OMIT] == 0);
+    CHECK(rg_run_cases(r, RG_RUN_WORDS, 9, s, RG_STEP_WORDS) == RG_ACCEPTED && s[RG_STEP_OUTCOME] == RG_HANDED_OUT);
+    CHECK(rows_are(s + RG_STEP_CHAIN + RG_CHAIN_ROWS, 1, 3, 0) && s[RG_STEP_CHAIN + RG_CHAIN_COUNT] == 2 && rows_are(s + RG_STEP_PICKS, 1, 2, 0));
+}
+
+static void offsets_of_answers(void) {
+    uint64_t n[RG_COUNT_WORDS], c[RG_COVER_WORDS], p[RG_PROPOSAL_WORDS], rival[RG_PAIRS_WORDS];
+    CHECK(rg_count(k3, RG_TABLE_WORDS, plain_of_3, RG_ORDER_WORDS, 99, n, RG_COUNT_WORDS) == RG_ACCEPTED);
+    CHECK(n[RG_COUNT_OUTCOME] == RG_COUNTED && n[RG_COUNT_LADDERS] == 2 && n[RG_COUNT_CALLS] == 7);
+    CHECK(rg_count(k3, RG_TABLE_WORDS, plain_of_3, RG_ORDER_WORDS, 6, n, RG_COUNT_WORDS) == RG_ACCEPTED);
+    CHECK(n[RG_COUNT_OUTCOME] == RG_SPENT && n[RG_COUNT_LADDERS] == 0 && n[RG_COUNT_CALLS] == 6);
+    CHECK(rg_cover(k3, RG_TABLE_WORDS, 99, c, RG_COVER_WORDS) == RG_ACCEPTED);
+    CHECK(c[RG_COVER_OUTCOME] == RG_COVERED && c[RG_COVER_NUMBER] == 2 && c[RG_COVER_TRIED] == 3);
+    CHECK(memcmp(c + RG_COVER_CHAINS, first_of_k3, sizeof first_of_k3) == 0);
+    CHECK(memcmp(c + RG_COVER_CHAINS + RG_CHAIN_WORDS, second_of_k3, sizeof second_of_k3) == 0);
+    CHECK(c[RG_COVER_CHAINS + 2 * RG_CHAIN_WORDS] == 0 && RG_COVER_CHAINS + 8 * RG_CHAIN_WORDS == RG_COVER_WORDS);
+    CHECK(rg_cover(k3, RG_TABLE_WORDS, 2, c, RG_COVER_WORDS) == RG_ACCEPTED);
+    CHECK(c[RG_COVER_OUTCOME] == RG_SPENT && c[RG_COVER_NUMBER] == 0 && c[RG_COVER_TRIED] == 2 && c[RG_COVER_CHAINS] == 0);
+    CHECK(rg_trial(k3, RG_TABLE_WORDS, first_of_k3, RG_CHAIN_WORDS, 3, 1, p, RG_PROPOSAL_WORDS) == RG_ACCEPTED);
+    CHECK(memcmp(p + RG_PROPOSAL_TABLE, k3, sizeof k3) == 0 && memcmp(p + RG_PROPOSAL_CHAIN, first_of_k3, sizeof first_of_k3) == 0);
+    CHECK(p[RG_PROPOSAL_GAUGE] == 3 && p[RG_PROPOSAL_CASE] == 1 && p[RG_PROPOSAL_EFFECT] == RG_ONLY_CHAIN);
+    CHECK(RG_PROPOSAL_EFFECT + 1 == RG_PROPOSAL_WORDS);
+    CHECK(rg_trial(k3, RG_TABLE_WORDS, first_of_k3, RG_CHAIN_WORDS, 3, 2, p, RG_PROPOSAL_WORDS) == 0 && p[RG_PROPOSAL_EFFECT] == RG_NOT_WITHIN);
+    CHECK(rg_trial(k3, RG_TABLE_WORDS, first_of_k3, RG_CHAIN_WORDS, 3, 3, p, RG_PROPOSAL_WORDS) == 0 && p[RG_PROPOSAL_EFFECT] == RG_STILL_LADDER);
+    CHECK(rg_rivals(k3, RG_TABLE_WORDS, 3, 3, rival, RG_PAIRS_WORDS) == RG_ACCEPTED && rows_are(rival, 1, 1, 0));
+}
+
+static void offsets_of_test(void) {
+    static const char text[] = "%%MatrixMarket matrix coordinate integer general\n2 64 3\n1 1 -7\n2 64 9\n2 3 4\n";
+    static int32_t r[RG_READINGS];
+    uint64_t t[RG_TEST_WORDS], made_at[RG_TABLE_WORDS], answer[RG_ONE_WORDS];
+    int i, others = 0;
+    CHECK(rg_read_test((const uint8_t *)text, sizeof text - 1, 5, t, RG_TEST_WORDS, r, RG_READINGS, made_at, RG_TABLE_WORDS) == RG_ACCEPTED);
+    CHECK(t[RG_TEST_KIND] == RG_INTEGER && t[RG_TEST_GAUGES] == 2 && t[RG_TEST_CASES] == 64);
+    CHECK(rows_are(t + RG_TEST_ROWS, 1, (uint64_t)1 << 63 | 4, 0) && RG_TEST_ROWS + RG_ROWS == RG_TEST_WORDS);
+    CHECK(rows_are(made_at + RG_TABLE_ROWS, 1, (uint64_t)1 << 63, 0));
+    CHECK(r[0] == -7 && r[1 * 64 + 63] == 9 && r[1 * 64 + 2] == 4);
+    for (i = 0; i < RG_READINGS; i++) others += r[i] != 0;
+    CHECK(others == 3);
+    CHECK(rg_equal(t, RG_TEST_WORDS, r, RG_READINGS, t, RG_TEST_WORDS, r, RG_READINGS, answer, RG_ONE_WORDS) == RG_ACCEPTED && answer[0] == RG_YES);
+    CHECK(rg_read_test(FILE_LENT, 5, t, RG_TEST_WORDS, r, RG_READINGS, made_at, RG_TABLE_WORDS) == RG_ACCEPTED && t[RG_TEST_KIND] == RG_PATTERN);
+}
+
+/* The fullest test: the bytes that are always enough, and not one fewer. */
+static void bytes_of_test(void) {
+    static uint64_t whole[RG_TEST_WORDS], n[1];
+    static int32_t r[RG_READINGS];
+    int i;
+    whole[RG_TEST_KIND] = RG_INTEGER;
+    whole[RG_TEST_GAUGES] = whole[RG_TEST_CASES] = RG_MOST;
+    for (i = 0; i < RG_ROWS; i++) whole[RG_TEST_ROWS + i] = ~(uint64_t)0;
+    for (i = 0; i < RG_READINGS; i++) r[i] = -1000000;
+    CHECK(rg_write_test(whole, RG_TEST_WORDS, r, RG_READINGS, bytes, RG_TEST_BYTES - 1, n, 1) == RG_BUFFER);
+    CHECK(rg_write_test(whole, RG_TEST_WORDS, r, RG_READINGS, bytes, RG_TEST_BYTES, n, 1) == RG_ACCEPTED && n[0] == RG_TEST_BYTES);
+}
+
+static void answers(void) {
+    uint64_t answer[RG_ONE_WORDS];
+    CHECK(rg_judge_chain(k3, RG_TABLE_WORDS, k3 + 1, RG_CHAIN_WORDS, answer, RG_ONE_WORDS) == RG_ACCEPTED && answer[0] == RG_NO);
+    CHECK(rg_judge_chain(k3, RG_TABLE_WORDS, first_of_k3, RG_CHAIN_WORDS, answer, RG_ONE_WORDS) == RG_ACCEPTED && answer[0] == RG_YES);
+    CHECK(rg_judge_ladder(k3, RG_TABLE_WORDS, first_of_k3, RG_CHAIN_WORDS, answer, RG_ONE_WORDS) == RG_ACCEPTED && answer[0] == RG_YES);
+    CHECK(rg_decides(k3, RG_TABLE_WORDS, 3, 3, answer, RG_ONE_WORDS) == RG_ACCEPTED && answer[0] == RG_YES);
+}
+
+int main(void) {
+    sizes();
+    offsets_of_table();
+    offsets_of_file();
+    bytes_enough();
+    bytes_of_order();
+    offsets_of_run();
+    offsets_of_case_run();
+    offsets_of_answers();
+    offsets_of_test();
+    bytes_of_test();
+    answers();
+    return end_of_checks();
+}
