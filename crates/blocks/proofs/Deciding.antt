@@ -1,35 +1,29 @@
 -- `Filled` can be met for every value, of 64 rows and 64 numbers as the code's are, and every buffer (`filled-exists`), and leaves one answer and one
 -- buffer (`filled-unique`); no two answers of the code read alike (`filling-injective`); and the longest file is attained (`longest-attained`).
 --
--- In order: whether a value is the paused value of a reached state is decided (`paused-decided`); the calls of a block are so many and no other
--- number (`fills-unique`), and there is such a number (`fills-exist`): the least at which they stop.
+-- In order: the calls of a block are so many and no other number (`fills-unique`), and there is such a number (`fills-exist`): the least at which they
+-- stop; then `Filled`, the answers of the code, and the longest file. Elsewhere: whether a value is the paused value of a reached state is decided by
+-- `paused-decided`, runs/proofs/Deciding.antt.
 use mathlib.Core.Path.{_≡_, refl, sym, ap, ap₂, _∙_, subst}
 use mathlib.Core.Logic.{_⊎_, inl, inr}
 use mathlib.Core.Bool.{Bool, true, Bool-discrete}
-use mathlib.Core.List.{List, [], _∷_, _++_, map, List-discrete, List·Memᴰ, List·Memᴰ·head, List·Memᴰ·tail, List·Memᴰ·cases-cons, List·Memᴰ·not-nil}
-use Prim.Native.Nat.{ℕ, zero, suc, _+_, _-_, _<_}
+use mathlib.Core.List.{List, _++_}
+use Prim.Native.Nat.{ℕ, zero, suc, _+_, _<_}
 use native.Mathlib.Nat.{add-zero}
 use native.Mathlib.Decide.{ℕ-discrete, decLt}
 use native.Mathlib.Omega.{arith}
-use lib.ListN.{length, take, drop, length-map}
-use lib.Seq.{take-at}
+use lib.ListN.{length, drop}
 use Rattle.table.specs.declared.Table.{Table}
 use Rattle.refusals.specs.declared.Verdict.{Verdict}
 use Rattle.refusals.proofs.Answering.{verdict-injective}
-use Rattle.rules.specs.Machine.{Phase, Down, Handed, Back, Ended, State, at}
-use Rattle.rules.specs.private.Fitting.{ValidFrom, Fits}
-use Rattle.rules.proofs.Renaming.{renamed, renamedPhase}
-use Rattle.lists.specs.Arrangements.{IsArrangement, placeOf}
-use Rattle.lists.specs.Lists.{Side, gaugeSide}
-use Rattle.lists.specs.Picks.{candidates}
-use Rattle.lists.specs.OnTable.{ReachedOn}
-use Rattle.lists.specs.private.Arranging.{indexAt, prefer}
-use Rattle.lists.proofs.PlacedRuns.{Good, Placed, reached-placed, renamed-back}
-use Rattle.runs.specs.Paused.{Value, numbered, paused}
-use Rattle.runs.specs.Calling.{held, valueRefusal, PausedAt}
+use Rattle.rules.specs.Machine.{State, at}
+use Rattle.lists.specs.Lists.{gaugeSide}
+use Rattle.runs.specs.Paused.{Value, paused}
+use Rattle.runs.specs.Calling.{valueRefusal, PausedAt}
 use Rattle.runs.specs.declared.gauges.GaugeRun.{GaugeRun}
 use Rattle.runs.proofs.Readings.{gauge-value-injective}
 use Rattle.runs.proofs.Answered.{paused-state}
+use Rattle.runs.proofs.Deciding.{paused-decided}
 use Rattle.runs.proofs.Demands.{Started}
 use Rattle.runs.proofs.Starting.{gauge-started}
 use Rattle.writer.specs.Writing.{writeFile}
@@ -38,151 +32,6 @@ use Rattle.blocks.specs.declared.Block.{Block}
 use Rattle.blocks.specs.Filling.{longest, Filling, filling, calls, after, text, isEnd, isNone, has, Untouched, Stops, Fills, Filled}
 use Rattle.blocks.proofs.Calls.{calls-stop-at}
 use Rattle.blocks.proofs.Fillings.{refusing}
-
--- ---- the state of a value
-suc-sub : (x : ℕ) → suc x - 1 ≡ x
-suc-sub x = omega arith
-
--- the place of a number
-place : Phase → Phase
-place Down = Down
-place Handed = Handed
-place (Back k) = Back (k - 1)
-place Ended = Ended
-
-place-numbered : (f : Phase) → place (numbered f) ≡ f
-unfolding place
-place-numbered Down = refl
-place-numbered Handed = refl
-place-numbered (Back i) = ap Back (suc-sub i)
-place-numbered Ended = refl
-
--- the state that a value can be the paused value of
-stateOf : Value → State
-stateOf v = at (map (λ k. k - 1) (take (v .count) (v .picks))) (place (v .phase))
-
-places : (p : List ℕ) → map (λ k. k - 1) (map suc p) ≡ p
-places [] = refl
-places (x ∷ p) = ap₂ (λ (y : ℕ) (q : List ℕ). y ∷ q) (suc-sub x) (places p)
-
-state-paused : (t : Table) (order : List ℕ) (omit : Bool) (s : State) → stateOf (paused t order omit s) ≡ s
-unfolding stateOf
-state-paused t order omit s =
-    ap₂ at (ap (map (λ k. k - 1)) (take-at (map suc (s .picks)) _ (length (s .picks)) (length-map (s .picks) suc)) ∙ places (s .picks))
-    (place-numbered (s .phase))
-
--- ---- whether a value is the paused value of a reached state
--- two facts, each decided
-both : {A B : Type 0} → Dec A → Dec B → Dec (A × B)
-both (yes a) (yes b) = yes (a, b)
-both (yes a) (no b) = no (λ h. b (h .1))
-both (no a) d = no (λ h. a (h .0))
-
-isMember : (x : ℕ) (l : List ℕ) → Dec (List·Memᴰ x l)
-isMember x [] = no (λ m. List·Memᴰ·not-nil m)
-isMember x (y ∷ l) = go (ℕ-discrete x y) (isMember x l)
-  where
-    neither : ¬ (x ≡ y) → ¬ List·Memᴰ x l → (x ≡ y) ⊎ List·Memᴰ x l → ⊥
-    neither e n (inl h) = e h
-    neither e n (inr h) = n h
-
-    go : Dec (x ≡ y) → Dec (List·Memᴰ x l) → Dec (List·Memᴰ x (y ∷ l))
-    go (yes e) d = yes (List·Memᴰ·head e)
-    go (no e) (yes m) = yes (List·Memᴰ·tail m)
-    go (no e) (no n) = no (λ m. neither e n (List·Memᴰ·cases-cons m))
-
-module _ (kids : List ℕ → List ℕ) where
-  isValid : (q p : List ℕ) → Dec (ValidFrom kids q p)
-  isValid q [] = yes tt
-  isValid q (x ∷ p) = both (isMember x (kids q)) (isValid (q ++ (x ∷ [])) p)
-
-  fits : (p : List ℕ) (f : Phase) → Dec (Fits kids p f)
-  fits p Down = isValid [] p
-  fits p Handed = both (isValid [] p) (List-discrete ℕ-discrete (kids p) [])
-  fits p (Back g) = both (isValid [] p) (isMember g (kids p))
-  fits p Ended = List-discrete ℕ-discrete p []
-
--- a phase that has a number has one from 1 on
-sound : (f : Phase) → Dec (f ≡ numbered (place f))
-unfolding place
-sound Down = yes refl
-sound Handed = yes refl
-sound (Back k) = go (ℕ-discrete k (suc (k - 1)))
-  where
-    go : Dec (k ≡ suc (k - 1)) → Dec (Back k ≡ Back (suc (k - 1)))
-    go (yes e) = yes (ap Back e)
-    go (no n) = no (λ e. n cc)
-sound Ended = yes refl
-
--- whether a state is reached: it is where the one by place fits the arranged rows, and leads back to it
-module _ (s : Side) (o : List ℕ) (counted : length (s .rows) ≡ s .count) (a : IsArrangement (s .count) o) where
-  abbrev byPlace : State → State
-  byPlace x = renamed (placeOf o) x
-
-  same-phase : (f : Phase) → Dec (renamedPhase (indexAt o) (renamedPhase (placeOf o) f) ≡ f)
-  same-phase Down = yes refl
-  same-phase Handed = yes refl
-  same-phase (Back k) = go (ℕ-discrete (indexAt o (placeOf o k)) k)
-    where
-      go : Dec (indexAt o (placeOf o k) ≡ k) → Dec (Back (indexAt o (placeOf o k)) ≡ Back k)
-      go (yes e) = yes (ap Back e)
-      go (no n) = no (λ e. n cc)
-  same-phase Ended = yes refl
-
-  reached-decided : (x : State) → Dec (ReachedOn s o x)
-  reached-decided x =
-      go (fits (candidates (prefer o s .rows)) (byPlace x .picks) (byPlace x .phase))
-      (List-discrete ℕ-discrete (map (indexAt o) (map (placeOf o) (x .picks))) (x .picks)) (same-phase (x .phase))
-    where
-      placed : ReachedOn s o x → Placed s o counted a x
-      placed r = reached-placed s o counted a x .0 r
-
-      back-is : (r : ReachedOn s o x) → byPlace x ≡ placed r .state
-      back-is r = ap byPlace (sym (placed r .is)) ∙ renamed-back s o counted a (placed r .state) (placed r .good)
-
-      again : (r : ReachedOn s o x) → renamed (indexAt o) (byPlace x) ≡ x
-      again r = ap (renamed (indexAt o)) (back-is r) ∙ placed r .is
-
-      go : Dec (Good s o counted a (byPlace x)) → Dec (map (indexAt o) (map (placeOf o) (x .picks)) ≡ x .picks)
-          → Dec (renamedPhase (indexAt o) (renamedPhase (placeOf o) (x .phase)) ≡ x .phase) → Dec (ReachedOn s o x)
-      go (yes h) (yes p) (yes f) = yes (reached-placed s o counted a x .1 (record { state = byPlace x; good = h; is = ap₂ at p f }))
-      go (no h) p f = no (λ r. h (subst (Good s o counted a) (sym (back-is r)) (placed r .good)))
-      go (yes h) (no p) f = no (λ r. p (ap (λ (y : State). y .picks) (again r)))
-      go (yes h) (yes p) (no f) = no (λ r. f (ap (λ (y : State). y .phase) (again r)))
-
-paused-decided : (v : Value) → Started gaugeSide (v .table) (v .order)
-    → ((s : State) × PausedAt gaugeSide v s) ⊎ ((s : State) → PausedAt gaugeSide v s → ⊥)
-unfolding stateOf
-paused-decided v g =
-    go (both (both (List-discrete ℕ-discrete (v .picks) (w .picks)) (ℕ-discrete (v .count) (w .count))) (sound (v .phase)))
-    (reached-decided (gaugeSide (v .table)) (held gaugeSide v) (g .fair .counted) (g .arranged) (stateOf v))
-  where
-    w : Value
-    w = paused (v .table) (v .order) (v .omit) (stateOf v)
-
-    Same : Type 0
-    Same = ((v .picks ≡ w .picks) × (v .count ≡ w .count)) × (v .phase ≡ w .phase)
-
-    same : (p q : List ℕ) (n m : ℕ) (f g : Phase) → p ≡ q → n ≡ m → f ≡ g
-        → _≡_ {A = Value} (record { table = v .table; order = v .order; picks = p; count = n; phase = f; omit = v .omit })
-        (record { table = v .table; order = v .order; picks = q; count = m; phase = g; omit = v .omit })
-    same p q n m f g a b c = rw (a, b, c)
-
-    its : (s : State) → PausedAt gaugeSide v s → stateOf v ≡ s
-    its s p = ap stateOf (p .stands) ∙ state-paused (v .table) (v .order) (v .omit) s
-
-    go : Dec Same → Dec (ReachedOn (gaugeSide (v .table)) (held gaugeSide v) (stateOf v))
-        → ((s : State) × PausedAt gaugeSide v s) ⊎ ((s : State) → PausedAt gaugeSide v s → ⊥)
-    go (yes e) (yes f) =
-        inl (
-          stateOf v,
-          record { reached = f; stands = same (v .picks) (w .picks) (v .count) (w .count) (v .phase) (w .phase) (e .0 .0) (e .0 .1) (e .1) },
-        )
-    go (no e) f =
-        inr (λ s p.
-        let d : v ≡ w = p .stands ∙ ap (paused (v .table) (v .order) (v .omit)) (sym (its s p)) in
-        e ((ap (λ (x : Value). x .picks) d, ap (λ (x : Value). x .count) d), ap (λ (x : Value). x .phase) d))
-    go (yes e) (no f) = inr (λ s p. f (subst (ReachedOn (gaugeSide (v .table)) (held gaugeSide v)) (sym (its s p)) (p .reached)))
 
 -- ---- the calls of a block
 module _ (t : Table) (order : List ℕ) (omit : Bool) (s : State) (before : List ℕ) where
@@ -282,7 +131,7 @@ module _ (v : Value) (rows : length (v .table .rows) ≡ 64) (long : length (v .
 
       go : Dec (valueRefusal gaugeSide v ≡ 0) → Dec (length before < longest) → (f ≡ g) × (x ≡ y)
       go (no z) l = untouched-unique _ before f g x y (a .table (omega (arith, z))) (b .table (omega (arith, z)))
-      go (yes z) l = by-state z l (paused-decided v (starts z))
+      go (yes z) l = by-state z l (paused-decided gaugeSide v (starts z))
 
   pub filled-exists : (before : List ℕ) → (f : Filling) × (now : List ℕ) × Filled v before f now
   filled-exists before = go (ℕ-discrete (valueRefusal gaugeSide v) 0) (decLt (length before) longest)
@@ -336,7 +185,7 @@ module _ (v : Value) (rows : length (v .table .rows) ≡ 64) (long : length (v .
           fills = λ e. absurd (z e);
         },
       )
-      go (yes z) l = by-state z l (paused-decided v (starts z))
+      go (yes z) l = by-state z l (paused-decided gaugeSide v (starts z))
 
 -- ---- no two answers read alike
 pub filling-injective : (a b : Block) → filling a ≡ filling b → a ≡ b

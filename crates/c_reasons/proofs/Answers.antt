@@ -43,7 +43,7 @@ module _ (side : Table → Side) (question : Table → ℕ → ℕ → Question)
         record {
           table = λ l. absurd (omega arith);
           value = λ _ none. absurd (none p h);
-          pick = λ _ q k. ap named (sym (picks-one side v p h) ∙ picks-one side v q k);
+          pick = λ _ q k. ap named (picks-one side v p q h k);
         },
       )
       stands z (no n) = (

@@ -16,3 +16,4 @@ pub mod Demands
 pub mod Starting
 pub mod SideCalls
 pub mod Readings
+pub mod Deciding
