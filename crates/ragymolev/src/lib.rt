@@ -7,6 +7,7 @@ use c_counts;
 use c_covers;
 use c_files;
 use c_orders;
+use c_parts;
 use c_reasons;
 use c_runs;
 use c_tests;
@@ -25,6 +26,7 @@ ghost use Rattle.c_chains.specs.Serving.{Judges, Grows, Conflicts, Decides, Cla
 ghost use Rattle.c_counts.specs.Serving.{CountsWords, Samples};
 ghost use Rattle.c_reasons.specs.Serving.{Explains, ClaimsReasons};
 ghost use Rattle.c_tests.specs.Serving.{ReadsTest, WritesTest, Equals};
+ghost use Rattle.c_parts.specs.Serving.{GivesCandidates, GivesPart};
 ghost use Rattle.c_trials.specs.Serving.{Tries, Commits};
 ghost use Rattle.c_orders.specs.Serving.{OrdersWords};
 ghost use Rattle.c_covers.specs.Serving.{CoversWords};
@@ -258,4 +260,36 @@ pub extern "C" fn rg_equal(
         (now (answer .exit)) r ⌝ }
 {
     c_tests::equal(test, readings, other, values, answer)
+}
+
+// The gauges that the gauge run can pick next, each of which makes a part of its list, into `numbers`.
+#[no_mangle]
+pub extern "C" fn rg_candidates_gauges(run: &[u64], numbers: &mut [u64]) -> u64
+    ensures { λ r. ⌜ GivesCandidates gaugeSide 1 (now (run .entry)) (now (numbers .entry)) (now (numbers .exit)) r ⌝ }
+{
+    c_parts::candidates_gauges(run, numbers)
+}
+
+// The cases that the case run can pick next, each of which makes a part of its list, into `numbers`.
+#[no_mangle]
+pub extern "C" fn rg_candidates_cases(run: &[u64], numbers: &mut [u64]) -> u64
+    ensures { λ r. ⌜ GivesCandidates caseSide 2 (now (run .entry)) (now (numbers .entry)) (now (numbers .exit)) r ⌝ }
+{
+    c_parts::candidates_cases(run, numbers)
+}
+
+// The part of the gauge run's list that has one candidate as a pick more into `part`.
+#[no_mangle]
+pub extern "C" fn rg_part_gauges(run: &[u64], number: u64, part: &mut [u64]) -> u64
+    ensures { λ r. ⌜ GivesPart gaugeSide 1 (now (run .entry)) number (now (part .entry)) (now (part .exit)) r ⌝ }
+{
+    c_parts::part_gauges(run, number, part)
+}
+
+// The part of the case run's list that has one candidate as a pick more into `part`.
+#[no_mangle]
+pub extern "C" fn rg_part_cases(run: &[u64], number: u64, part: &mut [u64]) -> u64
+    ensures { λ r. ⌜ GivesPart caseSide 2 (now (run .entry)) number (now (part .entry)) (now (part .exit)) r ⌝ }
+{
+    c_parts::part_cases(run, number, part)
 }

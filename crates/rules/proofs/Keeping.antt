@@ -1,7 +1,8 @@
 -- Runs that omit: the sets handed out, followed by the kept ones still to come, are the kept ones of the leaves in order, after every call.
 -- So a list of calls hands out a front of them (`kept-front`), and all of them once a call has answered end (`kept-complete`); some list of
--- calls comes to that (`kept-ends`). A run with nothing to omit makes the calls of rules 1 to 5 (`all-kept`). What a call reports of its moves
--- is in Reports.antt, for any rule for moves.
+-- calls comes to that (`kept-ends`). A run with nothing to omit makes the calls of rules 1 to 5 (`all-kept`). Of one call, from any state that fits:
+-- `call-kept`; that calls of one move each come to an end, wherever the moves do: `ends-from`. What a call reports of its moves is in Reports.antt, for
+-- any rule for moves.
 use mathlib.Core.Path.{_≡_, refl, ap, sym, _∙_}
 use mathlib.Core.Logic.{_⊎_, inl, inr}
 use mathlib.Core.Bool.{Bool, true, false, cond}
@@ -28,8 +29,12 @@ module _ (kids : List ℕ → List ℕ) (out : List ℕ → List ℕ) (keep : Li
   abbrev toCome : State → List (List ℕ)
   toCome s = rest kids n (s .picks) (s .phase)
 
-  ahead : State → List (List ℕ)
+  pub ahead : State → List (List ℕ)
   ahead s = kept keep (map out (toCome s))
+
+  pub ahead-is : (s : State) → ahead s ≡ kept keep (map out (toCome s))
+  unfolding ahead
+  ahead-is s = refl
 
   ahead-same : (s s′ : State) → toCome s′ ≡ toCome s → ahead s′ ≡ ahead s
   unfolding ahead
@@ -44,10 +49,10 @@ module _ (kids : List ℕ → List ℕ) (out : List ℕ → List ℕ) (keep : Li
   ahead-no s s′ p e d = sym (kept-no keep (out p) (map out (toCome s′)) d) ∙ ap (λ (x : List (List ℕ)). kept keep (map out x)) e
 
   -- ---- one call
-  record KeptLaw (s : State) (c : Call) : Type 0 where
-    fits : Fits kids (c .next .picks) (c .next .phase)
-    keeps : answered (c .answer) (ahead (c .next)) ≡ ahead s
-    closed : Closed (c .answer) (c .next)
+  pub record KeptLaw (s : State) (c : Call) : Type 0 where
+    pub fits : Fits kids (c .next .picks) (c .next .phase)
+    pub keeps : answered (c .answer) (ahead (c .next)) ≡ ahead s
+    pub closed : Closed (c .answer) (c .next)
 
   carry-law : (b : ℕ) (s : State) → Fits kids (s .picks) (s .phase) → KeptLaw s (carryBy mv out b s)
   carry-law zero s h = record { fits = h; keeps = refl; closed = tt }
@@ -70,7 +75,7 @@ module _ (kids : List ℕ → List ℕ) (out : List ℕ → List ℕ) (keep : Li
           split true d = record { fits = fit; keeps = ahead-yes s s′ p l d; closed = tt }
           split false d = record { fits = m .fits; keeps = m .keeps ∙ ahead-no s s′ p l d; closed = m .closed }
 
-  call-kept : (b : ℕ) (s : State) → Fits kids (s .picks) (s .phase) → KeptLaw s (callBy mv out b s)
+  pub call-kept : (b : ℕ) (s : State) → Fits kids (s .picks) (s .phase) → KeptLaw s (callBy mv out b s)
   unfolding callBy
   call-kept b s h = go (ltb mostBudget b)
     where
@@ -93,7 +98,7 @@ module _ (kids : List ℕ → List ℕ) (out : List ℕ → List ℕ) (keep : Li
   unfolding ahead
   ahead-fresh = simp (append-nil, sub-zero)
 
-  ahead-ended : ahead (at [] Ended) ≡ []
+  pub ahead-ended : ahead (at [] Ended) ≡ []
   unfolding ahead
   ahead-ended = refl
 
@@ -131,7 +136,7 @@ module _ (kids : List ℕ → List ℕ) (out : List ℕ → List ℕ) (keep : Li
       rw append-nil at k
 
   -- ---- the run ends: one move a call is enough
-  abbrev single : ℕ → List ℕ
+  abbrev pub single : ℕ → List ℕ
   single zero = []
   single (suc k) = 1 ∷ single k
 
@@ -148,7 +153,7 @@ module _ (kids : List ℕ → List ℕ) (out : List ℕ → List ℕ) (keep : Li
   unfolding callBy
   ended-once = refl
 
-  ends-from : (k : ℕ) (s : State) → after kids k s ≡ at [] Ended → (c : Call) × List·Memᴰ c (callsBy mv out (single (suc k)) s) × (c .answer ≡ end)
+  pub ends-from : (k : ℕ) (s : State) → after kids k s ≡ at [] Ended → (c : Call) × List·Memᴰ c (callsBy mv out (single (suc k)) s) × (c .answer ≡ end)
   ends-from zero s e = (callBy mv out 1 s, List·Memᴰ·head refl, rw e ended-once)
   ends-from (suc k) s e =
       let r = ends-from k (callBy mv out 1 s .next) (rw (one-move s) e) in

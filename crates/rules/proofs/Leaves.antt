@@ -72,7 +72,7 @@ fact-pos (suc n) = omega (arith, fact-pos n)
 
 module _ (kids : List ℕ → List ℕ) where
   -- the leaves below p begin with p
-  under : (f : ℕ) (p : List ℕ) → All (Under p) (leaves kids f p)
+  pub under : (f : ℕ) (p : List ℕ) → All (Under p) (leaves kids f p)
   under zero p = (([], sym (append-nil p)), tt)
   under (suc f) p = branch-all (Under p) (leaves kids f) p (kids p) (λ _. ([], sym (append-nil p)))
       (λ g _. All-map (λ q x. (g ∷ x.0, x.1 ∙ append-assoc p (g ∷ []) x.0)) (leaves kids f (p ++ (g ∷ []))) (under f (p ++ (g ∷ []))))
@@ -112,7 +112,8 @@ module _ (kids : List ℕ → List ℕ) where
     leaf-below (suc f) p v l = branch-all (λ (q : List ℕ). Valid kids q × (kids q ≡ [])) (leaves kids f) p (kids p) (λ e. (v, e))
         (λ g m. leaf-below f (p ++ (g ∷ [])) (valid-snoc kids p g v m) (omega (arith, length-snoc p g)))
 
-    found-below : (f : ℕ) (p s : List ℕ) → Valid kids p → ValidFrom kids p s → kids (p ++ s) ≡ [] → n ≤ f + length p → List·Memᴰ (p ++ s) (leaves kids f p)
+    -- and each of them that begins with p is below p
+    pub found-below : (f : ℕ) (p s : List ℕ) → Valid kids p → ValidFrom kids p s → kids (p ++ s) ≡ [] → n ≤ f + length p → List·Memᴰ (p ++ s) (leaves kids f p)
     found-below zero p [] v h e l = List·Memᴰ·head (append-nil p)
     found-below zero p (x ∷ xs) v h e l = absurd (omega (arith, kid-fits kids n t p x v h.0))
     found-below (suc f) p [] v h e l = let k : kids p ≡ [] = rw append-nil at e in rw (append-nil, k) (List·Memᴰ·head refl)

@@ -1,0 +1,5 @@
+-- Laws that belong to no one function.
+pub mod Serving
+pub mod Deciding
+pub mod Contracts
+pub mod Pinned

@@ -1,0 +1,2 @@
+-- What a reader must believe of the parts of a list, on lent words.
+pub mod Serving

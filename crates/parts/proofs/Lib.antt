@@ -1,0 +1,10 @@
+-- Laws of the parts of a listing.
+pub mod Prefixes
+pub mod Joining
+pub mod BelowLeaves
+pub mod Places
+pub mod Splitting
+pub mod Listing
+pub mod Closing
+pub mod PartCalls
+pub mod KnownParts

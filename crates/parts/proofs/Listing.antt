@@ -1,0 +1,111 @@
+-- Calls of any machine with a law of its calls, where what is still to come is of the part first and then is not: what they hand out of the part is a front
+-- of it, and all of it once the part is over (`calls-in`). The laws are those of crate `rules`: `call-law` for rules 1 to 5 (`rules-law`), and `call-kept` for
+-- the run that hands over the kept sets alone (`keeping-law`).
+use mathlib.Core.Path.{_≡_, refl, sym, ap, ap₂, _∙_, subst}
+use mathlib.Core.Bool.{Bool, true, false, _||_}
+use mathlib.Core.List.{List, [], _∷_, _++_, map, List·Memᴰ, List·Memᴰ·head, List·Memᴰ·tail, head-eq-of-cons-eq, tail-eq-of-cons-eq}
+use Prim.Native.Nat.{ℕ}
+use native.Mathlib.Omega.{arith}
+use Rattle.rules.specs.Sequences.{All}
+use Rattle.rules.specs.Machine.{Ended, State, Move, at, move}
+use Rattle.rules.specs.Calls.{Reply, refused, spent, handed, end, Call, answered, callBy, callsBy, call}
+use Rattle.rules.specs.Keeping.{moveKeeping}
+use Rattle.rules.specs.private.Fitting.{Fits}
+use Rattle.rules.proofs.Trees.{Tree}
+use Rattle.rules.proofs.Calls.{ahead, call-law}
+use Rattle.rules.proofs.Keeping.{ahead as aheadKept, ahead-ended, call-kept}
+use Rattle.rules.proofs.Renaming.{renamedCall}
+use Rattle.parts.specs.Calls.{adds, closes, holds, ofPart, isOver}
+
+-- ---- any machine
+-- l is a front of the list a, and all of it where it is over
+pub record Lists (a l : List (List ℕ)) (over : Bool) : Type 0 where
+  pub front : (rest : List (List ℕ)) × (l ++ rest ≡ a)
+  pub complete : over ≡ true → l ≡ a
+
+-- a call keeps a good state and what is still to come, of which nothing is left after an end
+pub record Law (good : State → Type 0) (ahead : State → List (List ℕ)) (s : State) (c : Call) : Type 0 where
+  pub stays : good (c .next)
+  pub keeps : answered (c .answer) (ahead (c .next)) ≡ ahead s
+  pub ended : c .answer ≡ end → ahead (c .next) ≡ []
+
+module _ (mv : State → Move) (out : List ℕ → List ℕ) (good : State → Type 0) (ahead : State → List (List ℕ)) (test : List ℕ → Bool)
+    (law : (b : ℕ) (s : State) → good s → Law good ahead s (callBy mv out b s)) where
+  -- what is to come is of the part, all of a, and then is not, all of b
+  pub calls-in : (bs : List ℕ) (s : State) → good s → (a b : List (List ℕ)) → ahead s ≡ a ++ b
+      → All (λ (x : List ℕ). test x ≡ true) a → All (λ (x : List ℕ). test x ≡ false) b
+      → Lists a (ofPart test (callsBy mv out bs s)) (isOver test (callsBy mv out bs s))
+  calls-in [] s g a b e p q = record { front = (a, refl); complete = λ z. let y : _≡_ {A = ℕ} 0 1 = cc in absurd (omega arith) }
+  calls-in (k ∷ bs) s g a b e p q =
+      let l = law k s g in
+      go (callBy mv out k s .answer) a (l .keeps ∙ e) p (l .ended) (λ a′. calls-in bs (callBy mv out k s .next) (l .stays) a′ b)
+    where
+      later : List Call
+      later = callsBy mv out bs (callBy mv out k s .next)
+
+      next : List (List ℕ)
+      next = ahead (callBy mv out k s .next)
+
+      go : (r : Reply) (a : List (List ℕ)) → answered r next ≡ a ++ b → All (λ (x : List ℕ). test x ≡ true) a → (r ≡ end → next ≡ [])
+          → ((a′ : List (List ℕ)) → next ≡ a′ ++ b → All (λ (x : List ℕ). test x ≡ true) a′ → All (λ (x : List ℕ). test x ≡ false) b
+          → Lists a′ (ofPart test later) (isOver test later))
+          → Lists a (adds r (holds test r) (ofPart test later)) (closes r (holds test r) || isOver test later)
+      go (refused n) a d p z on = on a d p q
+      go spent a d p z on = on a d p q
+      go (handed x) [] d p z on =
+          let w : All (λ (y : List ℕ). test y ≡ false) (x ∷ next) = subst (All (λ (y : List ℕ). test y ≡ false)) (sym d) q in
+          let f : test x ≡ false = w .0 in
+          rw f (record { front = ([], refl); complete = λ _. refl })
+      go (handed x) (y ∷ a) d p z on =
+          let i : x ≡ y = head-eq-of-cons-eq d in
+          let f : test x ≡ true = ap test i ∙ p .0 in
+          let h = on a (tail-eq-of-cons-eq d) (p .1) q in
+          rw f (record {
+            front = (h .front .0, ap₂ (λ (u : List ℕ) (m : List (List ℕ)). u ∷ m) i (h .front .1));
+            complete = λ o. ap₂ (λ (u : List ℕ) (m : List (List ℕ)). u ∷ m) i (h .complete o);
+          })
+      go end [] d p z on = record { front = ([], refl); complete = λ _. refl }
+      go end (y ∷ a) d p z on = let w : _≡_ {A = List (List ℕ)} [] (y ∷ (a ++ b)) = sym (z refl) ∙ d in let v : _≡_ {A = ℕ} 0 1 = cc in absurd (omega arith)
+
+-- ---- renamed calls answer the same
+module _ (test : List ℕ → Bool) (f : ℕ → ℕ) where
+  pub of-renamed : (cs : List Call) → ofPart test (map (renamedCall f) cs) ≡ ofPart test cs
+  of-renamed [] = refl
+  of-renamed (c ∷ cs) = ap (adds (c .answer) (holds test (c .answer))) (of-renamed cs)
+
+  pub over-renamed : (cs : List Call) → isOver test (map (renamedCall f) cs) ≡ isOver test cs
+  over-renamed [] = refl
+  over-renamed (c ∷ cs) = ap (λ (x : Bool). closes (c .answer) (holds test (c .answer)) || x) (over-renamed cs)
+
+-- an end closes every part
+pub over-end : (test : List ℕ → Bool) (cs : List Call) (c : Call) → List·Memᴰ c cs → c .answer ≡ end → isOver test cs ≡ true
+over-end test (d ∷ cs) c (List·Memᴰ·head e) h = rw (sym (ap (λ (x : Call). x .answer) e) ∙ h)
+over-end test (d ∷ cs) c (List·Memᴰ·tail m) h = go (closes (d .answer) (holds test (d .answer))) (over-end test cs c m h)
+  where
+    go : (b : Bool) → isOver test cs ≡ true → (b || isOver test cs) ≡ true
+    go true k = refl
+    go false k = k
+
+-- ---- the laws
+module _ (kids : List ℕ → List ℕ) (out : List ℕ → List ℕ) (n : ℕ) (t : Tree kids n) where
+  abbrev pub Good : State → Type 0
+  Good x = Fits kids (x .picks) (x .phase)
+
+  pub rules-law : (b : ℕ) (x : State) → Good x → Law Good (ahead kids out n) x (call kids out b x)
+  rules-law b x h =
+      let l = call-law kids out n t b x h in record {
+        stays = l .fits;
+        keeps = l .keeps;
+        ended = λ e. let z : call kids out b x .next ≡ at [] Ended = rw e at (l .closed) in ap (ahead kids out n) z;
+      }
+
+  pub keeping-law : (keep : List ℕ → Bool) (b : ℕ) (x : State) → Good x
+      → Law Good (aheadKept kids out keep n t) x (callBy (moveKeeping (move kids) out keep) out b x)
+  keeping-law keep b x h =
+      let l = call-kept kids out keep n t b x h in record {
+        stays = l .fits;
+        keeps = l .keeps;
+        ended =
+            λ e. let z : callBy (moveKeeping (move kids) out keep) out b x .next ≡ at [] Ended = rw e at (l .closed) in
+            ap (aheadKept kids out keep n t) z ∙ ahead-ended kids out keep n t;
+      }
