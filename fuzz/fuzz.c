@@ -77,6 +77,10 @@ ENTRY(run_gauges, W(0), N(0), W(1))
 ENTRY(run_cases, W(0), N(0), W(1))
 ENTRY(explain_gauge, W(0), N(0), N(1), W(1))
 ENTRY(explain_case, W(0), N(0), N(1), W(1))
+ENTRY(candidates_gauges, W(0), W(1))
+ENTRY(candidates_cases, W(0), W(1))
+ENTRY(part_gauges, W(0), N(0), W(1))
+ENTRY(part_cases, W(0), N(0), W(1))
 ENTRY(count, W(0), W(1), N(0), W(2))
 ENTRY(grow, W(0), W(1), W(2), W(3))
 ENTRY(rivals, W(0), N(0), N(1), W(1))
@@ -223,6 +227,33 @@ static void for_explain(Input *in, int which) {
 static void for_explain_gauge(Input *in) { for_explain(in, RG_SIDE_GAUGES); }
 
 static void for_explain_case(Input *in) { for_explain(in, RG_SIDE_CASES); }
+
+/* Mostly a run that is Down: as it was started, or gone on with by a few moves that hand nothing out. */
+static void make_part(int which) {
+    make_run(run, chance(20) ? 3 - which : which, false);
+    for (int i = 0; i < 8 && run[RG_RUN_PHASE] != RG_DOWN && !chance(8); i++) make_run(run, which, false);
+}
+
+static void for_candidates(Input *in, int which) {
+    make_part(which);
+    lend_run(in);
+    lend_out(in, RG_NUMBERS_WORDS);
+}
+
+static void for_candidates_gauges(Input *in) { for_candidates(in, RG_SIDE_GAUGES); }
+
+static void for_candidates_cases(Input *in) { for_candidates(in, RG_SIDE_CASES); }
+
+static void for_part(Input *in, int which) {
+    make_part(which);
+    in->number[0] = make_number(run[RG_RUN_TABLE + (which == RG_SIDE_GAUGES ? RG_TABLE_GAUGES : RG_TABLE_CASES)]);
+    lend_run(in);
+    lend_out(in, RG_RUN_WORDS);
+}
+
+static void for_part_gauges(Input *in) { for_part(in, RG_SIDE_GAUGES); }
+
+static void for_part_cases(Input *in) { for_part(in, RG_SIDE_CASES); }
 
 static void for_count(Input *in) {
     make_table(table);
@@ -378,6 +409,10 @@ static const Entry entries[] = {
     LISTED(run_cases, for_run_cases, 10, 11, 15, 18, 27),
     LISTED(explain_gauge, for_explain_gauge, 10, 11, 15, 19, 22, 27),
     LISTED(explain_case, for_explain_case, 10, 11, 15, 19, 22, 27),
+    LISTED(candidates_gauges, for_candidates_gauges, 10, 11, 15, 27),
+    LISTED(candidates_cases, for_candidates_cases, 10, 11, 15, 27),
+    LISTED(part_gauges, for_part_gauges, 10, 11, 15, 27),
+    LISTED(part_cases, for_part_cases, 10, 11, 15, 27),
     LISTED(count, for_count, 10, 11, 18, 27),
     LISTED(grow, for_grow, 10, 11, 12, 13, 14, 27),
     LISTED(rivals, for_rivals, 10, 11, 19),
@@ -512,7 +547,7 @@ static void one_input(uint64_t seed, uint64_t input) {
 static void report_entry(const Entry *entry, const uint64_t *counts) {
     uint64_t all = 0;
     for (int i = 0; i <= 100; i++) all += counts[i];
-    printf("rg_%-14s %8" PRIu64 " inputs, accepted %" PRIu64, entry->name, all, counts[0]);
+    printf("rg_%-17s %8" PRIu64 " inputs, accepted %" PRIu64, entry->name, all, counts[0]);
     for (int i = 1; i <= 100; i++)
         if (counts[i]) printf(", %d: %" PRIu64, i, counts[i]);
     printf("\n");
@@ -533,7 +568,7 @@ int main(int argc, char **argv) {
     int unseen = 0;
     for (uint64_t i = first; i - first < n; i++) one_input(seed, i);
     for (int i = 0; i < ENTRIES; i++) report_entry(&entries[i], seen[i]);
-    printf("whole lists       %8" PRIu64 "\n", seen[WHOLE_LISTS][0]);
+    printf("whole lists          %8" PRIu64 "\n", seen[WHOLE_LISTS][0]);
     for (int i = 0; n >= ENOUGH && i < ENTRIES; i++) unseen += report_unseen(&entries[i], seen[i]);
     printf("fuzz-library: %" PRIu64 " inputs from %" PRIu64 " on of seed %" PRIu64 ", %" PRIu64 " differences\n", n, first, seed, differences);
     return differences || unseen;

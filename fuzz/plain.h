@@ -24,6 +24,10 @@
 #define rg_run_cases plain_run_cases
 #define rg_explain_gauge plain_explain_gauge
 #define rg_explain_case plain_explain_case
+#define rg_candidates_gauges plain_candidates_gauges
+#define rg_candidates_cases plain_candidates_cases
+#define rg_part_gauges plain_part_gauges
+#define rg_part_cases plain_part_cases
 #define rg_count plain_count
 #define rg_grow plain_grow
 #define rg_rivals plain_rivals
@@ -49,6 +53,10 @@
 #undef rg_run_cases
 #undef rg_explain_gauge
 #undef rg_explain_case
+#undef rg_candidates_gauges
+#undef rg_candidates_cases
+#undef rg_part_gauges
+#undef rg_part_cases
 #undef rg_count
 #undef rg_grow
 #undef rg_rivals

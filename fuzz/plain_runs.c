@@ -1,5 +1,5 @@
 /* Rules 1 to 5 by definition, and what is asked of a paused run. Whether a paused value is one that moves lead to is found by making them all, from
- * the fresh start to the end. First candidates and moves, then the values, then the entries: starts, calls, questions, counts. */
+ * the fresh start to the end. First candidates and moves, then the values, then the entries: starts, calls, questions, parts, counts. */
 #include "plain.h"
 #include <stdlib.h>
 #include <string.h>
@@ -240,6 +240,53 @@ uint64_t plain_explain_gauge(const uint64_t *run, size_t run_n, uint64_t g, uint
 
 uint64_t plain_explain_case(const uint64_t *run, size_t run_n, uint64_t g, uint64_t c, uint64_t *out, size_t out_n) {
     return explain(RG_SIDE_CASES, run, run_n, g, c, out, out_n);
+}
+
+/* 10, 11, 27, 15 of a run that is to be split; then 15 for another phase. */
+static uint64_t part_refusal(const uint64_t *run, int which, Side *side, State *state) {
+    uint64_t why = run_refusal(run, which, side, state);
+    if (why) return why;
+    return state->phase == RG_DOWN ? 0 : 15;
+}
+
+static uint64_t candidates(int which, const uint64_t *run, size_t run_n, uint64_t *numbers, size_t numbers_n) {
+    Side side;
+    State state;
+    int n = 0;
+    if (run_n < 199 || numbers_n < 64) return 100;
+    uint64_t why = part_refusal(run, which, &side, &state);
+    if (why) return why;
+    memset(numbers, 0, 64 * sizeof *numbers);
+    for (int g = next_candidate(&side, &state, 0); g; g = next_candidate(&side, &state, side.place[g])) numbers[n++] = (uint64_t)g;
+    return 0;
+}
+
+uint64_t plain_candidates_gauges(const uint64_t *run, size_t run_n, uint64_t *numbers, size_t numbers_n) {
+    return candidates(RG_SIDE_GAUGES, run, run_n, numbers, numbers_n);
+}
+
+uint64_t plain_candidates_cases(const uint64_t *run, size_t run_n, uint64_t *numbers, size_t numbers_n) {
+    return candidates(RG_SIDE_CASES, run, run_n, numbers, numbers_n);
+}
+
+static uint64_t part(int which, const uint64_t *run, size_t run_n, uint64_t number, uint64_t *out, size_t out_n) {
+    Side side;
+    State state;
+    if (run_n < 199 || out_n < 199) return 100;
+    uint64_t why = part_refusal(run, which, &side, &state);
+    if (why) return why;
+    if (number < 1 || number > (uint64_t)side.n || !candidate(&side, &state, left(&side, &state), (int)number)) return 15;
+    pick(&state, (int)number);
+    put_run(out, which, run + RG_RUN_TABLE, run + RG_RUN_ORDER, &state, run[RG_RUN_OMIT]);
+    return 0;
+}
+
+uint64_t plain_part_gauges(const uint64_t *run, size_t run_n, uint64_t number, uint64_t *out, size_t out_n) {
+    return part(RG_SIDE_GAUGES, run, run_n, number, out, out_n);
+}
+
+uint64_t plain_part_cases(const uint64_t *run, size_t run_n, uint64_t number, uint64_t *out, size_t out_n) {
+    return part(RG_SIDE_CASES, run, run_n, number, out, out_n);
 }
 
 /* The pick sequences that begin with these picks. */

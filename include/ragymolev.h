@@ -1,7 +1,8 @@
 /* ragymolev.h: the planner core for C and C++, and for whatever can call C.
  *
  * From top to bottom: how every entry is called; the layouts of what is lent to it, with their sizes and offsets; the refusals; then the entries,
- * in the order in which a planner meets them: files, tables, judging, runs, counting and growing, pairs, covers, orders, trials, recorded tests.
+ * in the order in which a planner meets them: files, tables, judging, runs, parts of a list, counting and growing, pairs, covers, orders, trials,
+ * recorded tests.
  * docs/MANUAL.md tells what a table, a chain, a ladder and a run are. The library is built by `rt staticlib ragymolev`.
  *
  * HOW EVERY ENTRY IS CALLED
@@ -60,6 +61,9 @@
 
 /* PAIRS: rows of pairs that need not be a chain. */
 #define RG_PAIRS_WORDS 64
+
+/* NUMBERS: gauges or cases by number, zeros behind. */
+#define RG_NUMBERS_WORDS 64
 
 /* RUN: a paused run. A start makes one, and a run call puts the next one in its place. It can be stored and copied as it is. Changed words get
  * RG_PAUSED, unless they make another value that some moves from a fresh start lead to. */
@@ -239,6 +243,26 @@ uint64_t rg_explain_gauge(const uint64_t *run, size_t run_length, uint64_t gauge
 /* The same of a case run: by the first picked case that the pair's gauge does not respond under.
  * Writes pick: ONE, that case. */
 uint64_t rg_explain_case(const uint64_t *run, size_t run_length, uint64_t gauge, uint64_t gauge_case, uint64_t *pick, size_t pick_length);
+
+/* PARTS OF A LIST: a RUN in phase RG_DOWN is a part, that of the ladders whose pick sequence begins with its picks; a fresh one is the whole list. Run
+ * calls from it hand these ladders out; the first ladder whose sequence begins otherwise, or RG_END, closes the part and is not of it. The parts of its
+ * candidates, one after the other, are the part. */
+
+/* The gauges that a gauge run can pick next, each of which makes a part of this one. Where there is none the part has one ladder.
+ * Reads run: RUN. Writes numbers: NUMBERS, the candidates in the order of the run's preference.
+ * Refused: 100; 10; 11; 27; 15, for another phase than RG_DOWN too. */
+uint64_t rg_candidates_gauges(const uint64_t *run, size_t run_length, uint64_t *numbers, size_t numbers_length);
+
+/* The same of a case run: cases. */
+uint64_t rg_candidates_cases(const uint64_t *run, size_t run_length, uint64_t *numbers, size_t numbers_length);
+
+/* The part of a gauge run that has one candidate as a pick more.
+ * Reads run: RUN; number: the candidate. Writes part: RUN, in phase RG_DOWN.
+ * Refused: 100; 10; 11; 27; 15, for another phase than RG_DOWN and for a number that is no candidate too. */
+uint64_t rg_part_gauges(const uint64_t *run, size_t run_length, uint64_t number, uint64_t *part, size_t part_length);
+
+/* The same of a case run. */
+uint64_t rg_part_cases(const uint64_t *run, size_t run_length, uint64_t number, uint64_t *part, size_t part_length);
 
 /* COUNTING AND GROWING */
 

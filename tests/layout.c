@@ -21,7 +21,8 @@ enum { BYTES = RG_FILE_BYTES + 1 };
 static uint64_t table[RG_TABLE_WORDS + 1], order[RG_ORDER_WORDS + 1], chain[RG_CHAIN_WORDS + 1], ladder[RG_CHAIN_WORDS + 1];
 static uint64_t run[RG_RUN_WORDS + 1], by_cases[RG_RUN_WORDS + 1], step[RG_STEP_WORDS + 1], count[RG_COUNT_WORDS + 1], one[RG_ONE_WORDS + 1];
 static uint64_t pairs[RG_PAIRS_WORDS + 1], cover[RG_COVER_WORDS + 1], proposal[RG_PROPOSAL_WORDS + 1], span[RG_SPAN_WORDS + 1];
-static uint64_t made[RG_TABLE_WORDS + 1], grown[RG_CHAIN_WORDS + 1], test[RG_TEST_WORDS + 1];
+static uint64_t test[RG_TEST_WORDS + 1], made[RG_TABLE_WORDS + 1], grown[RG_CHAIN_WORDS + 1], numbers[RG_NUMBERS_WORDS + 1];
+static uint64_t part[RG_RUN_WORDS + 1];
 static int32_t readings[RG_READINGS + 1];
 static uint8_t bytes[BYTES];
 static const char file[] = "%%MatrixMarket matrix coordinate pattern general\n%note\n3 3 6\n1 1\n1 2\n2 1\n2 2\n3 2\n3 3\n";
@@ -35,6 +36,10 @@ static uint64_t at_judge_chain(const size_t *n) { return rg_judge_chain(table, n
 static uint64_t at_judge_ladder(const size_t *n) { return rg_judge_ladder(table, n[0], chain, n[1], one, n[2]); }
 static uint64_t at_start_gauges(const size_t *n) { return rg_start_gauges(table, n[0], order, n[1], 0, run, n[2]); }
 static uint64_t at_start_cases(const size_t *n) { return rg_start_cases(table, n[0], order, n[1], 0, by_cases, n[2]); }
+static uint64_t at_candidates_gauges(const size_t *n) { return rg_candidates_gauges(run, n[0], numbers, n[1]); }
+static uint64_t at_candidates_cases(const size_t *n) { return rg_candidates_cases(by_cases, n[0], numbers, n[1]); }
+static uint64_t at_part_gauges(const size_t *n) { return rg_part_gauges(run, n[0], 3, part, n[1]); }
+static uint64_t at_part_cases(const size_t *n) { return rg_part_cases(by_cases, n[0], 2, part, n[1]); }
 static uint64_t at_run_gauges(const size_t *n) { return rg_run_gauges(run, n[0], 9, step, n[1]); }
 static uint64_t at_run_cases(const size_t *n) { return rg_run_cases(by_cases, n[0], 9, step, n[1]); }
 static uint64_t at_explain_gauge(const size_t *n) { return rg_explain_gauge(run, n[0], 3, 3, one, n[1]); }
@@ -67,6 +72,10 @@ static const Entry entries[] = {
     {"rg_judge_ladder", at_judge_ladder, {RG_TABLE_WORDS, RG_CHAIN_WORDS, RG_ONE_WORDS}},
     {"rg_start_gauges", at_start_gauges, {RG_TABLE_WORDS, RG_ORDER_WORDS, RG_RUN_WORDS}},
     {"rg_start_cases", at_start_cases, {RG_TABLE_WORDS, RG_ORDER_WORDS, RG_RUN_WORDS}},
+    {"rg_candidates_gauges", at_candidates_gauges, {RG_RUN_WORDS, RG_NUMBERS_WORDS}},
+    {"rg_candidates_cases", at_candidates_cases, {RG_RUN_WORDS, RG_NUMBERS_WORDS}},
+    {"rg_part_gauges", at_part_gauges, {RG_RUN_WORDS, RG_RUN_WORDS}},
+    {"rg_part_cases", at_part_cases, {RG_RUN_WORDS, RG_RUN_WORDS}},
     {"rg_run_gauges", at_run_gauges, {RG_RUN_WORDS, RG_STEP_WORDS}},
     {"rg_run_cases", at_run_cases, {RG_RUN_WORDS, RG_STEP_WORDS}},
     {"rg_count", at_count, {RG_TABLE_WORDS, RG_ORDER_WORDS, RG_COUNT_WORDS}},
@@ -91,6 +100,7 @@ static void set_marks(void) {
     run[RG_RUN_WORDS] = by_cases[RG_RUN_WORDS] = step[RG_STEP_WORDS] = count[RG_COUNT_WORDS] = one[RG_ONE_WORDS] = pairs[RG_PAIRS_WORDS] = MARK;
     cover[RG_COVER_WORDS] = proposal[RG_PROPOSAL_WORDS] = span[RG_SPAN_WORDS] = test[RG_TEST_WORDS] = made[RG_TABLE_WORDS] = MARK;
     readings[RG_READINGS] = (int32_t)MARK;
+    numbers[RG_NUMBERS_WORDS] = part[RG_RUN_WORDS] = MARK;
 }
 
 static int marks_stand(void) {
@@ -98,7 +108,7 @@ static int marks_stand(void) {
            grown[RG_CHAIN_WORDS] == MARK && run[RG_RUN_WORDS] == MARK && by_cases[RG_RUN_WORDS] == MARK && step[RG_STEP_WORDS] == MARK &&
            count[RG_COUNT_WORDS] == MARK && one[RG_ONE_WORDS] == MARK && pairs[RG_PAIRS_WORDS] == MARK && cover[RG_COVER_WORDS] == MARK &&
            proposal[RG_PROPOSAL_WORDS] == MARK && span[RG_SPAN_WORDS] == MARK && test[RG_TEST_WORDS] == MARK && made[RG_TABLE_WORDS] == MARK &&
-           readings[RG_READINGS] == (int32_t)MARK;
+           readings[RG_READINGS] == (int32_t)MARK && numbers[RG_NUMBERS_WORDS] == MARK && part[RG_RUN_WORDS] == MARK;
 }
 
 static void sizes_of(const Entry *entry) {
@@ -208,6 +218,22 @@ static void offsets_of_case_run(void) {
     CHECK(rows_are(s + RG_STEP_CHAIN + RG_CHAIN_ROWS, 1, 3, 0) && s[RG_STEP_CHAIN + RG_CHAIN_COUNT] == 2 && rows_are(s + RG_STEP_PICKS, 1, 2, 0));
 }
 
+/* Gauges 1 and 3 are the candidates of a fresh run on K3, of a case run case 2 alone. */
+static void offsets_of_parts(void) {
+    uint64_t fresh[RG_RUN_WORDS], whole[RG_RUN_WORDS], n[RG_NUMBERS_WORDS];
+    CHECK(rg_start_gauges(k3, RG_TABLE_WORDS, plain_of_3, RG_ORDER_WORDS, 1, fresh, RG_RUN_WORDS) == RG_ACCEPTED);
+    CHECK(rg_candidates_gauges(fresh, RG_RUN_WORDS, n, RG_NUMBERS_WORDS) == RG_ACCEPTED);
+    CHECK(n[0] == 1 && n[1] == 3 && n[2] == 0 && n[RG_NUMBERS_WORDS - 1] == 0);
+    memcpy(whole, fresh, sizeof whole);
+    CHECK(rg_part_gauges(whole, RG_RUN_WORDS, 3, fresh, RG_RUN_WORDS) == RG_ACCEPTED);
+    whole[RG_RUN_PICKS] = 3;
+    whole[RG_RUN_COUNT] = 1;
+    CHECK(memcmp(whole, fresh, sizeof whole) == 0);
+    CHECK(rg_start_cases(k3, RG_TABLE_WORDS, plain_of_3, RG_ORDER_WORDS, 0, fresh, RG_RUN_WORDS) == RG_ACCEPTED);
+    CHECK(rg_candidates_cases(fresh, RG_RUN_WORDS, n, RG_NUMBERS_WORDS) == RG_ACCEPTED && n[0] == 2 && n[1] == 0);
+    CHECK(rg_part_cases(fresh, RG_RUN_WORDS, 1, whole, RG_RUN_WORDS) == RG_PAUSED);
+}
+
 static void offsets_of_answers(void) {
     uint64_t n[RG_COUNT_WORDS], c[RG_COVER_WORDS], p[RG_PROPOSAL_WORDS], rival[RG_PAIRS_WORDS];
     CHECK(rg_count(k3, RG_TABLE_WORDS, plain_of_3, RG_ORDER_WORDS, 99, n, RG_COUNT_WORDS) == RG_ACCEPTED);
@@ -275,6 +301,7 @@ int main(void) {
     bytes_of_order();
     offsets_of_run();
     offsets_of_case_run();
+    offsets_of_parts();
     offsets_of_answers();
     offsets_of_test();
     bytes_of_test();
