@@ -19,14 +19,22 @@
 static const char *const verdicts[] = {
     [RG_STILL_LADDER] = "still a ladder", [RG_ONLY_CHAIN] = "only a chain", [RG_NOT_WITHIN] = "no longer within the table"};
 
+#define MOST_TEXT (2 * RG_TABLE_BYTES + 256)
+
+/* The file of a proposal; its length. */
+static size_t text_of(const uint64_t *proposal, uint8_t *text) {
+    uint64_t ladder[RG_TABLE_WORDS];
+    size_t length = (size_t)sprintf((char *)text, HEAD "verdict %s\nplace %" PRIu64 ":%" PRIu64 "\ntable\n", verdicts[proposal[RG_PROPOSAL_EFFECT]],
+                                    proposal[RG_PROPOSAL_GAUGE], proposal[RG_PROPOSAL_CASE]);
+    length += file_of_table(proposal + RG_PROPOSAL_TABLE, text + length);
+    length += (size_t)sprintf((char *)text + length, "ladder\n");
+    table_of_chain(proposal + RG_PROPOSAL_CHAIN, proposal[RG_PROPOSAL_TABLE + RG_TABLE_CASES], ladder);
+    return length + file_of_table(ladder, text + length);
+}
+
 void put_proposal(const uint64_t *proposal) {
-    uint64_t cases = proposal[RG_PROPOSAL_TABLE + RG_TABLE_CASES];
-    put_text(HEAD "verdict %s\n", verdicts[proposal[RG_PROPOSAL_EFFECT]]);
-    put_text("place %" PRIu64 ":%" PRIu64 "\n", proposal[RG_PROPOSAL_GAUGE], proposal[RG_PROPOSAL_CASE]);
-    put_text("table\n");
-    put_table(proposal + RG_PROPOSAL_TABLE);
-    put_text("ladder\n");
-    put_chain(proposal + RG_PROPOSAL_CHAIN, cases);
+    static uint8_t text[MOST_TEXT];
+    put(text, text_of(proposal, text));
 }
 
 /* What is left to read. */
@@ -71,7 +79,9 @@ static bool take_table(Rest *rest, const char *end, uint64_t *table) {
     return why == RG_ACCEPTED;
 }
 
+/* Its table and ladder may stand in a file of pairs in more ways than one; the one that `trial` writes is taken. */
 bool read_proposal(const File *file, uint64_t *proposal) {
+    static uint8_t text[MOST_TEXT];
     Rest rest = {(const char *)file->bytes, (const char *)file->bytes + file->length};
     uint64_t ladder[RG_TABLE_WORDS], *table = proposal + RG_PROPOSAL_TABLE;
     if (!take(&rest, HEAD "verdict ") || !take_verdict(&rest, &proposal[RG_PROPOSAL_EFFECT])) return false;
@@ -82,5 +92,5 @@ bool read_proposal(const File *file, uint64_t *proposal) {
     if (ladder[RG_TABLE_CASES] != table[RG_TABLE_CASES]) return false;
     proposal[RG_PROPOSAL_CHAIN + RG_CHAIN_COUNT] = ladder[RG_TABLE_GAUGES];
     memcpy(proposal + RG_PROPOSAL_CHAIN + RG_CHAIN_ROWS, ladder + RG_TABLE_ROWS, RG_ROWS * sizeof *proposal);
-    return true;
+    return text_of(proposal, text) == file->length && !memcmp(text, file->bytes, file->length);
 }
