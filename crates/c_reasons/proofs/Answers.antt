@@ -2,7 +2,7 @@
 -- (`explains-unique`, of either side); with slices no longer than their layouts it is the library's answer (`explains-served`).
 --
 -- Elsewhere: what holds of every entry, words/proofs/Answers; one answer of the library's own functions, `explained-unique` in explain/proofs/Answers.
-use mathlib.Core.Path.{_≡_, refl, sym, ap, _∙_}
+use mathlib.Core.Path.{_≡_, refl, ap}
 use mathlib.Core.Logic.{_⊎_}
 use mathlib.Core.List.{List, [], _∷_, map}
 use Prim.Native.Nat.{ℕ, suc, _≤_, _<_}
