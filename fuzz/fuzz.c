@@ -2,8 +2,10 @@
  * of all that was lent. Around each piece of memory lent to the library stand guards, which must stay as they were; a refusal must leave everything
  * as it was. Input i of a seed is the same in every run: FIRST is the first one, 0 by default.
  *
- * In order: an input and its memory; how each entry is called; how an input of each is made; comparing; whole lists; counting what was seen. */
+ * In order: an input and its memory; how an input of each entry is made; comparing; whole lists; counting what was seen. How each entry is called stands in
+ * entries.h. */
 #include "../include/ragymolev.h"
+#include "entries.h"
 #include "generate.h"
 #include <inttypes.h>
 #include <stdio.h>
@@ -11,21 +13,7 @@
 #include <string.h>
 
 #define GUARD 64
-#define MOST_LENT 5
 #define ENOUGH 100000 /* inputs after which every answer of every entry must have been seen */
-
-/* Memory to be lent: elements of a size, how many the layout has (0: any number of bytes), how many are lent, and what they hold at first. */
-typedef struct {
-    size_t size, layout, length;
-    uint8_t *first;
-} Lent;
-
-/* An input: numbers and lent memory, in the order of the entry's parameters, each kind by itself. */
-typedef struct {
-    uint64_t number[4];
-    int lent;
-    Lent at[MOST_LENT];
-} Input;
 
 /* --- an input and its memory */
 
@@ -54,44 +42,6 @@ static void shorten(Input *in) {
 static void give_back(Input *in) {
     for (int i = 0; i < in->lent; i++) free(in->at[i].first);
 }
-
-/* --- how each entry is called */
-
-#define W(i) (uint64_t *)p[i], in->at[i].length
-#define B(i) (uint8_t *)p[i], in->at[i].length
-#define R(i) (int32_t *)p[i], in->at[i].length
-#define N(i) in->number[i]
-#define ENTRY(name, ...)                                                                                    \
-    static uint64_t rg_call_##name(const Input *in, void *const *p) { return rg_##name(__VA_ARGS__); }      \
-    static uint64_t plain_call_##name(const Input *in, void *const *p) { return plain_##name(__VA_ARGS__); }
-
-ENTRY(read, B(0), W(1))
-ENTRY(comment, B(0), N(0), W(1))
-ENTRY(write, W(0), B(1), W(2))
-ENTRY(sample, N(0), N(1), N(2), N(3), W(0))
-ENTRY(judge_chain, W(0), W(1), W(2))
-ENTRY(judge_ladder, W(0), W(1), W(2))
-ENTRY(start_gauges, W(0), W(1), N(0), W(2))
-ENTRY(start_cases, W(0), W(1), N(0), W(2))
-ENTRY(run_gauges, W(0), N(0), W(1))
-ENTRY(run_cases, W(0), N(0), W(1))
-ENTRY(explain_gauge, W(0), N(0), N(1), W(1))
-ENTRY(explain_case, W(0), N(0), N(1), W(1))
-ENTRY(candidates_gauges, W(0), W(1))
-ENTRY(candidates_cases, W(0), W(1))
-ENTRY(part_gauges, W(0), N(0), W(1))
-ENTRY(part_cases, W(0), N(0), W(1))
-ENTRY(count, W(0), W(1), N(0), W(2))
-ENTRY(grow, W(0), W(1), W(2), W(3))
-ENTRY(rivals, W(0), N(0), N(1), W(1))
-ENTRY(decides, W(0), N(0), N(1), W(1))
-ENTRY(cover, W(0), N(0), W(1))
-ENTRY(order, W(0), W(1), W(2), B(3), W(4))
-ENTRY(trial, W(0), W(1), N(0), N(1), W(2))
-ENTRY(commit, W(0), W(1), W(2))
-ENTRY(read_test, B(0), N(0), W(1), R(2), W(3))
-ENTRY(write_test, W(0), R(1), B(2), W(3))
-ENTRY(equal, W(0), R(1), W(2), R(3), W(4))
 
 /* --- how an input of each is made */
 
@@ -384,7 +334,7 @@ static void for_equal(Input *in) {
     lend_out(in, RG_ONE_WORDS);
 }
 
-/* --- the entries, with the refusals that each has beside 100 */
+/* --- the entries */
 
 typedef struct {
     const char *name;
@@ -394,37 +344,11 @@ typedef struct {
     uint8_t refusals[12];
 } Entry;
 
-#define LISTED(name, make, ...) {#name, make, rg_call_##name, plain_call_##name, {__VA_ARGS__}}
+#define LISTED(name, ...) {#name, for_##name, rg_call_##name, plain_call_##name, {__VA_ARGS__}},
+#define for_judge_chain for_judge
+#define for_judge_ladder for_judge
 
-static const Entry entries[] = {
-    LISTED(read, for_read, 1, 2, 3, 4, 5, 6, 7, 8, 9),
-    LISTED(comment, for_comment, 1, 2, 3, 4, 5, 6, 7, 8, 9, 17, 20),
-    LISTED(write, for_write, 10, 11, 16),
-    LISTED(sample, for_sample, 10, 28),
-    LISTED(judge_chain, for_judge, 10, 11, 12, 13),
-    LISTED(judge_ladder, for_judge, 10, 11, 12, 13),
-    LISTED(start_gauges, for_start_gauges, 10, 11, 27),
-    LISTED(start_cases, for_start_cases, 10, 11, 27),
-    LISTED(run_gauges, for_run_gauges, 10, 11, 15, 18, 27),
-    LISTED(run_cases, for_run_cases, 10, 11, 15, 18, 27),
-    LISTED(explain_gauge, for_explain_gauge, 10, 11, 15, 19, 22, 27),
-    LISTED(explain_case, for_explain_case, 10, 11, 15, 19, 22, 27),
-    LISTED(candidates_gauges, for_candidates_gauges, 10, 11, 15, 27),
-    LISTED(candidates_cases, for_candidates_cases, 10, 11, 15, 27),
-    LISTED(part_gauges, for_part_gauges, 10, 11, 15, 27),
-    LISTED(part_cases, for_part_cases, 10, 11, 15, 27),
-    LISTED(count, for_count, 10, 11, 18, 27),
-    LISTED(grow, for_grow, 10, 11, 12, 13, 14, 27),
-    LISTED(rivals, for_rivals, 10, 11, 19),
-    LISTED(decides, for_decides, 10, 11, 19),
-    LISTED(cover, for_cover, 10, 11, 18, 23, 24),
-    LISTED(order, for_order, 10, 11, 12, 13, 14, 16, 25),
-    LISTED(trial, for_trial, 7, 10, 11, 12, 13, 25),
-    LISTED(commit, for_commit, 10, 11, 26),
-    LISTED(read_test, for_read_test, 1, 2, 3, 4, 5, 6, 7, 8, 9, 20, 21),
-    LISTED(write_test, for_write_test, 10, 11, 16, 20),
-    LISTED(equal, for_equal, 10, 11, 20),
-};
+static const Entry entries[] = {EACH_ENTRY(LISTED)};
 #define ENTRIES ((int)(sizeof entries / sizeof entries[0]))
 #define WHOLE_LISTS ENTRIES
 

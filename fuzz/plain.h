@@ -67,7 +67,7 @@
 #undef rg_commit
 #undef rg_equal
 
-/* More pairs than this are not enumerated: 2 to that many subsets are looked at. */
+/* Of more pairs than this not every subset is looked at, 2 to that many: the ladders are then those that the rules come to. */
 #define PLAIN_PAIRS 18
 /* R-7 looks at 1,024 ladders and refuses one more. */
 #define PLAIN_LADDERS 1025

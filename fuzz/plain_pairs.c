@@ -59,18 +59,13 @@ uint64_t plain_decides(const uint64_t *table, size_t table_n, uint64_t g, uint64
     return 0;
 }
 
-/* R-7. The ladders in gauge order: by subsets where the table has few pairs, else those that the rules come to. Tables that are refused or searched
- * up to 8 by 8 may have 64 pairs; fuzz.c compares the two ways wherever both can be gone. */
+/* The ladders in gauge order. */
 static void ladders_in_order(const uint64_t *table, List *list) {
     Side side;
     Set t = table_set(table);
     plain_side(&side, (int)table[RG_TABLE_GAUGES], (int)table[RG_TABLE_CASES], &t);
-    if (size_of(&t) <= PLAIN_PAIRS) {
-        list_ladders(&t, list);
-        sort_ladders(list, &side);
-    } else {
-        list->n = leaves(&side, PLAIN_LADDERS, list->ladder);
-    }
+    list_ladders(&t, list);
+    sort_ladders(list, &side);
 }
 
 /* A search in progress: the ladders chosen so far, those tried, and how many may be. */

@@ -314,6 +314,7 @@ uint64_t plain_count(const uint64_t *table, size_t table_n, const uint64_t *orde
     side_of(&side, RG_SIDE_GAUGES, table, order);
     uint64_t calls = sequences(&side, &state);
     list_ladders(&side.set, &list);
+    if (calls <= budget && list.n == PLAIN_LADDERS) abort();
     count[0] = calls > budget ? 2 : 1;
     count[1] = calls > budget ? 0 : (uint64_t)list.n;
     count[2] = calls > budget ? budget : calls;

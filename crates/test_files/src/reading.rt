@@ -2,7 +2,6 @@
 use crate::say;
 use crate::script;
 use crate::subject;
-use table::Table;
 
 pub fn plain(file: &[u8], label: &[u8]) {
     answer(file);
@@ -16,7 +15,7 @@ pub fn sized(file: &[u8], label: &[u8]) {
 }
 
 // Reads a file, and writes its table or its refusal.
-pub fn answer(file: &[u8]) {
+fn answer(file: &[u8]) {
     let got = subject::read(file);
     if got.refused != 0 {
         say::refused(got.refused);
@@ -25,12 +24,6 @@ pub fn answer(file: &[u8]) {
     say::text(b"read ");
     let t = got.table;
     say::table(t);
-}
-
-// The table of a file; a blank one where it is refused.
-pub fn table(file: &[u8]) -> Table {
-    let got = subject::read(file);
-    got.table
 }
 
 // Looks a comment up, and writes its place and the part shown, up to 40 bytes of it.

@@ -18,14 +18,6 @@ pub fn number(n: u64) {
     io::print_decimal(OUT, n);
 }
 
-// Writes a signed number in decimal.
-pub fn signed(v: i32) {
-    if v < 0 {
-        text(b"-");
-    }
-    number(recorded::magnitude(v));
-}
-
 // Writes words and a length.
 pub fn size(words: &[u8], n: usize) {
     text(words);

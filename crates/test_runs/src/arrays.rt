@@ -16,26 +16,6 @@ pub fn put(a: &mut [u64; 64], i: u64, x: u64) {
     }
 }
 
-pub fn get_pick(a: &[u8; 64], i: u64) -> u64 {
-    if 64 <= i {
-        return 0;
-    }
-    let at = i as usize;
-    wide(a[at])
-}
-
-// A pick is a byte: of a larger number it stores the low eight bits.
-pub fn put_pick(a: &mut [u8; 64], i: u64, x: u64) {
-    if i < 64 {
-        let at = i as usize;
-        a[at] = (x % 256) as u8;
-    }
-}
-
 pub fn plus(a: u64, b: u64) -> u64 {
     std::num::wrapping_add_u64(a, b)
-}
-
-fn wide(x: u8) -> u64 {
-    x as u64
 }

@@ -7,6 +7,6 @@ use Rattle.test_runs.proofs.groups.shape.Tie as tie
 pub shape-spec : {M : Type 1} → statement M
 shape-spec =
     tie.close
-    (tie.spec (λ group k gauges cases all now₀ pairs₀ turns₀ now pairs turns. Unit {0})
-    (λ group k gauges cases all now₀ pairs₀ turns₀ now pairs turns. 512 - turns) (λ c κs. tt) (λ c κs. tt) (λ c κs. tt) (λ c. tt)
-    (λ c κs. tt) (λ c κs. tt) (λ c κs. tt) (λ c κs. tt) (λ c. tt) (λ c. omega arith) (λ c. omega arith) (λ c. tt) (λ c. tt))
+    (tie.spec (λ k gauges cases all now₀ pairs₀ turns₀ now pairs turns. Unit {0})
+    (λ k gauges cases all now₀ pairs₀ turns₀ now pairs turns. 512 - turns) (λ c κs. tt) (λ c κs. tt) (λ c κs. tt) (λ c. tt) (λ c κs. tt)
+    (λ c κs. tt) (λ c κs. tt) (λ c. tt) (λ c. omega arith) (λ c. omega arith) (λ c. tt) (λ c. tt))

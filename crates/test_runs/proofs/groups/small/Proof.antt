@@ -7,5 +7,5 @@ use Rattle.test_runs.proofs.groups.small.Tie as tie
 pub small-spec : {M : Type 1} → statement M
 small-spec =
     tie.close
-    (tie.spec (λ group now₀ k₀ now k. Unit {0}) (λ group now₀ k₀ now k. 9 - k) (λ c. tt) (λ c κs. tt) (λ c. omega arith) (λ c. omega arith)
-    (λ c. tt) (λ c. tt))
+    (tie.spec (λ now₀ k₀ now k. Unit {0}) (λ now₀ k₀ now k. 9 - k) (λ c. tt) (λ c κs. tt) (λ c. omega arith) (λ c. omega arith) (λ c. tt)
+    (λ c. tt))
