@@ -144,7 +144,7 @@ def declarations(text):
             if current is not None:
                 current.text.append(line)
                 if current.kind in ("data", "record"):
-                    m = re.match(r"^\s*(pub )?(\S+(?: \S+)*?) : ", line)
+                    m = re.match(r"^\s*(pub )?(\S+(?: \S+)*?) :(?: |$)", line)
                     if m and margin == section_margins[-1] + 2:
                         for n in m.group(2).split():
                             current.parts.append((n, bool(m.group(1)) or current.kind == "data", number))
