@@ -3,3 +3,4 @@ pub mod Conflicts
 pub mod Covers
 pub mod Tests
 pub mod Omitting
+pub mod private

@@ -27,7 +27,7 @@ use Rattle.table.proofs.Places.{row-past}
 use Rattle.table.proofs.Padding.{pad-getD}
 use Rattle.lists.specs.Arrangements.{IsArrangement}
 use Rattle.lists.specs.Lists.{gaugeSide}
-use Rattle.lists.specs.Picks.{candidates}
+use Rattle.lists.specs.private.ByNumber.{candidates}
 use Rattle.lists.specs.OnTable.{handOut}
 use Rattle.lists.specs.private.Arranging.{indexAt, arrange, prefer}
 use Rattle.lists.proofs.Arranging.{length-arrange, arrange-moves}
@@ -35,7 +35,7 @@ use Rattle.lists.proofs.Listed.{picksInOrder}
 use Rattle.lists.proofs.BothSides.{Fair, gauge-fair, sideList}
 use Rattle.lists.proofs.PreferredSides.{prefer-fair, preferred-list}
 use Rattle.preference.specs.Preferences.{preferredRefusal, orderOf}
-use Rattle.preference.specs.private.Placing.{gathered}
+use Rattle.preference.specs.Placing.{gathered}
 use Rattle.preference.proofs.Holding.{preference-of}
 use Rattle.preference.proofs.Placing.{passes-both}
 use Rattle.preference.proofs.Gathering.{gathered-array}

@@ -1,8 +1,8 @@
--- What an answer of counting says (02, R-4), from its contract alone: there is one answer only (`counts-only`); spent exactly when there are
--- more sequences than the budget, and a budget equal to their number is enough; the count is at most the calls, at most (min G L)!, and
+-- What an answer of counting says (02, R-4), from its contract alone: there is one answer only (`counts-only`); the sequences are those of states that
+-- moves lead to, the empty one included (`sequence-reached`, `empty-sequence`); spent exactly when there are more sequences than the budget, and a budget equal to their number is enough; the count is at most the calls, at most (min G L)!, and
 -- the number of sets that a run of either side, under any preference, hands out once a call has answered end, as it does when it is called on; and
 -- under every preference it is the same (`ladders-same`).
-use mathlib.Core.Path.{_≡_, sym, ap, ap₂, _∙_}
+use mathlib.Core.Path.{_≡_, refl, sym, ap, ap₂, _∙_}
 use mathlib.Core.Logic.{_↔_}
 use mathlib.Core.List.{List, [], map, List·Memᴰ}
 use Prim.Native.Nat.{ℕ, _+_, _≤_, _<_, min}
@@ -13,14 +13,15 @@ use Rattle.table.specs.declared.Table.{Table}
 use Rattle.table.specs.Tables.{Legal, tableRows}
 use Rattle.refusals.proofs.Answering.{number-injective}
 use Rattle.rules.specs.Sequences.{All, factorial}
+use Rattle.rules.specs.Machine.{Down, State, fresh, afterBy}
 use Rattle.rules.specs.Calls.{end, Call, handouts}
 use Rattle.rules.proofs.Sequences.{distinct-length}
 use Rattle.rules.proofs.Ends.{Enough}
 use Rattle.lists.specs.Arrangements.{IsArrangement}
 use Rattle.lists.specs.Lists.{Side, gaugeSide}
-use Rattle.lists.specs.Picks.{candidates}
-use Rattle.lists.specs.OnTable.{handOut, callsOn}
-use Rattle.lists.specs.Demand.{Demand}
+use Rattle.lists.specs.private.ByNumber.{candidates}
+use Rattle.lists.specs.OnTable.{handOut, moveOn, callsOn}
+use Rattle.lists.specs.private.Demand.{Demand}
 use Rattle.lists.specs.private.Arranging.{indexAt, arrange, prefer}
 use Rattle.lists.proofs.Listed.{picksInOrder, list-unique, lists-length}
 use Rattle.lists.proofs.BothSides.{Fair, gauge-fair, list-few, sideList}
@@ -29,7 +30,7 @@ use Rattle.lists.proofs.Demand.{run-lists-all}
 use Rattle.preference.specs.Preferences.{preferredRefusal, orderOf}
 use Rattle.count.specs.declared.Count.{Count}
 use Rattle.count.specs.declared.Count.the-variants.{Counted, Spent, Refused}
-use Rattle.count.specs.Counting.{CountAnswer, refused, spent, counted, countAnswer, PickSequences, mostCalls, dueAnswer, CountsBy, Counts}
+use Rattle.count.specs.Counting.{CountAnswer, refused, spent, counted, countAnswer, ReachedPicks, PickSequences, mostCalls, dueAnswer, CountsBy, Counts}
 use Rattle.count.proofs.Nodes.{nodes, leaves-nodes}
 use Rattle.count.proofs.Reached.{reachedInOrder, pick-sequences}
 use Rattle.count.proofs.Answers.{due-large, due-counted, due-spent, nodes-some}
@@ -47,6 +48,13 @@ count-answer-injective (Spent m) (Refused y) e = let z : _≡_ {A = ℕ} 0 1 = c
 count-answer-injective (Refused x) (Counted y) e = let z : _≡_ {A = ℕ} 0 1 = cc in absurd (omega arith)
 count-answer-injective (Refused x) (Spent n) e = let z : _≡_ {A = ℕ} 0 1 = cc in absurd (omega arith)
 count-answer-injective (Refused x) (Refused y) e = ap Refused (number-injective x y (cc))
+
+-- ---- the sequences: "each pick sequence the rules can reach, the empty one included"
+pub sequence-reached : (s : Side) (o p : List ℕ) → ReachedPicks s o p → (n : ℕ) × (afterBy (moveOn s o) n fresh .picks ≡ p)
+sequence-reached s o p r = (r .reached .count, ap (λ (x : State). x .picks) (r .reached .leads))
+
+pub empty-sequence : (s : Side) (o : List ℕ) (ps : List (List ℕ)) → PickSequences s o ps → List·Memᴰ [] ps
+empty-sequence s o ps h = h .members [] .1 (record { phase = Down; reached = record { count = 0; leads = refl } })
 
 -- any two lists of the reached sequences are equally long
 sequences-length : (s : Side) (o : List ℕ) (ps qs : List (List ℕ)) → PickSequences s o ps → PickSequences s o qs → length ps ≡ length qs

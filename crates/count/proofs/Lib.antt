@@ -6,4 +6,5 @@ pub mod Nodes
 pub mod Reached
 pub mod Answers
 pub mod Laws
+pub mod Plain
 pub mod KnownCounts

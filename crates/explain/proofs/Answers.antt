@@ -37,7 +37,9 @@ use Rattle.preference.specs.Preferences.{preferredRefusal}
 use Rattle.preference.proofs.Placing.{passes-both}
 use Rattle.replay.proofs.Numbers.{length-numbers, getD-numbers}
 use Rattle.runs.specs.Paused.{Value, numbered as byNumber, paused}
-use Rattle.runs.specs.Calling.{Step, outcome, arrangement, told, movesOf, held, valueRefusal, PausedAt, Called}
+use Rattle.runs.specs.Calling.{Step, outcome, arrangement, told, held, valueRefusal, PausedAt}
+use Rattle.runs.specs.private.Either.{CalledOf}
+use Rattle.runs.specs.Omitting.{movesOf}
 use Rattle.runs.specs.private.Working.{Works}
 use Rattle.runs.specs.declared.Outcome.{Outcome}
 use Rattle.runs.specs.declared.Outcome.the-variants.{HandedOut, Spent, End, Refused}
@@ -150,7 +152,7 @@ module _ (side : Table → Side) (v : Value) (starts : Starts side v) where
       ap (λ (x : List ℕ). getD x i 0) (picks-are p h) ∙ pad-getD (map suc p) i ∙ getD-numbers p i (omega (arith, count-is p h))
 
   -- ---- a call that makes no move
-  module _ (r : Step) (called : Called side v 0 r) where
+  module _ (r : Step) (called : CalledOf side v 0 r) where
     spent-at : Passes → (s : State) → PausedAt side v s → r .answer ≡ spent
     spent-at z s p =
         ap (λ (x : Step). x .answer) (called .rules z s p)

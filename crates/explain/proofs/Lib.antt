@@ -5,3 +5,5 @@ pub mod Leaves
 pub mod Searching
 pub mod Reasoning
 pub mod Answers
+pub mod Sentences
+pub mod Plain

@@ -35,7 +35,7 @@ use Rattle.judge.specs.declared.Judgement.{Judgement}
 use Rattle.judge.specs.declared.Judgement.the-variants.{Yes, No, Refused}
 use Rattle.judge.proofs.NestedTest.{chain-of-test, test-of-chain}
 use Rattle.lists.specs.Arrangements.{IsArrangement, placeOf}
-use Rattle.lists.specs.PickSequence.{pickSeq}
+use Rattle.lists.specs.private.ByNumber.{pickSeq}
 use Rattle.lists.specs.Lists.{gaugeSide, listKey}
 use Rattle.lists.specs.Growing.{FirstContaining}
 use Rattle.lists.specs.OnTable.{chainOf}
@@ -44,7 +44,7 @@ use Rattle.lists.proofs.Arranging.{length-arrange, arrange-moves, arrange-withi
 use Rattle.lists.proofs.Growing.{grow, grow-first, first-unique}
 use Rattle.lists.proofs.PreferredGrowing.{first-placed}
 use Rattle.preference.specs.Preferences.{isPreference, preferredRefusal, orderOf, numbersOf}
-use Rattle.preference.specs.private.Placing.{inverse, placedAs, gathered}
+use Rattle.preference.specs.Placing.{inverse, placedAs, gathered}
 use Rattle.preference.specs.declared.Placed.{Placed}
 use Rattle.preference.proofs.Holding.{preference-of}
 use Rattle.preference.proofs.Placing.{passes-both, ok-is, places-are}

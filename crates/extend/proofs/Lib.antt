@@ -2,3 +2,4 @@
 pub mod PickLoops
 pub mod Picking
 pub mod Answers
+pub mod Plain

@@ -25,16 +25,19 @@ use Rattle.table.proofs.Places.{sub-within}
 use Rattle.judge.specs.private.RowTests.{nested, nestedWith, allNested}
 use Rattle.judge.proofs.NestedTest.{chain-of-test}
 use Rattle.judge.proofs.KnownChains.{k6-within, k6-no-chain, k7-within, k7-chain, k7-not-maximal}
-use Rattle.rules.specs.Machine.{fresh, Given, nothing, hands, ends, move, after}
+use Rattle.rules.specs.Machine.{fresh, Given, nothing, hands, ends, Move, afterBy}
 use Rattle.rules.specs.Calls.{callBy}
 use Rattle.rules.proofs.Sequences.{All-of}
-use Rattle.lists.specs.Arrangements.{placeOf}
-use Rattle.lists.specs.Preferred.{rulesOutBy, candidateBy, chosen, candidatesBy}
-use Rattle.lists.specs.PickSequence.{isIn, score, best, takeFrom, pickSeq}
-use Rattle.lists.specs.Lists.{GaugeList}
-use Rattle.lists.specs.Picks.{common, rulesOut, candidate, select, candidates}
-use Rattle.lists.specs.OnTable.{chainRow, chainOf}
-use Rattle.lists.proofs.Listed.{chainsInOrder, gauge-list}
+use Rattle.lists.specs.Arrangements.{placeOf, plain}
+use Rattle.lists.specs.Preferred.{rulesOutBy, candidateBy, chosen, candidatesBy, bestFrom, bestIn, takeBy, pickSeqBy}
+use Rattle.lists.specs.PickSequence.{isIn, score}
+use Rattle.lists.specs.private.ByNumber.{best, takeFrom, pickSeq}
+use Rattle.lists.specs.Lists.{gaugeSide, GaugeList}
+use Rattle.lists.specs.Picks.{common, select}
+use Rattle.lists.specs.private.ByNumber.{rulesOut, candidate, candidates}
+use Rattle.lists.specs.OnTable.{chainRow, chainOf, moveOn}
+use Rattle.lists.proofs.Listed.{chainsInOrder}
+use Rattle.lists.proofs.Plain.{gauge-list-of, first-plain}
 use Rattle.lists.proofs.Growing.{covers, fitting, growFrom, grow, grow-first}
 use Rattle.known.specs.KnownTables.{pairs, count, Entry, Shape, Lists, moveOf, k1, k2, k3, k4, k5, k10, Known, K1, K2, K3, K4, K5, K6, K7, K8, K9, K10}
 use Rattle.known.specs.KnownTables.{Claim, knownTables, AllKnown, Attained}
@@ -45,19 +48,19 @@ module _ (t : Table) (g l : ℕ) where
   shape n z a b = record { legal = legal-of t n z; gauges = a; cases = b }
 
   lists : (es : List Entry) → Shape t g l → chainsInOrder (tableRows t) ≡ map (λ (e : Entry). e .set) es
-      → map (λ (e : Entry). map suc (pickSeq (e .set))) es ≡ map (λ (e : Entry). e .picks) es
+      → map (λ (e : Entry). map suc (pickSeqBy (plain g) (e .set))) es ≡ map (λ (e : Entry). e .picks) es
       → map (λ (e : Entry). count (e .set)) es ≡ map (λ (e : Entry). e .size) es → Lists t g l es
-  lists es h e p c = record { shape = h; list = subst (GaugeList t) e (gauge-list (tableRows t)); picks = p; sizes = c }
+  lists es h e p c = record { shape = h; list = subst (GaugeList t) e (gauge-list-of t); picks = p; sizes = c }
 
 -- ---- 3:2 is a chain of K2
-k8 : List ℕ
+unfoldable pub k8 : List ℕ
 k8 = pairs ([] ∷ [] ∷ (2 ∷ []) ∷ [])
 
-k8-within : Within (tableRows k2) k8
+pub k8-within : Within (tableRows k2) k8
 unfolding k8 rowsWithin isSubset meet
 k8-within = sub-within (tableRows k2) k8 refl (within-rows (tableRows k2) k8 refl)
 
-k8-chain : IsChain k8
+pub k8-chain : IsChain k8
 unfolding k8 allNested nestedWith nested allBelow isSubset meet
 k8-chain = chain-of-test k8 refl
 
@@ -73,16 +76,17 @@ no-end nothing t e = let z : _≡_ {A = ℕ} 0 1 = cc in omega arith
 no-end (hands p) t e = let z : _≡_ {A = ℕ} 0 1 = cc in omega arith
 no-end ends t e = t
 
+-- the move after i moves
+abbrev after : Table → ℕ → Move
+after t i = moveOn (gaugeSide t) (plain (t .gauges)) (afterBy (moveOn (gaugeSide t) (plain (t .gauges))) i fresh)
+
 -- none of the first n moves ends, where a test of each of them says so
-none-ends : (t : Table) (n : ℕ) → T (allBelow (λ i. goesOn (move (candidates (tableRows t)) (after (candidates (tableRows t)) i fresh) .given)) n)
-    → (k : ℕ) → 1 ≤ k → k < suc n → moveOf t k .given ≢ ends
-none-ends t n h k l b =
-    no-end (moveOf t k .given)
-    (all-at (λ i. goesOn (move (candidates (tableRows t)) (after (candidates (tableRows t)) i fresh) .given)) n (k - 1) h (omega arith))
+none-ends : (t : Table) (n : ℕ) → T (allBelow (λ i. goesOn (after t i .given)) n) → (k : ℕ) → 1 ≤ k → k < suc n → moveOf t k .given ≢ ends
+none-ends t n h k l b = no-end (moveOf t k .given) (all-at (λ i. goesOn (after t i .given)) n (k - 1) h (omega arith))
 
 -- ---- all of them
 holds : (k : Known) → Claim k
-unfolding tableRefusal rowsFit candidates select candidate rulesOut common isIn isProperSubset isSubset meet allBelow chainOf chainRow tabulate pickSeq
+unfolding tableRefusal rowsFit candidatesBy chosen candidateBy rulesOutBy placeOf pickSeqBy takeBy bestIn bestFrom candidates select candidate rulesOut common isIn isProperSubset isSubset meet allBelow chainOf chainRow tabulate pickSeq
     takeFrom best score ones onesIn grow growFrom fitting covers k8 goesOn
 holds K1 = lists k1 _ _ _ (shape k1 _ _ refl refl refl refl) refl refl refl
 holds K2 = lists k2 _ _ _ (shape k2 _ _ refl refl refl refl) refl refl refl
@@ -91,7 +95,7 @@ holds K4 = lists k4 _ _ _ (shape k4 _ _ refl refl refl refl) refl refl refl
 holds K5 = (lists k5 _ _ _ (shape k5 _ _ refl refl refl refl) refl refl refl, refl, refl)
 holds K6 = record { within = k6-within; no-chain = k6-no-chain }
 holds K7 = record { within = k7-within; chain = k7-chain; not-maximal = k7-not-maximal }
-holds K8 = record { within = k8-within; chain = k8-chain; first = grow-first (tableRows k2) k8 k8-within k8-chain }
+holds K8 = record { within = k8-within; chain = k8-chain; first = first-plain 3 (tableRows k2) k8 _ refl .1 (grow-first (tableRows k2) k8 k8-within k8-chain) }
 holds K9 = record { last = refl; sooner = none-ends k2 _ tt }
 holds K10 = (shape k10 _ _ refl refl refl refl, refl, refl, refl, refl)
 
@@ -128,6 +132,6 @@ limits-attained = record {
   handed-out = (_, refl);
   gap = refl;
   list = _;
-  listed = gauge-list (tableRows k2);
+  listed = gauge-list-of k2;
   many = refl;
 }

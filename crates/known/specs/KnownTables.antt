@@ -1,26 +1,26 @@
--- The known tables (01, "Known tables": K1 to K10), as statements about the definitions: `GaugeList`, `pickSeq`, `IsChain`, `IsMaximal` and
--- `FirstContaining`, and rules 1 to 5 from a fresh start. Sets are written as in 01, rows in braces: {2,3} is 2 ∷ 3 ∷ []. A set of pairs
+-- The known tables (01, "Known tables": K1 to K10), as statements about the definitions that the contracts use, at "the arrangement 1, 2, 3 and on":
+-- `GaugeList`, `pickSeqBy`, `IsChain`, `IsMaximal` and `FirstContaining`, and rules 1 to 5, `moveOn`, from a fresh start. Sets are written as in 01, rows in braces: {2,3} is 2 ∷ 3 ∷ []. A set of pairs
 -- is written by its rows too: 1:2, 1:3, 3:2 in three rows is {2,3} {} {2}. *Maximal chain* is 01's "ladder". The one list is `knownTables`,
 -- the one theorem `AllKnown`, at the end, with the limits of demand 3 that K2 and K3 attain; both are proved in proofs/AllKnown.antt.
 use mathlib.Core.Path.{_≡_}
 use mathlib.Core.Logic.{_≢_}
 use mathlib.Core.List.{List, [], _∷_, _++_, map, List·Memᴰ}
-use Prim.Native.Nat.{ℕ, suc, _+_, _-_, _*_, _^_, _≤_, _<_, min}
+use Prim.Native.Nat.{ℕ, suc, _+_, _-_, _^_, _≤_, _<_}
 use lib.Count.{ones}
 use lib.ListN.{length, replicate}
 use Rattle.table.specs.declared.Table.{Table}
 use Rattle.table.specs.Pairs.{Within}
 use Rattle.table.specs.Chains.{IsChain, IsMaximal}
 use Rattle.table.specs.Tables.{Legal, tableRows}
-use Rattle.rules.specs.Sequences.{All, factorial}
-use Rattle.rules.specs.Machine.{Down, Handed, Back, Ended, at, fresh, nothing, hands, ends, Move, gives, move, after}
+use Rattle.rules.specs.Sequences.{All}
+use Rattle.rules.specs.Machine.{Down, Handed, Back, Ended, at, fresh, nothing, hands, ends, Move, gives, afterBy}
 use Rattle.rules.specs.Calls.{Call, handed, movesUntil, isHandOut, isHandOutOrEnd}
-use Rattle.lists.specs.PickSequence.{pickSeq}
 use Rattle.lists.specs.Arrangements.{plain}
-use Rattle.lists.specs.Lists.{gaugeSide, sequenceOf, GaugeList}
+use Rattle.lists.specs.Preferred.{pickSeqBy}
+use Rattle.lists.specs.Lists.{gaugeSide, listKey, GaugeList}
 use Rattle.lists.specs.Growing.{FirstContaining}
-use Rattle.lists.specs.Picks.{candidates}
-use Rattle.lists.specs.OnTable.{callsOn}
+use Rattle.lists.specs.OnTable.{moveOn, callsOn}
+use Rattle.lists.specs.Demand.{startLimit, gapLimit, mostSets}
 
 -- ---- sets and tables written out
 -- a set of cases by its case numbers: case c is place c - 1
@@ -61,7 +61,7 @@ pub record Shape (t : Table) (g l : ℕ) : Type 0 where
 pub record Lists (t : Table) (g l : ℕ) (es : List Entry) : Type 0 where
   pub shape : Shape t g l
   pub list : GaugeList t (map (λ (e : Entry). e .set) es)
-  pub picks : map (λ (e : Entry). map suc (pickSeq (e .set))) es ≡ map (λ (e : Entry). e .picks) es
+  pub picks : map (λ (e : Entry). map suc (pickSeqBy (plain g) (e .set))) es ≡ map (λ (e : Entry). e .picks) es
   pub sizes : map (λ (e : Entry). count (e .set)) es ≡ map (λ (e : Entry). e .size) es
 
 -- s is a set of pairs of t, but no chain
@@ -79,11 +79,11 @@ pub record NotMaximal (t : Table) (s : List ℕ) : Type 0 where
 pub record Grows (t : Table) (s x : List ℕ) : Type 0 where
   pub within : Within (tableRows t) s
   pub chain : IsChain s
-  pub first : FirstContaining (tableRows t) (sequenceOf (gaugeSide t)) s x
+  pub first : FirstContaining (tableRows t) (listKey (gaugeSide t) (plain (t .gauges))) s x
 
 -- move k of the gauge run, counted from 1, by rules 1 to 5 from the fresh start: what it gives, and the state after it
 abbrev pub moveOf : Table → ℕ → Move
-moveOf t k = move (candidates (tableRows t)) (after (candidates (tableRows t)) (k - 1) fresh)
+moveOf t k = moveOn (gaugeSide t) (plain (t .gauges)) (afterBy (moveOn (gaugeSide t) (plain (t .gauges))) (k - 1) fresh)
 
 -- move n ends, and none before it does
 pub record FirstEnd (t : Table) (n : ℕ) : Type 0 where
@@ -168,21 +168,23 @@ abbrev pub knownTables : List Known
 knownTables = K1 ∷ K2 ∷ K3 ∷ K4 ∷ K5 ∷ K6 ∷ K7 ∷ K8 ∷ K9 ∷ K10 ∷ []
 
 -- all ten are in it, and each of them holds
+-- Theorem alone: `known-tables` in proofs/AllKnown.antt
 pub record AllKnown : Type 0 where
   pub complete : (k : Known) → List·Memᴰ k knownTables
   pub holds : All Claim knownTables
 
 -- ---- the limits of demand 3 are attained, whatever the budgets, a refused one among them
+-- Theorem alone: `limits-attained` in proofs/AllKnown.antt
 pub record Attained : Type 0 where
   -- K3 needs G + 1 moves to its first hand-out
-  pub start : movesUntil isHandOut (callsOn (gaugeSide k3) (plain 3) (1 ∷ 1 ∷ 2000000 ∷ 1 ∷ 1 ∷ [])) ≡ k3 .gauges + 1
+  pub start : movesUntil isHandOut (callsOn (gaugeSide k3) (plain 3) (1 ∷ 1 ∷ 2000000 ∷ 1 ∷ 1 ∷ [])) ≡ startLimit (k3 .gauges)
   -- and 2 G + 1 from there to the next
   pub first : Call
   pub later : List Call
   pub parts : callsOn (gaugeSide k3) (plain 3) (4 ∷ 3 ∷ 2000000 ∷ 0 ∷ 1 ∷ 3 ∷ []) ≡ first ∷ later
   pub handed-out : (y : List ℕ) × (first .answer ≡ handed y)
-  pub gap : movesUntil isHandOutOrEnd later ≡ 2 * k3 .gauges + 1
+  pub gap : movesUntil isHandOutOrEnd later ≡ gapLimit (k3 .gauges)
   -- K2 has (min G L)! maximal chains
   pub list : List (List ℕ)
   pub listed : GaugeList k2 list
-  pub many : length list ≡ factorial (min (k2 .gauges) (k2 .cases))
+  pub many : length list ≡ mostSets k2

@@ -1,7 +1,7 @@
 -- The two sides of one table. A side is fair where its own rows' maximal chains are the table's, each seen through the side and given back.
 --
 -- In order: the gauge side and the case side of a legal table are fair (`gauge-fair`, `case-fair`); the list of a fair side exists (`side-list`),
--- so the gauge list and the case list do (`lists-exist`); every list of a legal table has at most (min G L)! members (`list-few`).
+-- every list of a legal table has at most (min G L)! members (`list-few`).
 --
 -- Elsewhere: no other list is, `list-unique` in Listed.antt.
 use mathlib.Core.Path.{_≡_, refl, sym, _∙_, subst}
@@ -20,8 +20,9 @@ use Rattle.transpose.proofs.Transposition.{length-transpose, cases-transpose, c
 use Rattle.table.proofs.Legality.{length-rows, legal-cases}
 use Rattle.rules.specs.Sequences.{All, Sorted, factorial}
 use Rattle.rules.proofs.Sequences.{All-of}
-use Rattle.lists.specs.PickSequence.{Precedes}
-use Rattle.lists.specs.Lists.{Earlier, SideList, Side, gaugeSide, caseSide, sequenceOf, GaugeList, CaseList}
+use Rattle.lists.specs.private.ByNumber.{ComesBefore}
+use Rattle.lists.specs.Lists.{Earlier, SideList, Side, gaugeSide, caseSide}
+use Rattle.lists.specs.private.ByNumber.{sequenceOf}
 use Rattle.lists.specs.OnTable.{chainOf, handOut}
 use Rattle.lists.proofs.Listed.{picksInOrder, chainsInOrder, listed, lists-length, gauge-list, leaves-few}
 
@@ -89,7 +90,7 @@ module _ (t : Table) (s : Side) (f : Fair t s) where
 
       ascends : Sorted (Earlier (sequenceOf s)) (map (s .byGauges) own)
       ascends =
-          sorted-back Precedes (s .byGauges) (s .view) own (All-of (λ (y : List ℕ). s .view (s .byGauges y) ≡ y) own (λ y m. f .home y (own-maximal y m) .1))
+          sorted-back ComesBefore (s .byGauges) (s .view) own (All-of (λ (y : List ℕ). s .view (s .byGauges y) ≡ y) own (λ y m. f .home y (own-maximal y m) .1))
           (gauge-list (s .rows) .ascends)
 
   -- no list of the table is longer than there are orders of what the side can pick
@@ -108,10 +109,3 @@ min-factorial k a b h l = go (decLe a b)
 pub list-few : (t : Table) → Legal t → {key : List ℕ → List ℕ} (xs : List (List ℕ)) → SideList (tableRows t) key xs
     → length xs ≤ factorial (min (t .gauges) (t .cases))
 list-few t l xs a = min-factorial (length xs) (t .gauges) (t .cases) (few-by t (gaugeSide t) (gauge-fair t l) xs a) (few-by t (caseSide t) (case-fair t l) xs a)
-
--- both lists of a legal table exist
-pub lists-exist : (t : Table) → Legal t → ((xs : List (List ℕ)) × GaugeList t xs) × ((ys : List (List ℕ)) × CaseList t ys)
-lists-exist t l =
-    let g = gauge-fair t l in
-    let c = case-fair t l in
-    ((sideList t (gaugeSide t) g, side-list t (gaugeSide t) g), (sideList t (caseSide t) c, side-list t (caseSide t) c))

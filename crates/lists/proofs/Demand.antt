@@ -11,23 +11,25 @@
 use mathlib.Core.Path.{_≡_, refl, sym, ap, _∙_, subst}
 use mathlib.Core.Logic.{_↔_}
 use mathlib.Core.List.{List, _∷_, _++_, map, List·Memᴰ, Memᴰ·map, Memᴰ·of-map}
-use Prim.Native.Nat.{ℕ, _+_, _*_, _≤_, _<_, min}
+use Prim.Native.Nat.{ℕ, _≤_, _<_}
 use native.Mathlib.Omega.{arith}
 use lib.ListN.{length, length-map}
 use Rattle.table.specs.declared.Table.{Table}
-use Rattle.table.specs.Tables.{Legal, tableRows}
-use Rattle.rules.specs.Sequences.{All, factorial}
+use Rattle.table.specs.Tables.{Legal}
+use Rattle.rules.specs.Sequences.{All}
 use Rattle.rules.specs.Machine.{fresh}
-use Rattle.rules.specs.Calls.{handed, end, Call, calls, handouts, movesUntil, isHandOut, isHandOutOrEnd}
+use Rattle.rules.specs.Calls.{handed, end, Call, handouts, movesUntil, isHandOut, isHandOutOrEnd}
+use Rattle.rules.specs.private.ByNumber.{calls}
 use Rattle.rules.proofs.Calls.{calls-front, calls-complete, calls-start, calls-gap}
 use Rattle.rules.proofs.Ends.{Enough, calls-end}
 use Rattle.rules.proofs.Reports.{all-only18, all-whole, all-spent, one-list}
 use Rattle.rules.proofs.Renaming.{renamedCall, calls-renamed, handouts-renamed, moves-until-renamed, split-renamed}
 use Rattle.lists.specs.Arrangements.{IsArrangement}
-use Rattle.lists.specs.Picks.{candidates}
-use Rattle.lists.specs.Lists.{SideList, Side, listKey, PreferredList}
+use Rattle.lists.specs.private.ByNumber.{candidates}
+use Rattle.lists.specs.Lists.{Side, PreferredList}
 use Rattle.lists.specs.OnTable.{handOut, moveOn, callsOn}
-use Rattle.lists.specs.Demand.{Demand, OneSet}
+use Rattle.lists.specs.Demand.{startLimit, gapLimit, mostSets, OneSet}
+use Rattle.lists.specs.private.Demand.{Demand}
 use Rattle.lists.specs.private.Arranging.{indexAt, prefer}
 use Rattle.lists.proofs.CandidateTree.{candidate-tree}
 use Rattle.lists.proofs.Listed.{picksInOrder, list-unique, lists-same, lists-length}
@@ -70,7 +72,7 @@ module _ (t : Table) (l : Legal t) (s : Side) (f : Fair t s) (o : List ℕ) (a :
       handouts-placed bs
       ∙ calls-complete (candidates rows) (handOut arranged) (length rows) (candidate-tree rows) bs (k .0) (k .1) (ap (λ (x : Call). x .answer) (k .2) ∙ e)
 
-  start-placed : (bs : List ℕ) → movesUntil isHandOut (callsOn s o bs) ≤ s .count + 1
+  start-placed : (bs : List ℕ) → movesUntil isHandOut (callsOn s o bs) ≤ startLimit (s .count)
   start-placed bs =
       omega (
         arith,
@@ -80,7 +82,7 @@ module _ (t : Table) (l : Legal t) (s : Side) (f : Fair t s) (o : List ℕ) (a :
       )
 
   gap-placed : (bs : List ℕ) (sooner later : List Call) (c : Call) → callsOn s o bs ≡ sooner ++ (c ∷ later)
-      → movesUntil isHandOutOrEnd later ≤ 2 * s .count + 1
+      → movesUntil isHandOutOrEnd later ≤ gapLimit (s .count)
   gap-placed bs sooner later c e =
       let k = split-renamed (indexAt o) (made bs) sooner later c (sym (calls-placed bs) ∙ e) in
       omega (
@@ -106,7 +108,7 @@ module _ (t : Table) (l : Legal t) (s : Side) (f : Fair t s) (o : List ℕ) (a :
   }
 
   -- called on with enough moves, and more often than (min G L)!, a run ends, and has handed out the whole list
-  pub run-ends : (bs : List ℕ) → All (Enough (s .count)) bs → factorial (min (t .gauges) (t .cases)) < length bs
+  pub run-ends : (bs : List ℕ) → All (Enough (s .count)) bs → mostSets t < length bs
       → (c : Call) × List·Memᴰ c (callsOn s o bs) × (c .answer ≡ end)
   run-ends bs enough h =
       let r =
@@ -119,7 +121,7 @@ module _ (t : Table) (l : Legal t) (s : Side) (f : Fair t s) (o : List ℕ) (a :
       )
 
   pub run-lists-all : (xs : List (List ℕ)) → PreferredList t s o xs → (bs : List ℕ) → All (Enough (s .count)) bs
-      → factorial (min (t .gauges) (t .cases)) < length bs → handouts (callsOn s o bs) ≡ xs
+      → mostSets t < length bs → handouts (callsOn s o bs) ≡ xs
   run-lists-all xs x bs enough h =
       let c = run-ends bs enough h in
       let d = demand3 bs in
@@ -135,25 +137,15 @@ demand-each t s o bs cs d = one-list (moveOn s o) (handOut s) bs fresh cs (d .on
 
 -- the limit after a hand-out, as a user reads it off a list of calls
 pub demand-gap : (t : Table) (s : Side) (o bs : List ℕ) (sooner later : List Call) (c : Call) (y : List ℕ) → Demand t s o bs (sooner ++ (c ∷ later))
-    → c .answer ≡ handed y → movesUntil isHandOutOrEnd later ≤ 2 * s .count + 1
+    → c .answer ≡ handed y → movesUntil isHandOutOrEnd later ≤ gapLimit (s .count)
 demand-gap t s o bs sooner later c y d h = d .gap sooner later c y refl h
 
 -- what `OneSet` says, as a user reads it
 pub one-set-reads : (t : Table) (xs ys : List (List ℕ)) → OneSet t xs ys
-    → ((x : List ℕ) → List·Memᴰ x xs ↔ List·Memᴰ x ys) × (length xs ≡ length ys) × (length ys ≤ factorial (min (t .gauges) (t .cases)))
+    → ((x : List ℕ) → List·Memᴰ x xs ↔ List·Memᴰ x ys) × (length xs ≡ length ys) × (length ys ≤ mostSets t)
 one-set-reads t xs ys o = (o .same, o .equally-many, omega (arith, o .equally-many, o .few))
 
--- two runs of one table, of whichever sides and under whichever preferences, that have ended
-pub one-set : (t : Table) (s z : Side) (o p us vs : List ℕ) (cs ds : List Call) → Demand t s o us cs → Demand t z p vs ds
-    → (c : Call) → List·Memᴰ c cs → c .answer ≡ end → (d : Call) → List·Memᴰ d ds → d .answer ≡ end → OneSet t (handouts cs) (handouts ds)
-one-set t s z o p us vs cs ds a b c m e d n g = record {
-  same = lists-same (handouts cs) (handouts ds) xs ys;
-  equally-many = lists-length (handouts cs) (handouts ds) xs ys;
-  few = rw (a .complete c m e) (a .few);
-}
-  where
-    xs : SideList (tableRows t) (listKey s o) (handouts cs)
-    xs = rw (a .complete c m e) (a .listed)
-
-    ys : SideList (tableRows t) (listKey z p) (handouts ds)
-    ys = rw (b .complete d n g) (b .listed)
+-- two runs of one table, of whichever sides and under whichever preferences, whose whole lists these are
+pub one-set : (t : Table) (s z : Side) (o p : List ℕ) (xs ys : List (List ℕ)) → PreferredList t s o xs → PreferredList t z p ys
+    → length xs ≤ mostSets t → OneSet t xs ys
+one-set t s z o p xs ys a b few = record { same = lists-same xs ys a b; equally-many = lists-length xs ys a b; few = few }

@@ -24,10 +24,13 @@ use Rattle.table.proofs.Places.{row-past, within-sub, sub-within}
 use Rattle.table.proofs.Nesting.{Nested}
 use Rattle.rules.specs.Sequences.{Before}
 use Rattle.rules.proofs.Sequences.{before-irrefl, before-trans}
-use Rattle.lists.specs.PickSequence.{isIn, score, pickSeq, Precedes}
+use Rattle.lists.specs.PickSequence.{isIn, score}
+use Rattle.lists.specs.private.ByNumber.{ComesBefore}
+use Rattle.lists.specs.private.ByNumber.{pickSeq}
 use Rattle.lists.specs.Lists.{Earlier}
 use Rattle.lists.specs.Growing.{FirstContaining}
-use Rattle.lists.specs.Picks.{remainder, candidate, select, candidates}
+use Rattle.lists.specs.Picks.{remainder, select}
+use Rattle.lists.specs.private.ByNumber.{candidate, candidates}
 use Rattle.lists.specs.OnTable.{chainRow, chainOf}
 use Rattle.sets.proofs.Tests.{and-l, and-r, and-i, or-l, or-r, or-e, test, eq→eqb}
 use Rattle.lists.proofs.Unpicked.{Un, un-nil, un-left, un-ne, un-snoc, free, free-nil, free-drop}
@@ -231,7 +234,7 @@ module _ (rows s : List ℕ) (w : Within rows s) where
         inside : (y : List ℕ) → IsMaximal rows y → Within y s → (i : ℕ) → row s i ⊆ C rows [] (pickSeq y) i
         inside y m k i = rw (← row-chainOf rows (pickSeq y) i, maximal-chainOf rows y m) (within-sub y s k i)
 
-        order : (y : List ℕ) → IsMaximal rows y → UpTo (grow rows s) (pickSeq y) → (y ≡ chainOf rows (grow rows s)) ⊎ Precedes (chainOf rows (grow rows s)) y
+        order : (y : List ℕ) → IsMaximal rows y → UpTo (grow rows s) (pickSeq y) → (y ≡ chainOf rows (grow rows s)) ⊎ ComesBefore (chainOf rows (grow rows s)) y
         order y m (inl e) = inl (sym (maximal-chainOf rows y m) ∙ ap (chainOf rows) (sym e))
         order y m (inr b) = inr (rw (leaf-pickSeq rows (grow rows s) leaf) b)
 

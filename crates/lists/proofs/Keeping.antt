@@ -9,7 +9,8 @@ use Prim.Native.Nat.{ℕ}
 use lib.ListN.{length}
 use Rattle.table.specs.declared.Table.{Table}
 use Rattle.table.specs.Tables.{tableRows}
-use Rattle.rules.specs.Machine.{State, fresh, Move, move}
+use Rattle.rules.specs.Machine.{State, fresh, Move}
+use Rattle.rules.specs.private.ByNumber.{move}
 use Rattle.rules.specs.Calls.{end, Call, callsBy, handouts}
 use Rattle.rules.proofs.Reports.{all-only18, all-whole, all-spent, one-list}
 use Rattle.rules.specs.Sequences.{Sorted}
@@ -18,10 +19,11 @@ use Rattle.rules.proofs.Kept.{kept-sorted}
 use Rattle.rules.proofs.Keeping.{kept-front, kept-complete, kept-ends, all-kept}
 use Rattle.rules.proofs.Renaming.{renamedCall, calls-renamed, keeping-follows, keeping-out, handouts-renamed}
 use Rattle.lists.specs.Arrangements.{IsArrangement}
-use Rattle.lists.specs.Picks.{candidates}
+use Rattle.lists.specs.private.ByNumber.{candidates}
 use Rattle.lists.specs.Lists.{Earlier, SideList, Side, PreferredList}
 use Rattle.lists.specs.OnTable.{handOut, callsOn}
-use Rattle.lists.specs.Keeping.{keepingOn, callsKeeping, DemandKeeping}
+use Rattle.lists.specs.Keeping.{keepingOn, callsKeeping}
+use Rattle.lists.specs.private.Demand.{DemandKeeping}
 use Rattle.lists.specs.private.Arranging.{indexAt, prefer}
 use Rattle.lists.proofs.CandidateTree.{candidate-tree}
 use Rattle.lists.proofs.Listed.{list-unique}

@@ -15,9 +15,10 @@ use Rattle.rules.specs.Sequences.{All, Sorted, Before, factorial}
 use Rattle.rules.proofs.Sequences.{All-of, Sorted-map, before-irrefl, before-trans, sorted-unique, distinct-length}
 use Rattle.rules.proofs.Trees.{leaves}
 use Rattle.rules.proofs.Leaves.{leaves-ascend, leaf-iff, leaf-count}
-use Rattle.lists.specs.PickSequence.{pickSeq, Precedes}
+use Rattle.lists.specs.private.ByNumber.{ComesBefore}
+use Rattle.lists.specs.private.ByNumber.{pickSeq}
 use Rattle.lists.specs.Lists.{Earlier, SideList}
-use Rattle.lists.specs.Picks.{candidates}
+use Rattle.lists.specs.private.ByNumber.{candidates}
 use Rattle.lists.specs.OnTable.{chainOf}
 use Rattle.lists.proofs.Candidates.{IsLeaf}
 use Rattle.lists.proofs.CandidateTree.{candidate-tree, candidates-few}
@@ -72,11 +73,11 @@ module _ (r : List ℕ) where
   leaf-of : (p : List ℕ) → List·Memᴰ p picksInOrder ↔ IsLeaf r p
   leaf-of p = leaf-iff (candidates r) (length r) (candidate-tree r) p
 
-  chains-ascend : (l : List (List ℕ)) → All (IsLeaf r) l → Sorted Before l → Sorted Precedes (map (chainOf r) l)
+  chains-ascend : (l : List (List ℕ)) → All (IsLeaf r) l → Sorted Before l → Sorted ComesBefore (map (chainOf r) l)
   chains-ascend [] h s = tt
   chains-ascend (p ∷ l) h s = (after l h.1 s.0, chains-ascend l h.1 s.1)
     where
-      after : (m : List (List ℕ)) → All (IsLeaf r) m → All (Before p) m → All (Precedes (chainOf r p)) (map (chainOf r) m)
+      after : (m : List (List ℕ)) → All (IsLeaf r) m → All (Before p) m → All (ComesBefore (chainOf r p)) (map (chainOf r) m)
       after [] a b = tt
       after (q ∷ m) a b = (rw (leaf-pickSeq r p h.0, leaf-pickSeq r q a.0) b.0, after m a.1 b.1)
 

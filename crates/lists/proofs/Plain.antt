@@ -1,6 +1,6 @@
 -- "The arrangement 1, 2, 3 and on gives the former results" (02, R-12), value for value: places are indices there (`place-plain`), so candidates, pick
--- sequences, lists, growing, the states reached and every call of a run are those by number (`candidates-plain`, `sequence-plain`, `list-plain`,
--- `first-plain`, `reached-plain`, `moves-plain`, `calls-plain`, `left-plain`), of a run that omits too (`keeping-plain`).
+-- sequences, lists (`base-list`, `base-plain`; 01's two exist, `lists-exist`), growing, the states reached and every call of a run are those by number (`candidates-plain`, `sequence-plain`, `list-plain`,
+-- `first-plain`, `first-base`, `reached-plain`, `moves-plain`, `calls-plain`, `left-plain`), of a run that omits too (`keeping-plain`).
 use mathlib.Core.Path.{_≡_, refl, sym, ap, ap₂, _∙_, subst, fun-ext}
 use mathlib.Core.Logic.{_⊎_, inl, inr, _↔_}
 use mathlib.Core.Bool.{Bool}
@@ -9,28 +9,29 @@ use Prim.Native.Nat.{ℕ, _<_}
 use lib.ListN.{length}
 use Rattle.table.specs.declared.Table.{Table}
 use Rattle.table.specs.Chains.{IsMaximal}
-use Rattle.table.specs.Tables.{tableRows}
-use Rattle.rules.specs.Machine.{Phase, Down, Handed, Back, Ended, State, at, fresh, Given, nothing, hands, ends, Move, gives, move, Reached}
-use Rattle.rules.specs.Calls.{Call, calls, stateAfter, callBy, callsBy, stateBy}
+use Rattle.table.specs.Tables.{Legal, tableRows}
+use Rattle.rules.specs.Machine.{Phase, Down, Handed, Back, Ended, State, at, fresh, Given, nothing, hands, ends, Move, gives}
+use Rattle.rules.specs.private.ByNumber.{move, Reached}
+use Rattle.rules.specs.Calls.{Call, callBy, callsBy, stateBy}
+use Rattle.rules.specs.private.ByNumber.{calls, stateAfter}
 use Rattle.rules.specs.Keeping.{moveKeeping}
 use Rattle.rules.specs.private.Fitting.{Fits}
 use Rattle.rules.proofs.Renaming.{renamed, renamedPhase, renamedGiven, renamedMove, renamedCall, Below, Follows, SameOut, call-stays}
 use Rattle.rules.proofs.Renaming.{keeping-follows, keeping-out, calls-renamed, state-renamed}
 use Rattle.lists.specs.Arrangements.{IsArrangement, placeOf, plain}
-use Rattle.lists.specs.PickSequence.{pickSeq}
-use Rattle.lists.specs.Picks.{candidates}
 use Rattle.lists.specs.Preferred.{candidatesBy, pickSeqBy, placesOf}
-use Rattle.lists.specs.Lists.{Earlier, SideList, Side, sequenceOf, listKey, PreferredList}
+use Rattle.lists.specs.Lists.{Earlier, SideList, Side, gaugeSide, caseSide, listKey, PreferredList, baseKey, BaseList, GaugeList, CaseList}
 use Rattle.lists.specs.Growing.{FirstContaining}
 use Rattle.lists.specs.OnTable.{chainOf, handOut, moveOn, ReachedOn, callsOn, leftOn}
 use Rattle.lists.specs.Keeping.{callsKeeping}
+use Rattle.lists.specs.private.ByNumber.{pickSeq, candidates, sequenceOf}
 use Rattle.lists.specs.private.Arranging.{indexAt, arrange, unarrange, prefer}
 use Rattle.lists.proofs.Standing.{place-index, index-plain, plain-arrangement}
 use Rattle.lists.proofs.Arranging.{arrange-plain, unarrange-arrange}
 use Rattle.lists.proofs.CandidateTree.{reached-fits}
 use Rattle.lists.proofs.ChainRows.{length-chainOf}
-use Rattle.lists.proofs.Listed.{list-keys}
-use Rattle.lists.proofs.BothSides.{Fair}
+use Rattle.lists.proofs.Listed.{chainsInOrder, gauge-list, list-keys}
+use Rattle.lists.proofs.BothSides.{Fair, gauge-fair, case-fair, sideList, side-list}
 use Rattle.lists.proofs.PlacedCandidates.{AllBelow, candidates-placed, candidates-below}
 use Rattle.lists.proofs.PlacedSequences.{sequence-placed, sequence-below, places-placed}
 use Rattle.lists.proofs.PlacedRuns.{step-hands, Good, good-below, follows, same-out, reached-placed}
@@ -73,22 +74,55 @@ list-plain t s f xs = (
     same : (x : List ℕ) → IsMaximal (tableRows t) x → listKey s (plain (s .count)) x ≡ sequenceOf s x
     same x m = places-plain (s .count) (s .view x) (f .over x m .0 .within .size ∙ f .counted)
 
+-- 01's list of a side is the one by number, of any table
+pub base-list : (t : Table) (s : Side) (xs : List (List ℕ)) → BaseList t s xs ↔ SideList (tableRows t) (sequenceOf s) xs
+base-list t s xs = (
+  list-keys (tableRows t) (λ x. baseKey (s .view x)) (sequenceOf s) (λ x m. places-plain (length (s .view x)) (s .view x) refl) xs,
+  list-keys (tableRows t) (sequenceOf s) (λ x. baseKey (s .view x)) (λ x m. sym (places-plain (length (s .view x)) (s .view x) refl)) xs,
+)
+
+-- and the one under the plain preference
+pub base-plain : (t : Table) (s : Side) → Fair t s → (xs : List (List ℕ)) → PreferredList t s (plain (s .count)) xs ↔ BaseList t s xs
+base-plain t s f xs = (λ l. base-list t s xs .1 (list-plain t s f xs .0 l), λ l. list-plain t s f xs .1 (base-list t s xs .0 l))
+
+-- the gauge list is the order by key of sets alone, and every table has one; a legal table has a case list
+pub base-keys : (r : List ℕ) (xs : List (List ℕ)) → SideList r pickSeq xs → SideList r baseKey xs
+base-keys r xs l = list-keys r pickSeq baseKey (λ x m. sym (places-plain (length x) x refl)) xs l
+
+pub gauge-list-of : (t : Table) → GaugeList t (chainsInOrder (tableRows t))
+gauge-list-of t = base-keys (tableRows t) (chainsInOrder (tableRows t)) (gauge-list (tableRows t))
+
+pub lists-exist : (t : Table) → Legal t → ((xs : List (List ℕ)) × GaugeList t xs) × ((ys : List (List ℕ)) × CaseList t ys)
+lists-exist t l =
+    let g = gauge-fair t l in
+    let c = case-fair t l in (
+      (sideList t (gaugeSide t) g, base-list t (gaugeSide t) (sideList t (gaugeSide t) g) .1 (side-list t (gaugeSide t) g)),
+      (sideList t (caseSide t) c, base-list t (caseSide t) (sideList t (caseSide t) c) .1 (side-list t (caseSide t) c)),
+    )
+
+-- the first set by one key is the first by another that agrees with it on the maximal chains
+first-keys : (r : List ℕ) (key other : List ℕ → List ℕ) (s x : List ℕ) → ((y : List ℕ) → IsMaximal r y → key y ≡ other y) → FirstContaining r key s x
+    → FirstContaining r other s x
+first-keys r key other s x same f = record {
+  maximal = f .maximal;
+  contains = f .contains;
+  first = λ y m q. go y m (f .first y m q);
+}
+  where
+    go : (y : List ℕ) → IsMaximal r y → (y ≡ x) ⊎ Earlier key x y → (y ≡ x) ⊎ Earlier other x y
+    go y m (inl d) = inl d
+    go y m (inr b) = inr (rw (same x (f .maximal), same y m) at b)
+
 pub first-plain : (n : ℕ) (r s x : List ℕ) → length r ≡ n → FirstContaining r (placesOf (plain n)) s x ↔ FirstContaining r pickSeq s x
 first-plain n r s x e = (
-  λ f. record { maximal = f .maximal; contains = f .contains; first = λ y m q. into y (f .maximal) m (f .first y m q) },
-  λ f. record { maximal = f .maximal; contains = f .contains; first = λ y m q. onto y (f .maximal) m (f .first y m q) },
+  first-keys r (placesOf (plain n)) pickSeq s x (λ y m. places-plain n y (m .within .size ∙ e)),
+  first-keys r pickSeq (placesOf (plain n)) s x (λ y m. sym (places-plain n y (m .within .size ∙ e))),
 )
-  where
-    same : (y : List ℕ) → IsMaximal r y → placesOf (plain n) y ≡ pickSeq y
-    same y m = places-plain n y (m .within .size ∙ e)
 
-    into : (y : List ℕ) → IsMaximal r x → IsMaximal r y → (y ≡ x) ⊎ Earlier (placesOf (plain n)) x y → (y ≡ x) ⊎ Earlier pickSeq x y
-    into y mx my (inl d) = inl d
-    into y mx my (inr b) = inr (rw (same x mx, same y my) at b)
-
-    onto : (y : List ℕ) → IsMaximal r x → IsMaximal r y → (y ≡ x) ⊎ Earlier pickSeq x y → (y ≡ x) ⊎ Earlier (placesOf (plain n)) x y
-    onto y mx my (inl d) = inl d
-    onto y mx my (inr b) = inr (rw (same x mx, same y my) b)
+-- and the first in 01's own order
+pub first-base : (n : ℕ) (r s x : List ℕ) → length r ≡ n → FirstContaining r (placesOf (plain n)) s x → FirstContaining r baseKey s x
+first-base n r s x e =
+    first-keys r (placesOf (plain n)) baseKey s x (λ y m. ap (λ (k : ℕ). placesOf (plain k) y) (sym (m .within .size ∙ e)))
 
 -- ---- calls that stay as they are where every state does
 module _ {f : ℕ → ℕ} {good : State → Type 0} {mv mv′ : State → Move} {out out′ : List ℕ → List ℕ} (w : Follows f good mv mv′)

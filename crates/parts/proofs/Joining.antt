@@ -1,11 +1,11 @@
 -- The lists of parts that split a part are, one after the other, its list (`joined-part`), and of parts that split the empty sequence, the side's whole
 -- list (`joined-list`). This is by the definitions alone: no run and no candidate is looked at.
 --
--- In order: the list of a part is unique (`part-unique`); it exists for every sequence, as the side's list without the other sets (`part-list`); the
+-- In order: the list of a part is unique (`part-unique`), and has each set once (`part-once`); it exists for every sequence, as the side's list without the other sets (`part-list`); the
 -- empty sequence names the whole list (`whole-part`, `part-whole`); the lists of parts exist and are unique (`part-lists`, `part-lists-unique`); a maximal
 -- chain is of one part only (`one-part`); the theorem.
 use mathlib.Core.Path.{_≡_, refl, sym, ap₂, _∙_, subst}
-use mathlib.Core.Logic.{_⊎_, inl, inr, _↔_}
+use mathlib.Core.Logic.{_⊎_, inl, inr, _↔_, _≢_}
 use mathlib.Core.List.{List, [], _∷_, _++_, List·Memᴰ, List·Memᴰ·head, List·Memᴰ·tail, List·Memᴰ·not-nil, List·Memᴰ·cases-cons}
 use mathlib.Core.List.{List·Memᴰ·append-cases, Memᴰ·append-left, Memᴰ·append-right}
 use Prim.Native.Nat.{ℕ}
@@ -24,6 +24,11 @@ use Rattle.parts.specs.Parts.{StartsWith, PartedIn, picksOf, PartList, S
 use Rattle.parts.specs.Calls.{isOf}
 use Rattle.parts.proofs.Prefixes.{starts-nil, starts-trans, starts-test, parted-in}
 
+-- what stands at two places of a list that ascends by r is in that order
+at-places : {A : Type 0} (r : A → A → Type 0) (a b c : List A) (x y : A) → Sorted r (a ++ (x ∷ (b ++ (y ∷ c)))) → r x y
+at-places r [] b c x y h = All-get (r x) (Memᴰ·append-right b (List·Memᴰ·head refl)) (h .0)
+at-places r (z ∷ a) b c x y h = at-places r a b c x y (h .1)
+
 module _ (t : Table) (s : Side) (o : List ℕ) where
   abbrev Of : List ℕ → List ℕ → Type 0
   Of p x = IsMaximal (tableRows t) x × StartsWith p (picksOf s o x)
@@ -37,6 +42,11 @@ module _ (t : Table) (s : Side) (o : List ℕ) where
   part-unique p xs ys a b =
       sorted-unique (Earlier (listKey s o)) (λ x. before-irrefl (listKey s o x)) (λ x y z h k. search (before-trans, h, k)) xs ys (a .ascends) (b .ascends)
       (λ x. (λ m. b .members x .1 (a .members x .0 m), λ m. a .members x .1 (b .members x .0 m)))
+
+  -- "each once": the sets at two places of it are not the same
+  pub part-once : (p : List ℕ) (xs : List (List ℕ)) → PartList t s o p xs
+      → (a b c : List (List ℕ)) (x y : List ℕ) → xs ≡ a ++ (x ∷ (b ++ (y ∷ c))) → x ≢ y
+  part-once p xs l a b c x y e = at-places (λ (u v : List ℕ). u ≢ v) a b c x y (subst (Sorted (λ (u v : List ℕ). u ≢ v)) e (l .once))
 
   pub part-list : (p : List ℕ) (xs : List (List ℕ)) → PreferredList t s o xs → PartList t s o p (kept (isOf s o p) xs)
   part-list p xs l =

@@ -7,8 +7,10 @@ use mathlib.Core.List.{List, [], _∷_, _++_, map, List·Memᴰ, List·Memᴰ·h
 use Prim.Native.Nat.{ℕ}
 use native.Mathlib.Omega.{arith}
 use Rattle.rules.specs.Sequences.{All}
-use Rattle.rules.specs.Machine.{Ended, State, Move, at, move}
-use Rattle.rules.specs.Calls.{Reply, refused, spent, handed, end, Call, answered, callBy, callsBy, call}
+use Rattle.rules.specs.Machine.{Ended, State, Move, at}
+use Rattle.rules.specs.private.ByNumber.{move}
+use Rattle.rules.specs.Calls.{Reply, refused, spent, handed, end, Call, answered, callBy, callsBy}
+use Rattle.rules.specs.private.ByNumber.{call}
 use Rattle.rules.specs.Keeping.{moveKeeping}
 use Rattle.rules.specs.private.Fitting.{Fits}
 use Rattle.rules.proofs.Trees.{Tree}

@@ -9,7 +9,8 @@ use mathlib.Core.List.{List, [], _∷_}
 use Prim.Native.Nat.{ℕ}
 use Rattle.rules.specs.Sequences.{factorial}
 use Rattle.rules.specs.Machine.{fresh}
-use Rattle.rules.specs.Calls.{Call, result, handed, end, movesUntil, isHandOut, isHandOutOrEnd, handouts, calls, callBy}
+use Rattle.rules.specs.Calls.{Call, result, handed, end, movesUntil, isHandOut, isHandOutOrEnd, handouts, callBy}
+use Rattle.rules.specs.private.ByNumber.{calls}
 
 abbrev kids : List ℕ → List ℕ
 kids [] = 0 ∷ 1 ∷ []

@@ -5,7 +5,8 @@ use mathlib.Core.List.{List, [], _∷_, _++_, head?, append-assoc, append-nil, L
 use Prim.Native.Nat.{ℕ, zero, suc, _-_}
 use native.Mathlib.Omega.{arith}
 use lib.ListN.{length}
-use Rattle.rules.specs.Machine.{cutLast, Phase, Down, Handed, Back, Ended, Given, nothing, hands, ends, takeBack, down, back, above, step}
+use Rattle.rules.specs.Machine.{cutLast, Phase, Down, Handed, Back, Ended, Given, nothing, hands, ends, takeBack, down, back}
+use Rattle.rules.specs.private.ByNumber.{above, step}
 use Rattle.rules.specs.private.Fitting.{Valid, Fits}
 use Rattle.rules.proofs.Sequences.{mem-split}
 use Rattle.rules.proofs.Trees.{by-last, cut-snoc, length-snoc, each, branch, Tree, leaves, valid-up, valid-kid, valid-snoc, kid-fits, above-kid}

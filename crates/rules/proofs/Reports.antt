@@ -10,9 +10,11 @@ use mathlib.Core.List.{List, [], _∷_}
 use Prim.Native.Nat.{ℕ, zero, suc, _-_, _≤_, _<_}
 use native.Mathlib.Decide.{ℕ-discrete, decLt, decLe}
 use native.Mathlib.Omega.{arith}
-use Rattle.rules.specs.Machine.{State, Given, nothing, hands, ends, Move, move, afterBy}
-use Rattle.rules.specs.Calls.{Reply, refused, spent, Call, result, mostBudget, proceedBy, carryBy, callBy, callsBy, call, callsFrom}
-use Rattle.rules.specs.Reports.{EachCall, Only18, says, QuietBy, lastBy, WholeBy, SpentBy, Quiet, Whole, Spent}
+use Rattle.rules.specs.Machine.{State, Given, nothing, hands, ends, Move, afterBy}
+use Rattle.rules.specs.private.ByNumber.{move}
+use Rattle.rules.specs.Calls.{Reply, refused, spent, Call, result, mostBudget, proceedBy, carryBy, callBy, callsBy}
+use Rattle.rules.specs.private.ByNumber.{call, callsFrom}
+use Rattle.rules.specs.private.Reports.{EachCall, Only18, says, QuietBy, lastBy, WholeBy, SpentBy, Quiet, Whole, Spent}
 use Rattle.rules.proofs.Calls.{above-by, within-by}
 
 module _ (out : List ℕ → List ℕ) where

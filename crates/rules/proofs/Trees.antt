@@ -5,7 +5,8 @@ use mathlib.Core.List.{List, [], _∷_, _++_, append-assoc, append-nil, List·Me
 use Prim.Native.Nat.{ℕ, zero, suc, _≤_, _<_}
 use native.Mathlib.Omega.{arith}
 use lib.ListN.{length}
-use Rattle.rules.specs.Machine.{cut, cutCons, cutLast, above}
+use Rattle.rules.specs.Machine.{cut, cutCons, cutLast}
+use Rattle.rules.specs.private.ByNumber.{above}
 use Rattle.rules.specs.private.Fitting.{ValidFrom, Valid}
 use Rattle.rules.proofs.Sequences.{Ascending, above-at}
 

@@ -1,17 +1,17 @@
 -- Calls of a run with a budget, and lists of them (01, "A run call has a budget .." and the paragraph on demand 3): `mv` is the rule for a
--- move, `move kids` of Machine.antt for rules 1 to 5, and `out p` is the set that is handed out for the picks p. A call's record has its
+-- move, `moveIn place kids` of Machine.antt for rules 1 to 5, and `out p` is the set that is handed out for the picks p. A call's record has its
 -- answer, its moves, and the state that the next call gets.
 --
--- In order: an answer and a call; one call and a list of calls by any rule for moves, then by rules 1 to 5; what is read off a list: its
+-- In order: an answer and a call; one call and a list of calls by any rule for moves; what is read off a list: its
 -- hand-outs, and the moves up to a hand-out or an end.
 --
--- Elsewhere: what a call says of its moves, Reports.antt; the run that hands over the kept sets alone, Keeping.antt; the calls of a table's
+-- Elsewhere: what a call says of its moves, private/Reports.antt; the run that hands over the kept sets alone, Keeping.antt; the calls of a table's
 -- run, crate `lists`.
 use mathlib.Core.Bool.{Bool, true, false, cond}
 use mathlib.Core.List.{List, [], _∷_}
 use Prim.Native.Nat.{ℕ, zero, suc, _+_}
 use lib.Dec.{ltb}
-use Rattle.rules.specs.Machine.{State, fresh, Given, nothing, hands, ends, Move, move}
+use Rattle.rules.specs.Machine.{State, Given, nothing, hands, ends, Move}
 
 pub data Reply : Type 0 where
   refused : ℕ → Reply
@@ -56,26 +56,6 @@ module _ (mv : State → Move) (out : List ℕ → List ℕ) where
   abbrev pub stateBy : List ℕ → State → State
   stateBy [] s = s
   stateBy (b ∷ bs) s = stateBy bs (callBy b s .next)
-
--- the same by rules 1 to 5
-module _ (kids : List ℕ → List ℕ) (out : List ℕ → List ℕ) where
-  abbrev pub proceed : (State → Call) → Given → State → Call
-  proceed more g s = proceedBy (move kids) out more g s
-
-  abbrev pub carry : ℕ → State → Call
-  carry b s = carryBy (move kids) out b s
-
-  abbrev pub call : ℕ → State → Call
-  call b s = callBy (move kids) out b s
-
-  abbrev pub callsFrom : List ℕ → State → List Call
-  callsFrom bs s = callsBy (move kids) out bs s
-
-  abbrev pub calls : List ℕ → List Call
-  calls bs = callsFrom bs fresh
-
-  abbrev pub stateAfter : List ℕ → State → State
-  stateAfter bs s = stateBy (move kids) out bs s
 
 -- ---- what is read off a list of calls
 -- what the answers hand out, in turn

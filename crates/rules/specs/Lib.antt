@@ -2,6 +2,5 @@
 pub mod Sequences
 pub mod Machine
 pub mod Calls
-pub mod Reports
 pub mod Keeping
 pub mod private

@@ -2,8 +2,7 @@
 -- picks p, the lowest first. "Lowest" and "above" go by `place` (02, R-12: they "go by place" in a preference); in 01 by the number itself.
 -- Words of 01: "a paused run is a value" is `State`, whose picks stand first pick first, the table beside it; "take back" is `takeBack`.
 --
--- In order: a state; one move of each rule; the rules together, by place (`stepIn`, `moveIn`) and by number (`step`, `move`); the states that
--- moves lead to (`after`, `Reached`).
+-- In order: a state; one move of each rule; the rules together (`stepIn`, `moveIn`); the states that moves lead to (`afterBy`, `ReachedBy`).
 --
 -- Elsewhere: calls with a budget, Calls.antt; the candidates of a table, which stand for `kids`, crate `lists`.
 use mathlib.Core.Path.{_≡_}
@@ -101,21 +100,3 @@ afterBy mv (suc k) s = afterBy mv k (mv s .next)
 pub record ReachedBy (mv : State → Move) (s : State) : Type 0 where
   pub count : ℕ
   pub leads : afterBy mv count fresh ≡ s
-
--- ---- the same by number
-abbrev pub above : ℕ → List ℕ → List ℕ
-above g l = aboveIn (λ i. i) g l
-
-module _ (kids : List ℕ → List ℕ) where
-  abbrev pub step : List ℕ → Phase → Move
-  step p f = stepIn (λ i. i) kids p f
-
-  abbrev pub move : State → Move
-  move s = step (s .picks) (s .phase)
-
-  -- the state after k moves
-  abbrev pub after : ℕ → State → State
-  after k s = afterBy move k s
-
-  abbrev pub Reached : State → Type 0
-  Reached s = ReachedBy move s

@@ -11,9 +11,10 @@ use lib.ListN.{length, take, getD, length-take}
 use Rattle.table.specs.Tables.{padded}
 use Rattle.table.proofs.Padding.{pad-getD}
 use Rattle.sets.specs.Lists.{allBelow}
-use Rattle.rules.specs.Machine.{State, Move, gives, nothing, hands, ends, move}
+use Rattle.rules.specs.Machine.{State, Move, gives, nothing, hands, ends}
+use Rattle.rules.specs.private.ByNumber.{move}
 use Rattle.rules.specs.Calls.{spent, Call, result, proceedBy, carryBy}
-use Rattle.lists.specs.Picks.{candidates}
+use Rattle.lists.specs.private.ByNumber.{candidates}
 use Rattle.lists.specs.OnTable.{chainOf}
 use Rattle.runs.specs.private.Working.{Sized, later, Ahead, ComesOut, stateOf, Holds, SteppedBy, Stepped, Advanced, apart, handsOver, moveBy}
 use Rattle.runs.specs.declared.Outcome.the-variants.{HandedOut, Spent, End}

@@ -1,7 +1,7 @@
 -- From the core's words to the public ones, for either side: a value of which the core says that it stands for a state is the paused value
 -- of a reached state; refusals and fresh starts. A call that is not refused is in SideCalls.antt.
 use mathlib.Core.Path.{_≡_, refl, sym, ap, _∙_}
-use mathlib.Core.Bool.{Bool, false}
+use mathlib.Core.Bool.{Bool, true, false}
 use mathlib.Core.List.{List, map}
 use Prim.Native.Nat.{ℕ, suc, _<_}
 use native.Mathlib.Omega.{arith}
@@ -17,7 +17,9 @@ use Rattle.rules.specs.Calls.{refused}
 use Rattle.lists.specs.Lists.{Side}
 use Rattle.lists.specs.OnTable.{ReachedOn}
 use Rattle.runs.specs.Paused.{Value, numbered, paused, blankValue}
-use Rattle.runs.specs.Calling.{Step, refusal, held, valueRefusal, PausedAt, Called}
+use Rattle.runs.specs.Calling.{Step, refusal, told, held, valueRefusal, PausedAt, Called}
+use Rattle.runs.specs.Omitting.{CalledEither}
+use Rattle.runs.specs.private.Either.{callOf, CalledOf}
 use Rattle.runs.specs.private.Working.{StandsBy}
 use Rattle.runs.proofs.Holding.{state-by}
 
@@ -51,12 +53,38 @@ module _ (side : Table → Side) (v : Value) where
     fits = h .reached;
   }
 
-pub called-refused : (side : Table → Side) (v : Value) (b n : ℕ) → n ≡ valueRefusal side v → 0 < n → (r : Step) → r ≡ refusal n → Called side v b r
+pub called-refused : (side : Table → Side) (v : Value) (b n : ℕ) → n ≡ valueRefusal side v → 0 < n → (r : Step) → r ≡ refusal n → CalledOf side v b r
 called-refused side v b n e l r d = record {
   table = λ w. d ∙ ap refusal e;
   value = λ z m. absurd (omega (arith, e, z));
   rules = λ z s p. absurd (omega (arith, e, z));
 }
+
+-- the promises of both kinds of run are one
+module _ (side : Table → Side) (v : Value) (b : ℕ) (r : Step) where
+  abbrev by-kind : Bool → State → Step
+  by-kind x s = told (v .table) (side (v .table)) (v .order) x (callOf (v .table) (side (v .table)) (held side v) x b s)
+
+  pub called-both : CalledOf side v b r → CalledEither side v b r
+  called-both c = record {
+    called = record {
+      table = c .table;
+      value = c .value;
+      rules = λ e z s p. c .rules z s p ∙ ap (λ (x : Bool). by-kind x s) e;
+    };
+    rules = λ e z s p. c .rules z s p ∙ ap (λ (x : Bool). by-kind x s) e;
+  }
+
+  pub called-of-both : CalledEither side v b r → CalledOf side v b r
+  called-of-both c = record { table = c .called .table; value = c .called .value; rules = λ z s p. go (v .omit) refl z s p }
+    where
+      go : (x : Bool) → v .omit ≡ x → valueRefusal side v ≡ 0 → (s : State) → PausedAt side v s → r ≡ by-kind (v .omit) s
+      go false e z s p = c .called .rules e z s p ∙ ap (λ (x : Bool). by-kind x s) (sym e)
+      go true e z s p = c .rules e z s p ∙ ap (λ (x : Bool). by-kind x s) (sym e)
+
+  -- and of a value whose run omits nothing `Called` is all
+  pub called-plain : v .omit ≡ false → Called side v b r → CalledOf side v b r
+  called-plain e c = record { table = c .table; value = c .value; rules = λ z s p. c .rules e z s p ∙ ap (λ (x : Bool). by-kind x s) (sym e) }
 
 -- ---- refusals and fresh starts, as the thin functions put them together
 -- the value beside a refusal, of either side

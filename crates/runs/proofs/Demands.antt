@@ -5,45 +5,71 @@
 -- `left-value`), and there is a list of calls for every list of budgets (`calls-made`); demand 3 for every list of calls (`run-demand`), carried
 -- on by each (`carries-demand`); the same of the runs that omit (`run-omits`, `carries-omits`); all runs share one set (`shares-all`); the
 -- promises put to use (`keeps-made`, `carries-made`, `shares-made`, `omits-made`), what they leave free (`demand-answers-unique`,
--- `omits-answers-unique`), and a run with nothing to omit (`omits-nothing`).
+-- `omits-answers-unique`), and a run with nothing to omit (`omits-nothing`); demand 3 as a user reads it (`demand-hands`, `demand-one`,
+-- `demand-limits`).
 use mathlib.Core.Path.{_≡_, refl, sym, ap, ap₂, _∙_, subst}
+use mathlib.Core.Logic.{_≢_}
 use mathlib.Core.Bool.{Bool, true, false}
-use mathlib.Core.List.{List, [], _∷_, _++_, map, List·Memᴰ, List·Memᴰ·head, List·Memᴰ·tail, Memᴰ·map, Memᴰ·of-map}
-use Prim.Native.Nat.{ℕ, _≤_, _<_, min}
+use mathlib.Core.List.{List, [], _∷_, _++_, map, List·Memᴰ, List·Memᴰ·head, List·Memᴰ·tail, Memᴰ·map}
+use Prim.Native.Nat.{ℕ, _-_, _≤_, _<_}
 use native.Mathlib.Decide.{decLe}
 use native.Mathlib.Omega.{arith}
-use lib.ListN.{length}
+use native.Mathlib.Nat.{min-eq-left}
+use lib.ListN.{length, take, length-map, length-take}
 use Rattle.table.specs.Chains.{IsMaximal}
 use Rattle.table.specs.Tables.{Legal, tableRows}
 use Rattle.table.specs.declared.Table.{Table}
-use Rattle.rules.specs.Sequences.{All, factorial}
+use Rattle.rules.specs.Sequences.{All}
 use Rattle.rules.specs.Machine.{State, Move, fresh}
-use Rattle.rules.specs.Calls.{Reply, refused, spent, handed, end, Call, mostBudget, callsBy, stateBy, answered, handouts}
+use Rattle.rules.specs.Calls.{Reply, refused, spent, handed, end, Call, mostBudget, callsBy, stateBy, isHandOut, isHandOutOrEnd}
 use Rattle.rules.proofs.Calls.{above-by}
 use Rattle.rules.proofs.Reports.{only18-by}
 use Rattle.rules.proofs.Reaching.{reached-call, reached-keeping}
 use Rattle.rules.proofs.Ends.{Enough}
-use Rattle.lists.specs.Lists.{Side, gaugeSide, caseSide}
-use Rattle.lists.specs.Arrangements.{IsArrangement}
+use Rattle.lists.specs.Lists.{Side, gaugeSide, caseSide, PreferredList}
+use Rattle.lists.specs.Arrangements.{IsArrangement, plain}
 use Rattle.lists.specs.OnTable.{handOut, moveOn, ReachedOn, callsOn, leftOn}
-use Rattle.lists.specs.Keeping.{leftKeeping}
-use Rattle.lists.specs.Demand.{Demand, OneSet}
+use Rattle.rules.specs.Keeping.{kept as keptOf}
+use Rattle.lists.specs.Keeping.{keepingOn, leftKeeping}
+use Rattle.lists.specs.Demand.{startLimit, gapLimit, mostSets, OneSet}
+use Rattle.lists.specs.private.Demand.{Demand}
 use Rattle.lists.proofs.BothSides.{Fair}
-use Rattle.lists.proofs.Demand.{demand3, run-ends, demand-unique, one-set}
+use Rattle.lists.proofs.Listed.{list-unique}
+use Rattle.lists.proofs.Plain.{base-plain}
+use Rattle.lists.proofs.Demand.{demand3, run-ends, one-set}
 use Rattle.conflicts.specs.Conflicts.{HoldsEssential}
 use Rattle.conflicts.specs.Omitting.{keepsOf, omittingCalls}
-use Rattle.conflicts.proofs.Omitting.{omits, omits-unique, nothing-omitted}
+use Rattle.conflicts.proofs.Omitting.{omits, nothing-omitted}
 use Rattle.runs.specs.Paused.{Value, paused}
-use Rattle.preference.specs.Preferences.{preferredRefusal}
-use Rattle.runs.specs.Calling.{Step, arrangement, byRules, told, movesOf, callOf, valueRefusal, kept, Called, Calls, left, RunDemand, KeepsDemand}
-use Rattle.runs.specs.Calling.{CarriesDemand, sets, Ends, SharesSet, SharesAll}
-use Rattle.runs.specs.Omitting.{RunOmits, KeepsOmits, CarriesOmits}
-use Rattle.runs.proofs.Answered.{paused-state}
+use Rattle.preference.specs.Preferences.{preferredRefusal, orderOf, numbersOf, plainNumbers}
+use Rattle.preference.proofs.PlainOrder.{plain-order, length-numbers}
+use Rattle.runs.specs.Calling.{Step, refusal, arrangement, byRules, told, valueRefusal, PausedAt, kept, Called, CallsBy, Calls, left}
+use Rattle.runs.specs.Demand.{sets, Ends, reported, HandsOut, Demand3, RunDemand, KeepsDemand, CarriesDemand, SharesSet, SharesAll}
+use Rattle.runs.specs.Omitting.{CalledEither, CallsEither, RunOmits, KeepsOmits, CarriesOmits}
+use Rattle.runs.specs.private.Either.{callOf, CalledOf}
+use Rattle.runs.specs.Omitting.{movesOf}
+use Rattle.runs.proofs.Answered.{paused-state, called-both}
+use Rattle.runs.proofs.Answers.{hands-out, told-demand}
 
 -- a call leads from a state that is reached to one that is
 pub reached-next : (t : Table) (s : Side) (o : List ℕ) (omit : Bool) (b : ℕ) (x : State) → ReachedOn s o x → ReachedOn s o (callOf t s o omit b x .next)
 reached-next t s o false b x h = reached-call (moveOn s o) (handOut s) b x h
 reached-next t s o true b x h = reached-keeping (moveOn s o) (handOut s) (keepsOf t) (handOut s) b x h
+
+-- what is promised of a call of either kind of run
+abbrev CalledAs : Bool → (Table → Side) → Value → ℕ → Step → Type 0
+CalledAs false = Called
+CalledAs true = CalledEither
+
+called-as : (omit : Bool) (side : Table → Side) (v : Value) (b : ℕ) (r : Step) → CalledOf side v b r → CalledAs omit side v b r
+called-as false side v b r c = called-both side v b r c .called
+called-as true side v b r c = called-both side v b r c
+
+rule-as : (side : Table → Side) (t : Table) (k : List ℕ) (omit : Bool) → preferredRefusal t (side t .count) k ≡ 0 → (b : ℕ) (s : State)
+    → PausedAt side (paused t k omit s) s → (r : Step) → CalledAs omit side (paused t k omit s) b r
+    → r ≡ told t (side t) k omit (callOf t (side t) (arrangement (side t) k) omit b s)
+rule-as side t k false ok b s p r c = c .rules refl ok s p
+rule-as side t k true ok b s p r c = c .rules refl ok s p
 
 module _ (side : Table → Side) (t : Table) (k : List ℕ) (omit : Bool) (ok : preferredRefusal t (side t .count) k ≡ 0) where
   abbrev here : Side
@@ -84,63 +110,72 @@ module _ (side : Table → Side) (t : Table) (k : List ℕ) (omit : Bool) (ok : 
   next-reached : (b : ℕ) (s : State) → ReachedOn here o s → ReachedOn here o (made-by b s .next)
   next-reached b s h = reached-next t here o omit b s h
 
-  by-rule : (b : ℕ) (s : State) → ReachedOn here o s → (r : Step) → Called side (value s) b r → r ≡ tell (made-by b s)
-  by-rule b s h r c = c .rules ok s (record { reached = h; stands = refl })
+  by-rule : (b : ℕ) (s : State) → ReachedOn here o s → (r : Step) → CalledAs omit side (value s) b r → r ≡ tell (made-by b s)
+  by-rule b s h r c = rule-as side t k omit ok b s (record { reached = h; stands = refl }) r c
 
-  kept-next : (b : ℕ) (s : State) → ReachedOn here o s → (r : Step) → Called side (value s) b r
+  kept-next : (b : ℕ) (s : State) → ReachedOn here o s → (r : Step) → CalledAs omit side (value s) b r
       → kept (r .answer) (value s) (r .next) ≡ value (made-by b s .next)
   kept-next b s h r c =
       ap (λ (x : Step). kept (x .answer) (value s) (x .next)) (by-rule b s h r c)
       ∙ kept-value (made-by b s .answer) (made-by b s .moves) s (made-by b s .next) (refused-stays b s)
 
   -- the answers are those of the rules
-  by-rules : (s : State) → ReachedOn here o s → (bs : List ℕ) (rs : List Step) → Calls side (value s) bs rs
+  by-rules : (s : State) → ReachedOn here o s → (bs : List ℕ) (rs : List Step) → CallsBy (CalledAs omit side) (value s) bs rs
       → rs ≡ map tell (callsBy mv (handOut here) bs s)
   by-rules s h [] [] c = refl
   by-rules s h [] (r ∷ rs) c = absurd c
   by-rules s h (b ∷ bs) [] c = absurd c
   by-rules s h (b ∷ bs) (r ∷ rs) c =
       ap₂ (λ (x : Step) (xs : List Step). x ∷ xs) (by-rule b s h r (c .0))
-      (by-rules (made-by b s .next) (next-reached b s h) bs rs (subst (λ (v : Value). Calls side v bs rs) (kept-next b s h r (c .0)) (c .1)))
+      (by-rules (made-by b s .next) (next-reached b s h) bs rs (subst (λ (v : Value). CallsBy (CalledAs omit side) v bs rs) (kept-next b s h r (c .0)) (c .1)))
 
   -- and the value that they leave is the paused value of the state that the rules lead to
-  left-value : (s : State) → ReachedOn here o s → (bs : List ℕ) (rs : List Step) → Calls side (value s) bs rs
+  left-value : (s : State) → ReachedOn here o s → (bs : List ℕ) (rs : List Step) → CallsBy (CalledAs omit side) (value s) bs rs
       → left (value s) rs ≡ value (stateBy mv (handOut here) bs s)
   left-value s h [] [] c = refl
   left-value s h [] (r ∷ rs) c = absurd c
   left-value s h (b ∷ bs) [] c = absurd c
   left-value s h (b ∷ bs) (r ∷ rs) c =
       let next = kept-next b s h r (c .0) in
-      ap (λ (v : Value). left v rs) next ∙ left-value (made-by b s .next) (next-reached b s h) bs rs (subst (λ (v : Value). Calls side v bs rs) next (c .1))
+      ap (λ (v : Value). left v rs) next ∙ left-value (made-by b s .next) (next-reached b s h) bs rs (subst (λ (v : Value). CallsBy (CalledAs omit side) v bs rs) next (c .1))
 
-  -- ---- what the rules give for a call is what `Called` asks, and for a list of budgets what `Calls` asks: neither is empty talk
-  called-made : (b : ℕ) (s : State) → ReachedOn here o s → Called side (value s) b (tell (made-by b s))
+  -- ---- what the rules give for a call is what `CalledEither` asks, and for a list of budgets what `CallsEither` asks: neither is empty talk
+  called-made : (b : ℕ) (s : State) → ReachedOn here o s → CalledOf side (value s) b (tell (made-by b s))
   called-made b s h = record {
     table = λ l. absurd (omega (arith, ok));
     value = λ z n. absurd (n s (record { reached = h; stands = refl }));
     rules = λ z x p. ap (λ (y : State). tell (made-by b y)) (paused-state t k omit s x (p .stands));
   }
 
-  pub calls-made : (s : State) → ReachedOn here o s → (bs : List ℕ) → Calls side (value s) bs (map tell (callsBy mv (handOut here) bs s))
+  pub calls-made : (s : State) → ReachedOn here o s → (bs : List ℕ) → CallsEither side (value s) bs (map tell (callsBy mv (handOut here) bs s))
   calls-made s h [] = tt
   calls-made s h (b ∷ bs) =
-      let made : List Step = map tell (callsBy mv (handOut here) bs (made-by b s .next)) in (
-        called-made b s h,
-        subst (λ (v : Value). Calls side v bs made) (sym (kept-next b s h (tell (made-by b s)) (called-made b s h)))
+      let made : List Step = map tell (callsBy mv (handOut here) bs (made-by b s .next)) in
+      let c : CalledOf side (value s) b (tell (made-by b s)) = called-made b s h in (
+        called-both side (value s) b (tell (made-by b s)) c,
+        subst (λ (v : Value). CallsEither side v bs made)
+            (sym (kept-next b s h (tell (made-by b s)) (called-as omit side (value s) b (tell (made-by b s)) c)))
             (calls-made (made-by b s .next) (next-reached b s h) bs),
       )
+
+-- a list of calls of either kind of run is one of a run that omits nothing
+pub calls-only : (side : Table → Side) (v : Value) (bs : List ℕ) (rs : List Step) → CallsEither side v bs rs → Calls side v bs rs
+calls-only side v [] [] c = tt
+calls-only side v [] (r ∷ rs) c = absurd c
+calls-only side v (b ∷ bs) [] c = absurd c
+calls-only side v (b ∷ bs) (r ∷ rs) c = (c .0 .called, calls-only side (kept (r .answer) v (r .next)) bs rs (c .1))
 
 -- ---- a list of calls
 fresh-reached : (s : Side) (o : List ℕ) → ReachedOn s o fresh
 fresh-reached s o = record { count = 0; leads = refl }
 
 -- one call more
-calls-more : (side : Table → Side) (v : Value) (bs : List ℕ) (rs : List Step) (b : ℕ) (r : Step) → Calls side v bs rs → Called side (left v rs) b r
-    → Calls side v (bs ++ (b ∷ [])) (rs ++ (r ∷ []))
-calls-more side v [] [] b r c d = (d, tt)
-calls-more side v [] (q ∷ rs) b r c d = absurd c
-calls-more side v (a ∷ bs) [] b r c d = absurd c
-calls-more side v (a ∷ bs) (q ∷ rs) b r c d = (c .0, calls-more side (kept (q .answer) v (q .next)) bs rs b r (c .1) d)
+calls-more : (P : Value → ℕ → Step → Type 0) (v : Value) (bs : List ℕ) (rs : List Step) (b : ℕ) (r : Step) → CallsBy P v bs rs → P (left v rs) b r
+    → CallsBy P v (bs ++ (b ∷ [])) (rs ++ (r ∷ []))
+calls-more P v [] [] b r c d = (d, tt)
+calls-more P v [] (q ∷ rs) b r c d = absurd c
+calls-more P v (a ∷ bs) [] b r c d = absurd c
+calls-more P v (a ∷ bs) (q ∷ rs) b r c d = (c .0, calls-more P (kept (q .answer) v (q .next)) bs rs b r (c .1) d)
 
 -- a refused call at the end changes nothing, and where every call is refused the first value is left
 pub left-refused : (v : Value) (rs : List Step) (r : Step) (n : ℕ) → r .answer ≡ refused n → left v (rs ++ (r ∷ [])) ≡ left v rs
@@ -161,6 +196,14 @@ pub record Started (side : Table → Side) (t : Table) (k : List ℕ) : Type 0 w
   pub arranged : IsArrangement (side t .count) (arrangement (side t) k)
   pub passed : preferredRefusal t (side t .count) k ≡ 0
 
+-- the numbers of the plain order hold the plain arrangement
+plain-held : (n : ℕ) (k : List ℕ) → IsArrangement n (orderOf n k) → k ≡ plainNumbers n → orderOf n k ≡ plain n
+plain-held n k a e =
+    ap (orderOf n) e ∙ ap (λ (m : ℕ). orderOf n (numbersOf (plain m))) (min-eq-left few) ∙ plain-order n
+  where
+    few : n ≤ 64
+    few = omega (arith, a .size, length-map (take n k) (λ x. x - 1), length-take n k, ap length e ∙ length-numbers n)
+
 module _ (side : Table → Side) (t : Table) (k : List ℕ) (g : Started side t k) where
   abbrev preferred : List ℕ
   preferred = arrangement (side t) k
@@ -168,26 +211,41 @@ module _ (side : Table → Side) (t : Table) (k : List ℕ) (g : Started side t 
   pub run-demand : (v : Value) → v ≡ paused t k false fresh → (bs : List ℕ) (rs : List Step) → Calls side v bs rs → RunDemand side t k v bs rs
   run-demand v e bs rs c =
       subst (λ (w : Value). Calls side w bs rs → RunDemand side t k w bs rs) (sym e)
-      (λ d. record {
-        calls = callsOn (side t) preferred bs;
-        answers = by-rules side t k false (g .passed) fresh (fresh-reached (side t) preferred) bs rs d;
-        demand = demand3 t (g .legal) (side t) (g .fair) preferred (g .arranged) bs;
-        last = left-value side t k false (g .passed) fresh (fresh-reached (side t) preferred) bs rs d;
+      (λ d.
+      let each = by-rules side t k false (g .passed) fresh (fresh-reached (side t) preferred) bs rs d in
+      let m : Demand3 t (side t) preferred bs rs =
+      subst (Demand3 t (side t) preferred bs) (sym each)
+      (told-demand t (side t) k preferred bs (callsOn (side t) preferred bs) (demand3 t (g .legal) (side t) (g .fair) preferred (g .arranged) bs)) in record {
+        demand = m;
+        rules = record {
+          each = each;
+          last = left-value side t k false (g .passed) fresh (fresh-reached (side t) preferred) bs rs d;
+        };
+        base = λ p.
+            base-plain t (side t) (g .fair) (m .list) .0
+            (subst (λ (q : List ℕ). PreferredList t (side t) q (m .list)) (plain-held (side t .count) k (g .arranged) p) (m .listed));
       }) c
 
-  pub run-omits : (v : Value) → v ≡ paused t k true fresh → (bs : List ℕ) (rs : List Step) → Calls side v bs rs → RunOmits side t k v bs rs
+  pub run-omits : (v : Value) → v ≡ paused t k true fresh → (bs : List ℕ) (rs : List Step) → CallsEither side v bs rs → RunOmits side t k v bs rs
   run-omits v e bs rs c =
-      subst (λ (w : Value). Calls side w bs rs → RunOmits side t k w bs rs) (sym e)
-      (λ d. record {
-        calls = omittingCalls t (side t) preferred bs;
-        answers = by-rules side t k true (g .passed) fresh (fresh-reached (side t) preferred) bs rs d;
-        omits = omits t (g .legal) (side t) (g .fair) preferred (g .arranged) bs;
+      subst (λ (w : Value). CallsEither side w bs rs → RunOmits side t k w bs rs) (sym e)
+      (λ d.
+      let each = by-rules side t k true (g .passed) fresh (fresh-reached (side t) preferred) bs rs d in
+      let h = omits t (g .legal) (side t) (g .fair) preferred (g .arranged) bs in
+      let q = h .keeping in record {
+        list = q .list;
+        listed = q .listed;
+        members = h .members;
+        hands = subst (HandsOut (keptOf (keepsOf t) (q .list)) bs) (sym each)
+            (hands-out t (side t) k true (keepingOn (side t) preferred (keepsOf t)) (handOut (side t)) (keptOf (keepsOf t) (q .list)) bs
+            (omittingCalls t (side t) preferred bs) (q .only18) (q .whole) (q .spent) (q .front) (q .complete));
+        each = each;
         last = left-value side t k true (g .passed) fresh (fresh-reached (side t) preferred) bs rs d;
       }) c
 
   -- where every maximal chain holds an essential pair, a run that omits makes the calls of demand 3
   pub omits-nothing : ((x : List ℕ) → IsMaximal (tableRows t) x → HoldsEssential (tableRows t) x) → (bs : List ℕ) (rs : List Step)
-      → Calls side (paused t k true fresh) bs rs
+      → CallsEither side (paused t k true fresh) bs rs
       → (rs ≡ map (told t (side t) k true) (callsOn (side t) preferred bs)) × Demand t (side t) preferred bs (callsOn (side t) preferred bs)
   omits-nothing a bs rs c = (
     by-rules side t k true (g .passed) fresh (fresh-reached (side t) preferred) bs rs c
@@ -204,13 +262,13 @@ pub carries-demand : (side : Table → Side) (v : Value) (b : ℕ) (r : Step) �
 carries-demand side v b r h c ok bs rs cs e =
     let start = paused (v .table) (v .order) false fresh in
     run-demand side (v .table) (v .order) (h ok) start refl (bs ++ (b ∷ [])) (rs ++ (r ∷ []))
-    (calls-more side start bs rs b r cs (subst (λ (w : Value). Called side w b r) (sym e) c))
+    (calls-more (Called side) start bs rs b r cs (subst (λ (w : Value). Called side w b r) (sym e) c))
 
-pub carries-omits : (side : Table → Side) (v : Value) (b : ℕ) (r : Step) → Starts side v → Called side v b r → CarriesOmits side v b r
+pub carries-omits : (side : Table → Side) (v : Value) (b : ℕ) (r : Step) → Starts side v → CalledEither side v b r → CarriesOmits side v b r
 carries-omits side v b r h c ok bs rs cs e =
     let start = paused (v .table) (v .order) true fresh in
     run-omits side (v .table) (v .order) (h ok) start refl (bs ++ (b ∷ [])) (rs ++ (r ∷ []))
-    (calls-more side start bs rs b r cs (subst (λ (w : Value). Called side w b r) (sym e) c))
+    (calls-more (CalledEither side) start bs rs b r cs (subst (λ (w : Value). CalledEither side w b r) (sym e) c))
 
 -- ---- two runs
 module _ (t : Table) (y : Side) (k : List ℕ) where
@@ -220,30 +278,17 @@ module _ (t : Table) (y : Side) (k : List ℕ) where
   told-answer omit (handed x) m s = refl
   told-answer omit end m s = refl
 
-  sets-told : (cs : List Call) → sets (map (told t y k false) cs) ≡ handouts cs
-  sets-told [] = refl
-  sets-told (c ∷ cs) = ap₂ answered (told-answer false (c .answer) (c .moves) (c .next)) (sets-told cs)
-
-  -- an answer of end is that of a call
-  ends-told : (cs : List Call) → Ends (map (told t y k false) cs) → (c : Call) × List·Memᴰ c cs × (c .answer ≡ end)
-  ends-told cs (r, m, e) =
-      let q = Memᴰ·of-map (told t y k false) cs m in
-      (q .0, q .1, sym (told-answer false (q .0 .answer) (q .0 .moves) (q .0 .next)) ∙ ap (λ (x : Step). x .answer) (q .2) ∙ e)
-
-  -- and that of a call is one
+  -- an answer of end of a call is one
   ends-made : (cs : List Call) → (c : Call) × List·Memᴰ c cs × (c .answer ≡ end) → Ends (map (told t y k false) cs)
   ends-made cs (c, m, e) = (told t y k false c, Memᴰ·map (told t y k false) m, told-answer false (c .answer) (c .moves) (c .next) ∙ e)
 
 shares-set : (side other : Table → Side) (t : Table) (k j : List ℕ) → Started side t k → (preferredRefusal t (other t .count) j ≡ 0 → Started other t j)
     → (v : Value) → v ≡ paused t k false fresh → SharesSet side other t k j v (paused t j false fresh)
 shares-set side other t k j g h v e ok ok′ bs cs rs qs x y ends-x ends-y =
-    let a = run-demand side t k g v e bs rs x in
-    let b = run-demand other t j (h ok′) (paused t j false fresh) refl cs qs y in
-    let i = ends-told t (side t) k (a .calls) (subst Ends (a .answers) ends-x) in
-    let l = ends-told t (other t) j (b .calls) (subst Ends (b .answers) ends-y) in
-    rw (a .answers, b .answers, sets-told t (side t) k (a .calls), sets-told t (other t) j (b .calls))
-    (one-set t (side t) (other t) (arrangement (side t) k) (arrangement (other t) j) bs cs (a .calls) (b .calls) (a .demand) (b .demand) (i .0) (i .1) (i .2)
-    (l .0) (l .1) (l .2))
+    let a = run-demand side t k g v e bs rs x .demand in
+    let b = run-demand other t j (h ok′) (paused t j false fresh) refl cs qs y .demand in
+    rw (a .hands .whole ends-x, b .hands .whole ends-y)
+    (one-set t (side t) (other t) (arrangement (side t) k) (arrangement (other t) j) (a .list) (b .list) (a .listed) (b .listed) (a .few))
 
 -- what a side comes with for every preference of it
 abbrev pub StartsAll : (Table → Side) → Table → Type 0
@@ -267,15 +312,19 @@ module _ (side : Table → Side) (t : Table) (k : List ℕ) (ok : preferredRefus
   abbrev start : Bool → Value
   start omit = paused t k omit fresh
 
+  plain-made : (bs : List ℕ) → Calls side (start false) bs (made (side t) t k bs)
+  plain-made bs =
+      calls-only side (start false) bs (made (side t) t k bs) (calls-made side t k false ok fresh (fresh-reached (side t) asked) bs)
+
   -- a fresh start's, for every list of budgets
   pub keeps-made : KeepsDemand side t k (start false) → (bs : List ℕ) → RunDemand side t k (start false) bs (made (side t) t k bs)
-  keeps-made h bs = h ok bs (made (side t) t k bs) (calls-made side t k false ok fresh (fresh-reached (side t) asked) bs)
+  keeps-made h bs = h ok bs (made (side t) t k bs) (plain-made bs)
 
   -- a run call's, after every list of budgets
   pub carries-made : (bs : List ℕ) (b : ℕ) (r : Step) → CarriesDemand side (paused t k false (leftOn (side t) asked bs)) b r
       → RunDemand side t k (start false) (bs ++ (b ∷ [])) (made (side t) t k bs ++ (r ∷ []))
   carries-made bs b r h =
-      let c = calls-made side t k false ok fresh (fresh-reached (side t) asked) bs in
+      let c = plain-made bs in
       h ok bs (made (side t) t k bs) c (left-value side t k false ok fresh (fresh-reached (side t) asked) bs (made (side t) t k bs) c)
 
   -- ---- the same of the runs that omit
@@ -295,12 +344,12 @@ module _ (side : Table → Side) (t : Table) (k : List ℕ) (ok : preferredRefus
 pub shares-made : (side other : Table → Side) (t : Table) (k j : List ℕ) → Started side t k → Started other t j
     → SharesSet side other t k j (paused t k false fresh) (paused t j false fresh) → (bs cs : List ℕ)
     → All (Enough (side t .count)) bs → All (Enough (other t .count)) cs
-    → factorial (min (t .gauges) (t .cases)) < length bs → factorial (min (t .gauges) (t .cases)) < length cs
+    → mostSets t < length bs → mostSets t < length cs
     → OneSet t (sets (made (side t) t k bs)) (sets (made (other t) t j cs))
 shares-made side other t k j g h p bs cs a d m n =
     p (g .passed) (h .passed) bs cs (made (side t) t k bs) (made (other t) t j cs)
-    (calls-made side t k false (g .passed) fresh (fresh-reached (side t) (arrangement (side t) k)) bs)
-    (calls-made other t j false (h .passed) fresh (fresh-reached (other t) (arrangement (other t) j)) cs)
+    (plain-made side t k (g .passed) bs)
+    (plain-made other t j (h .passed) cs)
     (ends-made t (side t) k (callsOn (side t) (arrangement (side t) k) bs)
     (run-ends t (g .legal) (side t) (g .fair) (arrangement (side t) k) (g .arranged) bs a m))
     (ends-made t (other t) j (callsOn (other t) (arrangement (other t) j) cs)
@@ -309,12 +358,26 @@ shares-made side other t k j g h p bs cs a d m n =
 -- and demand 3 leaves one list of answers, and one value after it
 pub demand-answers-unique : (side : Table → Side) (t : Table) (k : List ℕ) (v : Value) (bs : List ℕ) (rs qs : List Step) → RunDemand side t k v bs rs
     → RunDemand side t k v bs qs → (rs ≡ qs) × (left v rs ≡ left v qs)
-demand-answers-unique side t k v bs rs qs a b =
-    let same = demand-unique t (side t) (arrangement (side t) k) bs (a .calls) (b .calls) (a .demand) (b .demand) in
-    (a .answers ∙ ap (map (told t (side t) k false)) same ∙ sym (b .answers), a .last ∙ sym (b .last))
+demand-answers-unique side t k v bs rs qs a b = (a .rules .each ∙ sym (b .rules .each), a .rules .last ∙ sym (b .rules .last))
 
 pub omits-answers-unique : (side : Table → Side) (t : Table) (k : List ℕ) (v : Value) (bs : List ℕ) (rs qs : List Step) → RunOmits side t k v bs rs
     → RunOmits side t k v bs qs → (rs ≡ qs) × (left v rs ≡ left v qs)
-omits-answers-unique side t k v bs rs qs a b =
-    let same = omits-unique t (side t) (arrangement (side t) k) bs (a .calls) (b .calls) (a .omits) (b .omits) in
-    (a .answers ∙ ap (map (told t (side t) k true)) same ∙ sym (b .answers), a .last ∙ sym (b .last))
+omits-answers-unique side t k v bs rs qs a b = (a .each ∙ sym (b .each), a .last ∙ sym (b .last))
+
+-- ---- demand 3 as a user reads it off the answers, who has the side's list xs
+pub demand-hands : (t : Table) (s : Side) (o bs : List ℕ) (rs : List Step) (xs : List (List ℕ)) → Demand3 t s o bs rs → PreferredList t s o xs
+    → ((rest : List (List ℕ)) × (sets rs ++ rest ≡ xs)) × (Ends rs → sets rs ≡ xs) × (length xs ≤ mostSets t)
+demand-hands t s o bs rs xs d l =
+    let e : d .list ≡ xs = list-unique (d .list) xs (d .listed) l in (
+      (d .hands .front .0, d .hands .front .1 ∙ e),
+      λ z. d .hands .whole z ∙ e,
+      subst (λ (ys : List (List ℕ)). length ys ≤ mostSets t) e (d .few),
+    )
+
+pub demand-one : (t : Table) (s : Side) (o : List ℕ) (b : ℕ) (r : Step) → Demand3 t s o (b ∷ []) (r ∷ [])
+    → (mostBudget < b → r ≡ refusal 18) × (b ≤ mostBudget → (n : ℕ) → r .answer ≢ refused n) × (r .answer ≡ spent → r .moves ≡ b) × (r .moves ≤ b)
+demand-one t s o b r d = (d .hands .only18 .0, d .hands .no-other .0, d .hands .budget .0, d .hands .within .0)
+
+pub demand-limits : (t : Table) (s : Side) (o bs : List ℕ) (sooner later : List Step) (r : Step) (x : List ℕ) → Demand3 t s o bs (sooner ++ (r ∷ later))
+    → r .answer ≡ handed x → (reported isHandOut (sooner ++ (r ∷ later)) ≤ startLimit (s .count)) × (reported isHandOutOrEnd later ≤ gapLimit (s .count))
+demand-limits t s o bs sooner later r x d h = (d .start, d .gap sooner later r x refl h)

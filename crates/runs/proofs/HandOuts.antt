@@ -17,10 +17,10 @@ use Rattle.rules.specs.Keeping.{taken}
 use Rattle.rules.specs.private.Fitting.{Fits}
 use Rattle.rules.proofs.Renaming.{renamedPhase}
 use Rattle.lists.specs.Arrangements.{IsArrangement, placeOf}
-use Rattle.lists.specs.PickSequence.{pickSeq}
+use Rattle.lists.specs.private.ByNumber.{pickSeq}
 use Rattle.lists.specs.Preferred.{candidatesBy, pickSeqBy}
 use Rattle.lists.specs.Lists.{Side}
-use Rattle.lists.specs.Picks.{candidates}
+use Rattle.lists.specs.private.ByNumber.{candidates}
 use Rattle.lists.specs.OnTable.{chainOf, handOut, moveOn, ReachedOn}
 use Rattle.lists.specs.private.Arranging.{indexAt, prefer}
 use Rattle.lists.proofs.Candidates.{IsLeaf}
@@ -33,7 +33,8 @@ use Rattle.lists.proofs.PlacedRuns.{hand-out-placed, good-below, Placed, reache
 use Rattle.conflicts.specs.Omitting.{keepsOf}
 use Rattle.runs.specs.declared.Outcome.{Outcome}
 use Rattle.runs.specs.declared.Outcome.the-variants.{HandedOut}
-use Rattle.runs.specs.Calling.{outcome, sequence, movesOf}
+use Rattle.runs.specs.Calling.{outcome, sequence}
+use Rattle.runs.specs.Omitting.{movesOf}
 
 -- ---- a state that is reached, and Handed
 -- by place there is no candidate after its picks

@@ -12,7 +12,9 @@ pub mod Answered
 pub mod Sides
 pub mod HandOuts
 pub mod Wanting
+pub mod Answers
 pub mod Demands
+pub mod Sentences
 pub mod Starting
 pub mod SideCalls
 pub mod Readings

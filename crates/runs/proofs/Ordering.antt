@@ -23,12 +23,13 @@ use Rattle.table.specs.Pairs.{row}
 use Rattle.table.specs.Tables.{noRows, padded}
 use Rattle.table.proofs.Places.{row-past}
 use Rattle.table.proofs.Padding.{pad-length, pad-getD}
-use Rattle.rules.specs.Machine.{Phase, Down, Handed, Back, Ended, State, hands, Move, move, moveIn, ReachedBy}
+use Rattle.rules.specs.Machine.{Phase, Down, Handed, Back, Ended, State, hands, Move, moveIn, ReachedBy}
+use Rattle.rules.specs.private.ByNumber.{move}
 use Rattle.rules.specs.Calls.{Call, result, carryBy, mostBudget}
 use Rattle.rules.specs.Keeping.{moveKeeping}
 use Rattle.rules.proofs.Renaming.{renamed, renamedPhase, renamedCall, Below, Follows, any-out, carry-renamed, keeping-follows}
 use Rattle.lists.specs.Arrangements.{IsArrangement, placeOf, plain}
-use Rattle.lists.specs.Picks.{candidates}
+use Rattle.lists.specs.private.ByNumber.{candidates}
 use Rattle.lists.specs.Preferred.{candidatesBy}
 use Rattle.lists.specs.Lists.{Side}
 use Rattle.lists.specs.OnTable.{chainOf, moveOn}
@@ -41,7 +42,7 @@ use Rattle.lists.proofs.PlacedCandidates.{AllBelow, all-index}
 use Rattle.lists.proofs.PlacedRuns.{step-hands, row-placed, chain-placed, Good, good-below, good-short, follows, handed-below, reached-placed}
 use Rattle.lists.proofs.Plain.{plain-follows, state-plain, reached-plain}
 use Rattle.preference.specs.Preferences.{isPreference, orderOf, numbersOf}
-use Rattle.preference.specs.private.Placing.{inverse, isPlain, gathered, renumber, renumbered}
+use Rattle.preference.specs.Placing.{inverse, isPlain, gathered, renumber, renumbered}
 use Rattle.preference.proofs.Holding.{IsPreference, preference-of}
 use Rattle.preference.proofs.Gathering.{gathered-is, gathered-array, gathered-back, place-entry, number-entry, places-of-picks, numbers-of-picks}
 use Rattle.preference.proofs.PlainOrder.{plain-is, plain-order, plain-passes}

@@ -1,4 +1,5 @@
--- The contracts leave one answer: no two steps are what `Called` says of one value and budget (`called-unique`), and no two structs of the code
+-- The contracts leave one answer: no two steps are what `CalledEither` says of one value and budget (`called-unique`), nor, where the run omits
+-- nothing, what `Called` says (`called-plain-unique`), and no two structs of the code
 -- read alike. For `Called` two steps that are not different are equal, since each field of a step is decided.
 use mathlib.Core.Path.{_≡_, refl, sym, ap, ap₂, _∙_}
 use mathlib.Core.Bool.{Bool, true, false, cond}
@@ -31,6 +32,9 @@ use Rattle.runs.specs.declared.Outcome.{Outcome}
 use Rattle.runs.specs.declared.Outcome.the-variants.{HandedOut, Spent, End, Refused}
 use Rattle.runs.specs.Paused.{Value, gaugePhase, casePhase, gaugeValue, caseValue, gaugeStarted, caseStarted}
 use Rattle.runs.specs.Calling.{Step, outcome, gaugeStep, caseStep, valueRefusal, PausedAt, Called}
+use Rattle.runs.specs.Omitting.{CalledEither}
+use Rattle.runs.specs.private.Either.{CalledOf}
+use Rattle.runs.proofs.Answered.{called-of-both, called-plain}
 
 -- ---- an answer, and a phase, from its kind and its numbers
 kind : Reply → ℕ
@@ -130,14 +134,21 @@ step-settled r q n =
     list : (f : Step → List ℕ) → f r ≡ f q
     list f = settle f (List-discrete ℕ-discrete (f r) (f q))
 
-pub called-unique : (side : Table → Side) (v : Value) (b : ℕ) (r q : Step) → Called side v b r → Called side v b q → r ≡ q
-called-unique side v b r q a c = step-settled r q (λ n. go n (ℕ-discrete (valueRefusal side v) 0))
+of-unique : (side : Table → Side) (v : Value) (b : ℕ) (r q : Step) → CalledOf side v b r → CalledOf side v b q → r ≡ q
+of-unique side v b r q a c = step-settled r q (λ n. go n (ℕ-discrete (valueRefusal side v) 0))
   where
     go : ¬ (r ≡ q) → Dec (valueRefusal side v ≡ 0) → ⊥
     go n (no z) = n (a .table (omega (arith, z)) ∙ sym (c .table (omega (arith, z))))
     go n (yes z) =
         let none : (s : State) → PausedAt side v s → ⊥ = λ s p. n (a .rules z s p ∙ sym (c .rules z s p)) in
         n (a .value z none ∙ sym (c .value z none))
+
+pub called-unique : (side : Table → Side) (v : Value) (b : ℕ) (r q : Step) → CalledEither side v b r → CalledEither side v b q → r ≡ q
+called-unique side v b r q a c = of-unique side v b r q (called-of-both side v b r a) (called-of-both side v b q c)
+
+-- of a value whose run omits nothing, by what `Called` says alone
+pub called-plain-unique : (side : Table → Side) (v : Value) (b : ℕ) (r q : Step) → v .omit ≡ false → Called side v b r → Called side v b q → r ≡ q
+called-plain-unique side v b r q e a c = of-unique side v b r q (called-plain side v b r e a) (called-plain side v b q e c)
 
 -- ---- no two answers read alike: what is read gives the answer back
 injective : {A B : Type 0} (read : A → B) (back : B → A) → ((x : A) → back (read x) ≡ x) → (x y : A) → read x ≡ read y → x ≡ y
@@ -245,8 +256,8 @@ case-step-injective = injective caseStep
     (outcome-of (r .outcome) (chainRows (r .chain))) (case-run-of (r .next)))
 
 -- ---- so a run call has one answer
-pub gauge-call-unique : (v : Value) (b : ℕ) (r q : GaugeStep) → Called gaugeSide v b (gaugeStep r) → Called gaugeSide v b (gaugeStep q) → r ≡ q
+pub gauge-call-unique : (v : Value) (b : ℕ) (r q : GaugeStep) → CalledEither gaugeSide v b (gaugeStep r) → CalledEither gaugeSide v b (gaugeStep q) → r ≡ q
 gauge-call-unique v b r q a c = gauge-step-injective r q (called-unique gaugeSide v b (gaugeStep r) (gaugeStep q) a c)
 
-pub case-call-unique : (v : Value) (b : ℕ) (r q : CaseStep) → Called caseSide v b (caseStep r) → Called caseSide v b (caseStep q) → r ≡ q
+pub case-call-unique : (v : Value) (b : ℕ) (r q : CaseStep) → CalledEither caseSide v b (caseStep r) → CalledEither caseSide v b (caseStep q) → r ≡ q
 case-call-unique v b r q a c = case-step-injective r q (called-unique caseSide v b (caseStep r) (caseStep q) a c)

@@ -26,8 +26,11 @@ use Rattle.runs.specs.Paused.{Value, numbered, paused}
 use Rattle.preference.specs.Preferences.{isPreference}
 use Rattle.preference.proofs.Holding.{preference-of}
 use Rattle.preference.proofs.Placing.{both-pass, preference-refused}
-use Rattle.runs.specs.Calling.{Step, outcome, refusal, sequence, arrangement, byRules, told, movesOf, callOf, held, Called, CarriesDemand}
-use Rattle.runs.specs.Omitting.{CarriesOmits}
+use Rattle.runs.specs.Calling.{Step, outcome, refusal, sequence, arrangement, byRules, told, held, Called}
+use Rattle.runs.specs.Demand.{CarriesDemand}
+use Rattle.runs.specs.private.Either.{callOf, CalledOf}
+use Rattle.runs.specs.Omitting.{movesOf}
+use Rattle.runs.specs.Omitting.{CalledEither, CarriesOmits}
 use Rattle.runs.specs.private.Working.{modePhase, StandsBy, WentBy, CarriesBy, Ordered, nextOf, stepBy}
 use Rattle.runs.specs.declared.Outcome.{Outcome}
 use Rattle.runs.specs.declared.Outcome.the-variants.{HandedOut, Spent, End, Refused}
@@ -35,7 +38,7 @@ use Rattle.runs.specs.declared.engine.Mode.{Mode}
 use Rattle.runs.specs.declared.engine.Report.{Report}
 use Rattle.runs.proofs.Outcome.{the-type}
 use Rattle.runs.proofs.Padding.{take-padded}
-use Rattle.runs.proofs.Answered.{stands-paused, paused-stands, called-refused}
+use Rattle.runs.proofs.Answered.{called-both, stands-paused, paused-stands, called-refused}
 use Rattle.runs.proofs.Sides.{Ladder}
 use Rattle.runs.proofs.HandOuts.{sequence-of, handed-out}
 use Rattle.runs.proofs.Demands.{Starts, carries-demand, carries-omits}
@@ -95,7 +98,7 @@ module _ (side : Table → Side) (v : Value) (b : ℕ) (m : Mode) (c′ k′ : L
   step rows oc = stepBy t (v .order) (v .omit) o k′ rows oc
 
   -- ---- the preference is none
-  order-answer : isPreference n (v .order) ≡ false → (rows : List ℕ) (r : Step) → r ≡ step rows (o .outcome) → Called side v b r
+  order-answer : isPreference n (v .order) ≡ false → (rows : List ℕ) (r : Step) → r ≡ step rows (o .outcome) → CalledOf side v b r
   order-answer z rows r e =
       called-refused side v b 27 (sym (preference-refused t n (v .order) (h .passed) z)) (omega arith) r (e ∙ ap (step rows) (h .ordered .none z))
 
@@ -110,7 +113,7 @@ module _ (side : Table → Side) (v : Value) (b : ℕ) (m : Mode) (c′ k′ : L
         (h .ordered .carried z)
 
     value-answer : (rows : List ℕ) → (o .outcome ≡ HandedOut → (p : List ℕ) → c′ ≡ padded (chainOf (side t .rows) p) → Ladder t (side t) p rows)
-        → (r : Step) → r ≡ step rows (o .outcome) → Called side v b r
+        → (r : Step) → r ≡ step rows (o .outcome) → CalledOf side v b r
     value-answer rows chain r e = record {
       table = λ l. absurd (omega (arith, both-pass t n (v .order) (h .passed) z));
       value = λ y none. e ∙ ap (step rows) (carries .value (λ s l. none s (stands-paused side v s l)));
@@ -148,15 +151,15 @@ module _ (side : Table → Side) (v : Value) (b : ℕ) (m : Mode) (c′ k′ : L
 
   -- what the core reports, whichever it is, is the answer of the call
   call-answer : (rows : List ℕ) → (o .outcome ≡ HandedOut → (p : List ℕ) → c′ ≡ padded (chainOf (side t .rows) p) → Ladder t (side t) p rows)
-      → (r : Step) → r ≡ step rows (o .outcome) → Called side v b r
+      → (r : Step) → r ≡ step rows (o .outcome) → CalledOf side v b r
   call-answer rows chain r e = go (isPreference n (v .order)) refl
     where
-      go : (x : Bool) → isPreference n (v .order) ≡ x → Called side v b r
+      go : (x : Bool) → isPreference n (v .order) ≡ x → CalledOf side v b r
       go true z = value-answer z rows chain r e
       go false z = order-answer z rows r e
 
   -- ---- the answers
-  pub call-refused : (why : Refusal) → o .outcome ≡ Refused why → (r : Step) → r ≡ refusal (number why) → Called side v b r
+  pub call-refused : (why : Refusal) → o .outcome ≡ Refused why → (r : Step) → r ≡ refusal (number why) → CalledOf side v b r
   call-refused why e r d = call-answer [] (λ x. let z : _≡_ {A = ℕ} 0 1 = cc in absurd (omega arith)) r (d ∙ sym (ap (step []) e))
 
   module _ (f : Phase) (ef : f ≡ modePhase (o .spot .mode)) where
@@ -164,7 +167,7 @@ module _ (side : Table → Side) (v : Value) (b : ℕ) (m : Mode) (c′ k′ : L
     next = record { table = t; order = v .order; picks = k′; count = o .spot .count; phase = f; omit = v .omit }
 
     pub call-handed : (rows : List ℕ) → o .outcome ≡ HandedOut → ((p : List ℕ) → c′ ≡ padded (chainOf (side t .rows) p) → Ladder t (side t) p rows)
-        → Called side v b (record {
+        → CalledOf side v b (record {
           answer = handed (take (t .gauges) rows);
           moves = o .moves;
           chain = record { gauges = t .gauges; rows = rows };
@@ -183,7 +186,7 @@ module _ (side : Table → Side) (v : Value) (b : ℕ) (m : Mode) (c′ k′ : L
         (rw ef (sym (ap (step rows) e)))
 
     pub call-other : (c : Chain) → c ≡ blankChain → OneOf (0 ∷ 1 ∷ 2 ∷ []) (tag (o .outcome)) → OneOf (1 ∷ 2 ∷ 3 ∷ []) (tag (o .outcome))
-        → Called side v b (record { answer = outcome (o .outcome) (chainRows c); moves = o .moves; chain = c; picks = noRows; next = next })
+        → CalledOf side v b (record { answer = outcome (o .outcome) (chainRows c); moves = o .moves; chain = c; picks = noRows; next = next })
     call-other c ec moved other =
         call-answer [] (λ e. absurd (not-handed (subst (λ (x : Outcome). OneOf (1 ∷ 2 ∷ 3 ∷ []) (tag x)) e other)))
         (record { answer = outcome (o .outcome) (chainRows c); moves = o .moves; chain = c; picks = noRows; next = next }) (as-step (o .outcome) moved other)
@@ -199,7 +202,8 @@ module _ (side : Table → Side) (v : Value) (b : ℕ) (m : Mode) (c′ k′ : L
         as-step End a d = rw (ec, ef)
         as-step (Refused why) a d = ⊎-elim (λ i. absurd (omega arith)) (λ j. ⊎-elim (λ i. absurd (omega arith)) (λ i. absurd (omega arith)) j) a
 
--- an answer that is what `Called` says carries demand 3 on, and what is promised of the runs that omit
-pub promise : (side : Table → Side) (v : Value) (b : ℕ) (r : Step) → Starts side v → Called side v b r
-    → Called side v b r × (CarriesDemand side v b r × CarriesOmits side v b r)
-promise side v b r f h = (h, (carries-demand side v b r f h, carries-omits side v b r f h))
+-- an answer that is what `CalledOf` says is what both kinds of run promise, and carries on demand 3, and what is promised of the runs that omit
+pub promise : (side : Table → Side) (v : Value) (b : ℕ) (r : Step) → Starts side v → CalledOf side v b r
+    → Called side v b r × (CarriesDemand side v b r × (CalledEither side v b r × CarriesOmits side v b r))
+promise side v b r f h =
+    let c = called-both side v b r h in (c .called, (carries-demand side v b r f (c .called), (c, carries-omits side v b r f c)))

@@ -15,7 +15,7 @@ use Rattle.preference.specs.Preferences.{preferredRefusal}
 use Rattle.preference.proofs.Holding.{preference-of}
 use Rattle.preference.proofs.Placing.{passes-both}
 use Rattle.runs.specs.Paused.{Value, paused}
-use Rattle.runs.specs.Calling.{KeepsDemand, SharesAll}
+use Rattle.runs.specs.Demand.{KeepsDemand, SharesAll}
 use Rattle.runs.specs.Omitting.{KeepsOmits}
 use Rattle.runs.proofs.Demands.{Started, StartsAll, run-demand, run-omits, shares-all}
 

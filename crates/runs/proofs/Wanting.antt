@@ -24,6 +24,7 @@ use Rattle.table.specs.declared.Table.{Table}
 use Rattle.table.proofs.Padding.{pad-getD}
 use Rattle.table.proofs.Places.{has-place, place-has, row-past}
 use Rattle.table.proofs.Legality.{length-rows, legal-cases, legal-passes}
+use Rattle.refusals.specs.Answers.{Answer}
 use Rattle.transpose.specs.Transposing.{transpose}
 use Rattle.transpose.proofs.Transposition.{length-transpose, cases-transpose, has-transpose, cases-within}
 use Rattle.rules.specs.Machine.{Phase, State, Move, Given, nothing, hands, ends, gives}
@@ -34,10 +35,10 @@ use Rattle.lists.proofs.ChainRows.{chainOf-within}
 use Rattle.conflicts.specs.Conflicts.{Essential, HoldsEssential}
 use Rattle.conflicts.specs.Omitting.{keepsOf}
 use Rattle.conflicts.proofs.Testing.{holds-test}
-use Rattle.essentials.specs.Answers.{EssentialRows}
+use Rattle.essentials.specs.Answers.{GivesEssentials}
 use Rattle.turn.specs.Places.{places}
 use Rattle.turn.proofs.Columns.{length-places, row-places}
-use Rattle.runs.specs.Calling.{movesOf}
+use Rattle.runs.specs.Omitting.{movesOf}
 use Rattle.runs.specs.private.Working.{Works, Ordered, apart, handsOver, placedMove}
 use Rattle.runs.specs.declared.engine.Report.{Report}
 
@@ -129,10 +130,17 @@ module _ (t : Table) (l : Legal t) where
       go (yes y) = y
       go (no y) = absurd (nowhere k (subst (λ (r : ℕ). T (bit r k)) (row-past x i (omega arith)) h))
 
+  -- the essential pairs of a legal table are not refused
+  not-refused : (a : Answer (List ℕ)) → GivesEssentials t a → a .refusal ≡ 0
+  not-refused a e = e .refusal ∙ legal-passes t l
+
   -- ---- the gauge side
-  pub gauge-wants : (w : List ℕ) → EssentialRows t w → Wants t (gaugeSide t) w
-  gauge-wants w e p = asked-is (length (tableRows t)) w x (keepsOf t x) found some
+  pub gauge-wants : (a : Answer (List ℕ)) → GivesEssentials t a → Wants t (gaugeSide t) (a .value)
+  gauge-wants a e p = asked-is (length (tableRows t)) w x (keepsOf t x) found some
     where
+      w : List ℕ
+      w = a .value
+
       x : List ℕ
       x = chainOf (tableRows t) p
 
@@ -146,7 +154,7 @@ module _ (t : Table) (l : Legal t) where
             place = q .case - 1;
             low = subst (λ (n : ℕ). q .gauge - 1 < n) (v .size) (among x (q .gauge - 1) (q .case - 1) (q .held .set));
             mine = q .held .set;
-            theirs = e .pairs (legal-passes t l) (q .gauge) (q .case) .1 (q .essential) .set;
+            theirs = e .pairs (not-refused a e) (q .gauge) (q .case) .1 (q .essential) .set;
           }
 
       some : Common (length (tableRows t)) w x → T (keepsOf t x)
@@ -154,12 +162,15 @@ module _ (t : Table) (l : Legal t) where
         gauge = suc (c .at);
         case = suc (c .place);
         held = place-has x (c .at) (c .place) (c .mine);
-        essential = e .pairs (legal-passes t l) (suc (c .at)) (suc (c .place)) .0 (place-has w (c .at) (c .place) (c .theirs));
+        essential = e .pairs (not-refused a e) (suc (c .at)) (suc (c .place)) .0 (place-has w (c .at) (c .place) (c .theirs));
       })
 
   -- ---- the case side
   -- the essential pairs, by as many rows as the table has
-  module _ (found : List ℕ) (e : EssentialRows t found) where
+  module _ (a : Answer (List ℕ)) (e : GivesEssentials t a) where
+    abbrev found : List ℕ
+    found = a .value
+
     abbrev own : List ℕ
     own = places (t .gauges) found
 
@@ -172,12 +183,12 @@ module _ (t : Table) (l : Legal t) where
         to : Has own g c → Essential (tableRows t) g c
         to h =
             let b : g - 1 < t .gauges = omega (arith, among own (g - 1) (c - 1) (h .set), length-places (t .gauges) found, l .gauges-high) in
-            e .pairs (legal-passes t l) g c .0 (record { gauge = h .gauge; case = h .case; set = subst (λ (r : ℕ). T (bit r (c - 1))) (same b) (h .set) })
+            e .pairs (not-refused a e) g c .0 (record { gauge = h .gauge; case = h .case; set = subst (λ (r : ℕ). T (bit r (c - 1))) (same b) (h .set) })
 
         back : Essential (tableRows t) g c → Has own g c
         back h =
             let b : g - 1 < t .gauges = omega (arith, among (tableRows t) (g - 1) (c - 1) (h .pair .set), length-rows t l) in
-            let q = e .pairs (legal-passes t l) g c .1 h in
+            let q = e .pairs (not-refused a e) g c .1 h in
             record { gauge = q .gauge; case = q .case; set = subst (λ (r : ℕ). T (bit r (c - 1))) (sym (same b)) (q .set) }
 
     own-cases : Cases (t .cases) own

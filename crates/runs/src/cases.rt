@@ -23,8 +23,10 @@ ghost use Rattle.refusals.specs.Answers.{answer, number};
 ghost use Rattle.rules.specs.Machine.{fresh};
 ghost use Rattle.lists.specs.Lists.{caseSide};
 ghost use Rattle.runs.specs.Paused.{casePhase, caseValue, caseStarted, paused, blankValue};
-ghost use Rattle.runs.specs.Calling.{Called, caseStep, refusal, movesOf, KeepsDemand, CarriesDemand, SharesAll};
-ghost use Rattle.runs.specs.Omitting.{KeepsOmits, CarriesOmits};
+ghost use Rattle.runs.specs.Calling.{Called, caseStep, refusal};
+ghost use Rattle.runs.specs.Demand.{KeepsDemand, CarriesDemand, SharesAll};
+ghost use Rattle.runs.specs.Omitting.{movesOf};
+ghost use Rattle.runs.specs.Omitting.{CalledEither, KeepsOmits, CarriesOmits};
 ghost use Rattle.runs.specs.private.Working.{tableOf, modePhase, Works, Ordered};
 ghost use Rattle.preference.specs.Preferences.{preferredRefusal};
 
@@ -94,6 +96,7 @@ pub fn start_cases(t: Table, order: CaseOrder, omit: bool) -> CaseStart
 pub fn run_cases(p: CaseRun, budget: u64) -> CaseStep
     ensures { λ r. ⌜ Called caseSide (caseValue p) budget (caseStep r) ⌝ }
     ensures demand { λ r. ⌜ CarriesDemand caseSide (caseValue p) budget (caseStep r) ⌝ }
+    ensures either { λ r. ⌜ CalledEither caseSide (caseValue p) budget (caseStep r) ⌝ }
     ensures omits { λ r. ⌜ CarriesOmits caseSide (caseValue p) budget (caseStep r) ⌝ }
 {
     let t = p.table;
@@ -190,7 +193,9 @@ fn call_cases(
             cases: cases,
             rows: *given,
         };
-        let found = essentials::essential_rows(t);
+        let answer = essentials::essential_rows(t);
+        let pairs = answer.pairs;
+        let found = pairs.rows;
         let wanted = turn::turned(&found, gauges as usize, n);
         return ordered::call(
             rows,

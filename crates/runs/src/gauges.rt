@@ -22,8 +22,10 @@ ghost use Rattle.refusals.specs.Answers.{answer, number};
 ghost use Rattle.rules.specs.Machine.{fresh};
 ghost use Rattle.lists.specs.Lists.{gaugeSide};
 ghost use Rattle.runs.specs.Paused.{gaugePhase, gaugeValue, gaugeStarted, paused, blankValue};
-ghost use Rattle.runs.specs.Calling.{Called, gaugeStep, refusal, movesOf, KeepsDemand, CarriesDemand, SharesAll};
-ghost use Rattle.runs.specs.Omitting.{KeepsOmits, CarriesOmits};
+ghost use Rattle.runs.specs.Calling.{Called, gaugeStep, refusal};
+ghost use Rattle.runs.specs.Demand.{KeepsDemand, CarriesDemand, SharesAll};
+ghost use Rattle.runs.specs.Omitting.{movesOf};
+ghost use Rattle.runs.specs.Omitting.{CalledEither, KeepsOmits, CarriesOmits};
 ghost use Rattle.runs.specs.private.Working.{tableOf, modePhase, Works, Ordered};
 ghost use Rattle.preference.specs.Preferences.{preferredRefusal};
 
@@ -93,6 +95,7 @@ pub fn start_gauges(t: Table, order: GaugeOrder, omit: bool) -> GaugeStart
 pub fn run_gauges(p: GaugeRun, budget: u64) -> GaugeStep
     ensures { λ r. ⌜ Called gaugeSide (gaugeValue p) budget (gaugeStep r) ⌝ }
     ensures demand { λ r. ⌜ CarriesDemand gaugeSide (gaugeValue p) budget (gaugeStep r) ⌝ }
+    ensures either { λ r. ⌜ CalledEither gaugeSide (gaugeValue p) budget (gaugeStep r) ⌝ }
     ensures omits { λ r. ⌜ CarriesOmits gaugeSide (gaugeValue p) budget (gaugeStep r) ⌝ }
 {
     let t = p.table;
@@ -185,7 +188,9 @@ fn call_gauges(
             cases: cases,
             rows: *rows,
         };
-        let wanted = essentials::essential_rows(t);
+        let answer = essentials::essential_rows(t);
+        let pairs = answer.pairs;
+        let wanted = pairs.rows;
         return ordered::call(
             rows,
             n,

@@ -12,7 +12,7 @@ ghost use mathlib.Core.Bool.{true};
 ghost use lib.ListN.{length, take};
 ghost use Rattle.table.specs.Tables.{noRows, padded};
 ghost use Rattle.preference.specs.Preferences.{isPreference, orderOf, numbersOf};
-ghost use Rattle.preference.specs.private.Placing.{inverse, gathered, renumber};
+ghost use Rattle.preference.specs.Placing.{inverse, gathered, renumber};
 ghost use Rattle.runs.specs.private.Working.{Sized, modePhase, placedMove, Ordered, moveBy, CarriesOn, renumberedPhase};
 
 // A call on the value of the first `count` picks and a mode, under the order of the `n` rows: 27, 15 and 18 as 02 and 01 have them, else up to

@@ -14,9 +14,11 @@ use Rattle.runs.proofs.Sides.{case-works}
 use Rattle.refusals.proofs.Answering.{verdict-refused, verdict-accepted}
 use Rattle.lists.specs.Lists.{caseSide}
 use Rattle.runs.specs.Paused.{Value, caseValue}
-use Rattle.runs.specs.Calling.{Step, caseStep, Called}
+use Rattle.runs.specs.Calling.{Step, caseStep}
+use Rattle.runs.specs.private.Either.{CalledOf}
 use Rattle.runs.proofs.Demands.{Starts}
 use Rattle.runs.proofs.Starting.{case-started}
+use Rattle.runs.proofs.Answered.{called-of-both}
 use Rattle.explain.specs.Reasons.{caseQuestion, HasReasons}
 use Rattle.explain.proofs.Reasoning.{case-sees}
 use Rattle.explain.proofs.Answers.{Asked, works-row, refused-explained, asked, legal, pair, numbers, named-explained, has-reasons}
@@ -45,8 +47,8 @@ value c = caseValue (start c .args .p)
 abbrev step : tie.After-run-cases → Step
 step c = caseStep (c .run-cases .result)
 
-called : (c : tie.After-run-cases) → Called caseSide (value c) 0 (step c)
-called c = c .run-cases .ensures .0
+called : (c : tie.After-run-cases) → CalledOf caseSide (value c) 0 (step c)
+called c = called-of-both _ _ _ _ (c .run-cases .ensures .1 .1 .0)
 
 rows-length : (c : tie.Start) → length (c .args .p .table .rows) ≡ 64
 rows-length c = search needs

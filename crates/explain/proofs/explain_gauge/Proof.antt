@@ -12,9 +12,11 @@ use Rattle.table.proofs.Legality.{length-rows, row-tableRows}
 use Rattle.refusals.proofs.Answering.{verdict-refused, verdict-accepted}
 use Rattle.lists.specs.Lists.{gaugeSide}
 use Rattle.runs.specs.Paused.{Value, gaugeValue}
-use Rattle.runs.specs.Calling.{Step, gaugeStep, Called}
+use Rattle.runs.specs.Calling.{Step, gaugeStep}
+use Rattle.runs.specs.private.Either.{CalledOf}
 use Rattle.runs.proofs.Demands.{Starts}
 use Rattle.runs.proofs.Starting.{gauge-started}
+use Rattle.runs.proofs.Answered.{called-of-both}
 use Rattle.explain.specs.Reasons.{gaugeQuestion, HasReasons}
 use Rattle.explain.proofs.Reasoning.{gauge-sees}
 use Rattle.explain.proofs.Answers.{Asked, refused-explained, asked, legal, pair, numbers, named-explained, has-reasons}
@@ -40,8 +42,8 @@ value c = gaugeValue (start c .args .p)
 abbrev step : tie.After-run-gauges → Step
 step c = gaugeStep (c .run-gauges .result)
 
-called : (c : tie.After-run-gauges) → Called gaugeSide (value c) 0 (step c)
-called c = c .run-gauges .ensures .0
+called : (c : tie.After-run-gauges) → CalledOf gaugeSide (value c) 0 (step c)
+called c = called-of-both _ _ _ _ (c .run-gauges .ensures .1 .1 .0)
 
 rows-length : (c : tie.Start) → length (c .args .p .table .rows) ≡ 64
 rows-length c = search needs

@@ -12,13 +12,14 @@ use Rattle.table.specs.Tables.{noRows, padded, blankChain}
 use Rattle.sets.specs.Sets.{_⊆_, lowest}
 use Rattle.sets.specs.Lists.{allBelow}
 use Rattle.table.specs.Pairs.{row}
-use Rattle.rules.specs.Machine.{Phase, Down, Handed, Back, Ended, State, Move, gives, nothing, hands, ends, move, moveIn, ReachedBy}
+use Rattle.rules.specs.Machine.{Phase, Down, Handed, Back, Ended, State, Move, gives, nothing, hands, ends, moveIn, ReachedBy}
+use Rattle.rules.specs.private.ByNumber.{move}
 use Rattle.rules.specs.Calls.{spent, handed, end, Call, result, carryBy, mostBudget}
 use Rattle.rules.specs.Keeping.{moveKeeping}
 use Rattle.rules.specs.private.Fitting.{Valid, Fits}
 use Rattle.lists.specs.Lists.{Side}
 use Rattle.lists.specs.Arrangements.{placeOf}
-use Rattle.lists.specs.Picks.{candidates}
+use Rattle.lists.specs.private.ByNumber.{candidates}
 use Rattle.lists.specs.Preferred.{candidatesBy}
 use Rattle.lists.specs.OnTable.{chainOf}
 use Rattle.search.specs.Finding.{candidateIn, within}
@@ -26,7 +27,7 @@ use Rattle.search.proofs.AfterPicks.{After}
 use Rattle.refusals.specs.declared.Refusal.{Refusal}
 use Rattle.refusals.specs.declared.Refusal.the-variants.{NotReached, BudgetTooLarge, NotAnArrangement}
 use Rattle.preference.specs.Preferences.{isPreference, orderOf}
-use Rattle.preference.specs.private.Placing.{renumber}
+use Rattle.preference.specs.Placing.{renumber}
 use Rattle.table.specs.declared.Table.{Table}
 use Rattle.runs.specs.Paused.{Value, numbered}
 use Rattle.runs.specs.Calling.{Step, outcome, refusal}

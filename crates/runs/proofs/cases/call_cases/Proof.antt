@@ -20,7 +20,10 @@ essential-rows-requires c κs = search needs
 turned-requires : tie.Need-turned-requires
 turned-requires c κs = search needs
 
--- the essential pairs are looked for where the run omits
+-- from where the pairs are turned back to where they are found, and from there to the start: the essential pairs are looked for where the run omits
+abbrev asked : tie.After-turned → tie.After-essential-rows
+asked c = c .before .before .before .before
+
 abbrev begun : tie.After-essential-rows → tie.Start
 begun c = c .before .before .before
 
@@ -34,13 +37,13 @@ wanted-length w = search needs
 call-requires : tie.Need-call-requires
 call-requires c κs =
     let w = c .before .before .before in
-    let s = begun (w .before .before) in
+    let s = begun (asked w) in
     (s .pre .1 .sized, s .pre .2, wanted-length w, s .pre .3, s .pre .4)
 
 returns : tie.Need-returns
 returns c =
     let w = c .before .before .before .before in
-    let e = w .before .before in
+    let e = asked w in
     let s = begun e in
     carried-by (table s) (caseSide (table s)) _ _ _ (s .pre .1) _ true (e .before .before .if1 .taken)
     (λ x. case-wants (table s) (s .pre .0) _ (e .essential-rows .ensures) _ (w .turned .ensures)) _ _ _ _ _ _ _ _ (c .call .ensures)

@@ -16,7 +16,10 @@ use Rattle.runs.proofs.gauges.call_gauges.Tie as tie
 essential-rows-requires : tie.Need-essential-rows-requires
 essential-rows-requires c κs = search needs
 
--- the essential pairs are looked for where the run omits
+-- from where the pairs are at hand back to where they are found, and from there to the start: the essential pairs are looked for where the run omits
+abbrev asked : tie.After-wanted → tie.After-essential-rows
+asked c = c .before .before
+
 abbrev begun : tie.After-essential-rows → tie.Start
 begun c = c .before .before .before
 
@@ -26,13 +29,13 @@ table s = tableOf (s .args .gauges) (s .args .cases) (now (s .args .rows))
 
 call-requires : tie.Need-call-requires
 call-requires c κs =
-    let e = c .before .before .before in
+    let e = asked (c .before .before .before) in
     let s = begun e in
     (s .pre .1 .sized, s .pre .2, e .essential-rows .ensures .size, s .pre .3, s .pre .4)
 
 returns : tie.Need-returns
 returns c =
-    let e = c .before .before .before .before in
+    let e = asked (c .before .before .before .before) in
     let s = begun e in
     carried-by (table s) (gaugeSide (table s)) _ _ _ (s .pre .1) _ true (e .before .before .if1 .taken)
     (λ x. gauge-wants (table s) (s .pre .0) _ (e .essential-rows .ensures)) _ _ _ _ _ _ _ _ (c .call .ensures)

@@ -12,8 +12,11 @@ use Rattle.lists.specs.Lists.{gaugeSide}
 use Rattle.lists.proofs.BothSides.{gauge-fair}
 use Rattle.preference.proofs.Placing.{table-first}
 use Rattle.runs.specs.Paused.{gaugeValue}
-use Rattle.runs.specs.Calling.{Step, movesOf, Called, CarriesDemand}
-use Rattle.runs.specs.Omitting.{CarriesOmits}
+use Rattle.runs.specs.Calling.{Step, Called}
+use Rattle.runs.specs.Demand.{CarriesDemand}
+use Rattle.runs.specs.private.Either.{CalledOf}
+use Rattle.runs.specs.Omitting.{movesOf}
+use Rattle.runs.specs.Omitting.{CalledEither, CarriesOmits}
 use Rattle.runs.specs.private.Working.{modePhase, Works, Ordered}
 use Rattle.runs.proofs.Answered.{called-refused}
 use Rattle.runs.proofs.Sides.{gauge-works, gauge-chain}
@@ -53,10 +56,10 @@ passed c = verdict-accepted _ _ (c .enum-told .given .1) (checked c .check-table
 legal : (c : tie.After-enum-told) → Legal (start (checked c) .args .p .table)
 legal c = legal-of (start (checked c) .args .p .table) (rows-length (start (checked c))) (passed c)
 
--- an answer that is what `Called` says carries the promises on
-answered : (c : tie.Start) (r : Step) → Called gaugeSide (gaugeValue (c .args .p)) (c .args .budget) r
+-- an answer that is what `CalledOf` says carries the promises on
+answered : (c : tie.Start) (r : Step) → CalledOf gaugeSide (gaugeValue (c .args .p)) (c .args .budget) r
     → Called gaugeSide (gaugeValue (c .args .p)) (c .args .budget) r × (CarriesDemand gaugeSide (gaugeValue (c .args .p)) (c .args .budget) r
-    × CarriesOmits gaugeSide (gaugeValue (c .args .p)) (c .args .budget) r)
+    × (CalledEither gaugeSide (gaugeValue (c .args .p)) (c .args .budget) r × CarriesOmits gaugeSide (gaugeValue (c .args .p)) (c .args .budget) r))
 answered c r =
     promise gaugeSide (gaugeValue (c .args .p)) (c .args .budget) r (gauge-started (c .args .p .table) (rows-length c) (c .args .p .order .0) (order-length c))
 

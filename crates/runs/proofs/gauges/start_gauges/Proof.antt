@@ -10,7 +10,7 @@ use Rattle.rules.specs.Machine.{fresh}
 use Rattle.lists.specs.Lists.{gaugeSide}
 use Rattle.preference.specs.Preferences.{preferredRefusal}
 use Rattle.runs.specs.Paused.{Value, paused}
-use Rattle.runs.specs.Calling.{KeepsDemand, SharesAll}
+use Rattle.runs.specs.Demand.{KeepsDemand, SharesAll}
 use Rattle.runs.specs.Omitting.{KeepsOmits}
 use Rattle.runs.proofs.Answered.{start-refused, start-given}
 use Rattle.runs.proofs.Starting.{gauge-started, promised}

@@ -1,0 +1,2 @@
+-- Definitions that no entry of a user mentions: the laws of this crate and of the crates above it do.
+pub mod Omits
