@@ -5,7 +5,7 @@ use Prim.Native.Nat.{ℕ}
 use mathlib.Core.List.{List, [], _∷_}
 use mathlib.Core.Option.{Option, some, none}
 use mathlib.Core.Bool.{Bool, true, false}
-use lib.IntN.{ℤ}
+use lib.IntN.{ℤ, pos}
 use Rattle.text.specs.Fields.{isBlank}
 use Rattle.entries.specs.Values.{numberOf, valueOf}
 use Rattle.entries.specs.declared.EntryFields.{EntryFields}
@@ -45,3 +45,10 @@ entryOf (a ∷ b ∷ c ∷ d ∷ ws) = Other
 -- the fields of an entry line
 abbrev pub entryFields : List ℕ → EntryFields
 entryFields l = entryOf (words l)
+
+-- how the code's answer reads: the values are the line's fields, gauge, case and reading, none on a blank line. A malformed line has no values; its
+-- number, 6, stands in crate `kinds`.
+abbrev pub entryFieldsSay : EntryFields → Option (List ℤ)
+entryFieldsSay Blank = some []
+entryFieldsSay (Entry g c v) = some (pos g ∷ pos c ∷ v ∷ [])
+entryFieldsSay Other = none

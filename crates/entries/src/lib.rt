@@ -7,7 +7,7 @@ ghost use Prim.Native.Nat.{_≤_, _<_, _^_};
 ghost use lib.ListN.{length, getD, drop};
 ghost use Rattle.text.specs.Fields.{isBlank};
 ghost use Rattle.entries.specs.Values.{isMinus, unsigned, withSign, valueOf};
-ghost use Rattle.entries.specs.Words.{entryFields};
+ghost use Rattle.entries.specs.Words.{entryFields, entryFieldsSay};
 ghost use Rattle.entries.specs.private.WordSteps.{WordAt, Skipped, Ended, Cuts, entryAt, ThreeOf};
 ghost use Rattle.entries.specs.private.ValueSteps.{NumberIs, signedSays};
 
@@ -54,7 +54,7 @@ enum Signed {
 
 // The fields of an entry line.
 pub fn entry_fields(line: &[u8]) -> EntryFields
-    ensures { λ r. ⌜ r ≡ entryFields (now (line .entry)) ⌝ }
+    ensures { λ r. ⌜ entryFieldsSay r ≡ entryFieldsSay (entryFields (now (line .entry))) ⌝ }
 {
     let found = three_words(line);
     match found {

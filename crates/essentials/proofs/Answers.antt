@@ -1,5 +1,6 @@
--- What the entries answer: the check of a pair named, the conflicts of a pair, and whether it is essential, by the facts that the code has;
--- and that each relation leaves one answer (`conflicts-unique`, `essential-unique`; `judged-unique` is in crate `judge`).
+-- What the entries answer: the check of a pair named, the conflicts of a pair, whether it is essential, and a refusal, by the facts that the code
+-- has; and that sets of pairs are answered in one way (`pairs-unique`, so `conflicts-unique`, `essential-unique`; `judged-unique` is in crate `judge`).
+-- The essential pairs of all rows are in Outdoing.antt (`finding-all`).
 use mathlib.Core.Path.{_≡_, refl, sym, ap, ap₂, _∙_, subst}
 use mathlib.Core.Logic.{_↔_}
 use mathlib.Core.Bool.{Bool, true, false, cond}
@@ -25,10 +26,10 @@ use Rattle.judge.specs.Judging.{Judged}
 use Rattle.judge.specs.declared.Judgement.the-variants.{Yes, No}
 use Rattle.judge.proofs.Verdicts.{judged-yes, judged-no}
 use Rattle.conflicts.specs.Conflicts.{Conflict, StrictlyContains, Essential}
-use Rattle.essentials.specs.declared.ConflictSet.{ConflictSet}
+use Rattle.essentials.specs.declared.FoundPairs.{FoundPairs}
 use Rattle.conflicts.specs.Tests.{hasPair}
 use Rattle.conflicts.proofs.Testing.{has-test}
-use Rattle.essentials.specs.Answers.{pairRefusal, conflictSet, GivesConflicts, EssentialRows}
+use Rattle.essentials.specs.Answers.{pairRefusal, foundPairs, GivesPairs, GivesConflicts, GivesEssentials}
 use Rattle.essentials.specs.private.Unions.{conflictRows, Placed, Outdone}
 use Rattle.essentials.proofs.RowLaws.{length-conflicts, conflict-pairs}
 use Rattle.conflicts.proofs.SamePairs.{same-rows, same-back, conflict-same, essential-same, table-pairs}
@@ -139,8 +140,8 @@ module _ (t : Table) (g c : ℕ) (size : length (t .rows) ≡ 64) (f : PairFacts
         go v x = v .none (x .0) (x .1) (x .2) (rw (up-g, up-c) at (x .3))
 
 -- a refusal, with no pairs
-pub gives-refused : (t : Table) (g c : ℕ) (x : Refusal) (a : Answer (List ℕ)) → number x ≡ pairRefusal t g c → a ≡ refused x noRows → GivesConflicts t g c a
-gives-refused t g c x a e d = subst (GivesConflicts t g c) (sym d) (record {
+pub gives-refused : (n : ℕ) (P : ℕ → ℕ → Type 0) (x : Refusal) (a : Answer (List ℕ)) → number x ≡ n → a ≡ refused x noRows → GivesPairs n P a
+gives-refused n P x a e d = subst (GivesPairs n P) (sym d) (record {
   refusal = e;
   size = length-replicate {A = ℕ} 64 0;
   pairs = λ z. absurd (omega (arith, number-pos x));
@@ -148,8 +149,8 @@ gives-refused t g c x a e d = subst (GivesConflicts t g c) (sym d) (record {
 })
 
 -- ---- one answer
-pub conflicts-unique : (t : Table) (g c : ℕ) (a b : Answer (List ℕ)) → GivesConflicts t g c a → GivesConflicts t g c b → a ≡ b
-conflicts-unique t g c a b x y = ap₂ (λ (n : ℕ) (v : List ℕ). record { refusal = n; value = v }) number-same (go (ℕ-discrete (a .refusal) 0))
+pub pairs-unique : (n : ℕ) (P : ℕ → ℕ → Type 0) (a b : Answer (List ℕ)) → GivesPairs n P a → GivesPairs n P b → a ≡ b
+pairs-unique n P a b x y = ap₂ (λ (m : ℕ) (v : List ℕ). record { refusal = m; value = v }) number-same (go (ℕ-discrete (a .refusal) 0))
   where
     number-same : a .refusal ≡ b .refusal
     number-same = x .refusal ∙ sym (y .refusal)
@@ -160,15 +161,14 @@ conflicts-unique t g c a b x y = ap₂ (λ (n : ℕ) (v : List ℕ). record { re
         (λ u. y .pairs (sym number-same ∙ z) h d .1 (x .pairs z h d .0 u), λ u. x .pairs z h d .1 (y .pairs (sym number-same ∙ z) h d .0 u)))
     go (no z) = x .blank z ∙ sym (y .blank (λ w. z (number-same ∙ w)))
 
-pub essential-unique : (t : Table) (x y : List ℕ) → EssentialRows t x → EssentialRows t y → x ≡ y
-essential-unique t x y a b = go (ℕ-discrete (tableRefusal t) 0)
-  where
-    go : Dec (tableRefusal t ≡ 0) → x ≡ y
-    go (yes z) = same-rows x y (a .size ∙ sym (b .size)) (λ g c. (λ u. b .pairs z g c .1 (a .pairs z g c .0 u), λ u. a .pairs z g c .1 (b .pairs z g c .0 u)))
-    go (no z) = a .blank z ∙ sym (b .blank z)
+pub conflicts-unique : (t : Table) (g c : ℕ) (a b : Answer (List ℕ)) → GivesConflicts t g c a → GivesConflicts t g c b → a ≡ b
+conflicts-unique t g c = pairs-unique _ _
+
+pub essential-unique : (t : Table) (a b : Answer (List ℕ)) → GivesEssentials t a → GivesEssentials t b → a ≡ b
+essential-unique t = pairs-unique _ _
 
 -- no two answers of the code read alike
-pub conflict-set-injective : (x y : ConflictSet) → conflictSet x ≡ conflictSet y → x ≡ y
-conflict-set-injective x y e =
+pub found-pairs-injective : (x y : FoundPairs) → foundPairs x ≡ foundPairs y → x ≡ y
+found-pairs-injective x y e =
     ap₂ (λ (v : Verdict) (r : List ℕ). record { verdict = v; pairs = record { rows = r } })
     (verdict-injective (x .verdict) (y .verdict) (ap (λ (a : Answer (List ℕ)). a .refusal) e)) (ap (λ (a : Answer (List ℕ)). a .value) e)

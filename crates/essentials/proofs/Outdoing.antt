@@ -18,16 +18,13 @@ use Rattle.sets.specs.First.{Lowest, Rest, Without}
 use Rattle.sets.proofs.Tests.{test, and-l, and-r, and-i}
 use Rattle.sets.proofs.OnePlace.{none-in}
 use Rattle.table.specs.declared.Table.{Table}
-use Rattle.refusals.specs.declared.Refusal.{Refusal}
 use Rattle.table.specs.Pairs.{row, Has}
-use Rattle.table.specs.Tables.{Legal, tableRows, tableRefusal, noRows}
-use Rattle.refusals.specs.Answers.{number}
+use Rattle.table.specs.Tables.{Legal, tableRows, noRows}
 use Rattle.table.proofs.Places.{has-place, place-has, by-place, row-past}
 use Rattle.table.proofs.Legality.{legal-passes}
-use Rattle.refusals.proofs.Answering.{number-pos}
 use Rattle.conflicts.specs.Conflicts.{Includes, StrictlyContains, Essential}
 use Rattle.essentials.specs.private.Unions.{without, includes, Stored, Ready, Placed, OutdoneIn, Outdone, EssentialRow}
-use Rattle.essentials.specs.Answers.{EssentialRows}
+use Rattle.essentials.specs.Answers.{GivesEssentials}
 use Rattle.essentials.proofs.Comparing.{includes-short}
 use Rattle.essentials.proofs.RowLaws.{bit-without}
 use Rattle.conflicts.proofs.SamePairs.{same-back, essential-same, table-pairs}
@@ -247,8 +244,10 @@ finding-more r n found i v s l m e = record {
         (subst (EssentialRow r i) (sym (getD-set-same found i v 0 (omega (arith, s .size)))) e)
     go j h (no d) = subst (EssentialRow r j) (sym (getD-set-other found i j v 0 d)) (s .entry j (omega arith))
 
-pub finding-all : (t : Table) → Legal t → (found : List ℕ) (i : ℕ) → Finding (t .rows) (t .gauges) found i → t .gauges ≤ i → EssentialRows t found
+pub finding-all : (t : Table) → Legal t → (found : List ℕ) (i : ℕ) → Finding (t .rows) (t .gauges) found i → t .gauges ≤ i
+    → GivesEssentials t (record { refusal = 0; value = found })
 finding-all t legal found i s l = record {
+  refusal = sym (legal-passes t legal);
   size = s .size;
   pairs = λ z g c. (
     by-place found (Essential (tableRows t)) (λ j k u. essential-same (table-pairs t legal) (suc j) (suc k) (s .entry j (low j k u (decLt j i)) k .0 u)) g c,
@@ -256,7 +255,7 @@ finding-all t legal found i s l = record {
         (λ j k u v. place-has found j k (s .entry j (inside j k u (decLt j (t .gauges))) k .1 v)) g c
         (table-pairs t legal g c .1 (e .pair)) (essential-same (same-back (table-pairs t legal)) g c e),
   );
-  blank = λ z. absurd (z (legal-passes t legal));
+  blank = λ z. absurd (z refl);
 }
   where
     low : (j k : ℕ) → T (bit (row found j) k) → Dec (j < i) → j < i
@@ -266,9 +265,6 @@ finding-all t legal found i s l = record {
     inside : (j k : ℕ) → T (bit (row (t .rows) j) k) → Dec (j < t .gauges) → j < i
     inside j k u (yes h) = omega arith
     inside j k u (no h) = absurd (subst T (none-in k) (rw (legal .rows-rest j (omega arith)) at u))
-
-pub rows-refused : (t : Table) (x : Refusal) → number x ≡ tableRefusal t → EssentialRows t noRows
-rows-refused t x e = record { size = length-replicate {A = ℕ} 64 0; pairs = λ z. absurd (omega (arith, number-pos x)); blank = λ z. refl }
 
 pub ready : (t : Table) → Legal t → (store : List ℕ) → Stored (t .rows) (t .gauges) (t .gauges) store → Ready (t .rows) (t .gauges) store
 ready t l store s = record { few = l .gauges-high; past = l .rows-rest; stored = s }

@@ -20,7 +20,7 @@ ghost use Rattle.refusals.specs.Answers.{refused, verdict};
 ghost use Rattle.judge.specs.Judging.{Judged};
 ghost use Rattle.conflicts.specs.Conflicts.{Essential};
 ghost use Rattle.conflicts.specs.Covers.{ConflictClaims};
-ghost use Rattle.essentials.specs.Answers.{pairRefusal, conflictSet, GivesConflicts, EssentialRows};
+ghost use Rattle.essentials.specs.Answers.{pairRefusal, foundPairs, GivesConflicts, GivesEssentials};
 ghost use Rattle.essentials.specs.private.Unions.{without, conflictRow, conflictRows, joined, against, includes};
 ghost use Rattle.essentials.specs.private.Unions.{Stored, Ready, Placed, EssentialRow, OutdoneIn, Outdone};
 
@@ -29,8 +29,8 @@ pub struct PairSet {
     pub rows: [u64; 64],
 }
 
-// The conflicts of a pair, or a refusal with no pairs.
-pub struct ConflictSet {
+// The pairs that were asked for, or a refusal with no pairs.
+pub struct FoundPairs {
     pub verdict: Verdict,
     pub pairs: PairSet,
 }
@@ -39,8 +39,8 @@ pub struct ConflictSet {
 const PLACES: usize = 64;
 
 // The conflicts of the pair of gauge `g` and case `c`.
-pub fn conflicts_of(t: Table, g: Gauge, c: Case) -> ConflictSet
-    ensures { λ r. ⌜ GivesConflicts t (g .0) (c .0) (conflictSet r) ⌝ }
+pub fn conflicts_of(t: Table, g: Gauge, c: Case) -> FoundPairs
+    ensures { λ r. ⌜ GivesConflicts t (g .0) (c .0) (foundPairs r) ⌝ }
     ensures claims { λ r. ⌜ (tableRefusal t ≡ 0 → ConflictClaims (tableRows t)) ⌝ }
 {
     let checked = check_pair(t, g, c);
@@ -51,7 +51,7 @@ pub fn conflicts_of(t: Table, g: Gauge, c: Case) -> ConflictSet
     let i = (g.0 - 1) as usize;
     let rows = conflict_rows(&outer, i, c.0 - 1);
     let pairs = PairSet { rows: rows };
-    ConflictSet {
+    FoundPairs {
         verdict: Verdict::Accepted,
         pairs: pairs,
     }
@@ -76,24 +76,28 @@ pub fn is_essential(t: Table, g: Gauge, c: Case) -> Judgement
     Judgement::Yes
 }
 
-// The rows of all essential pairs of a table; none of a table that 10 or 11 refuse.
-pub fn essential_rows(t: Table) -> [u64; 64]
-    ensures { λ r. ⌜ EssentialRows t r ⌝ }
+// All essential pairs of a table.
+pub fn essential_rows(t: Table) -> FoundPairs
+    ensures { λ r. ⌜ GivesEssentials t (foundPairs r) ⌝ }
 {
-    let mut found = [0u64; 64];
     let checked = table::check_table(t);
     if let Verdict::Refused(why) = checked {
-        return found;
+        return refuse(why);
     }
     let rows = t.rows;
     let n = t.gauges as usize;
     let store = unions(&rows, n);
+    let mut found = [0u64; 64];
     let mut i = 0;
     while i < n {
         found[i] = essential_row(&store, &rows, n, i);
         i += 1;
     }
-    found
+    let pairs = PairSet { rows: found };
+    FoundPairs {
+        verdict: Verdict::Accepted,
+        pairs: pairs,
+    }
 }
 
 // The check of a pair named, after its table: 10, 11, then 19.
@@ -111,12 +115,12 @@ fn check_pair(t: Table, g: Gauge, c: Case) -> Verdict
 }
 
 // A refusal, with no pairs.
-fn refuse(why: Refusal) -> ConflictSet
-    ensures { λ r. ⌜ conflictSet r ≡ refused why noRows ⌝ }
+fn refuse(why: Refusal) -> FoundPairs
+    ensures { λ r. ⌜ foundPairs r ≡ refused why noRows ⌝ }
 {
     let rows = [0u64; 64];
     let pairs = PairSet { rows: rows };
-    ConflictSet {
+    FoundPairs {
         verdict: Verdict::Refused(why),
         pairs: pairs,
     }

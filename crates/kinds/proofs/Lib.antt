@@ -1,3 +1,4 @@
--- Laws of the kinds of line. For users: the first lines that are read, of `Opening`, and the ranges of `KindOf`.
+-- Laws of the kinds of line. For users: the first lines that are read, of `Opening`, the ranges of `KindOf`, and what an answer is, of `Saying`.
 pub mod Opening
 pub mod KindOf
+pub mod Saying

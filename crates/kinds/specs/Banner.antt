@@ -6,9 +6,12 @@
 -- in R-1"; "the old one, and pattern files, go on as before". A further kind of file is a further text of words.
 use Prim.Native.Nat.{ℕ}
 use mathlib.Core.List.{List, [], _∷_, _++_, map}
+use mathlib.Core.Option.{Option, some, none}
 use mathlib.Core.Bool.{Bool, cond, _&&_}
 use lib.ListN.{take, drop}
 use Rattle.text.specs.Bytes.{sameBytes, small}
+use Rattle.refusals.specs.Answers.{Answer, refused}
+use Rattle.refusals.specs.declared.Refusal.the-variants.{NotTheBanner}
 use Rattle.recorded.specs.declared.Kind.{Kind}
 use Rattle.recorded.specs.declared.Kind.the-variants.{Pattern, Integer}
 use Rattle.kinds.specs.declared.FirstLine.{FirstLine}
@@ -46,6 +49,12 @@ isOfKind words l = sameBytes (take 14 l) opening && sameBytes (map small (drop 1
 -- a first line: the banner of a file of pairs, or, where integer files are taken, of a file of readings; any other is refused with 2
 abbrev pub firstLine : Bool → List ℕ → FirstLine
 firstLine integers l = cond (isOfKind pattern l) (Banner Pattern) (cond (integers && isOfKind integer l) (Banner Integer) Other)
+
+-- how the code's answer reads (01: "For an answer that is an enum, a definition gives this paper's number and values for each case of the enum"): no
+-- number and the kind of file, or 2
+abbrev pub firstSays : FirstLine → Answer (Option Kind)
+firstSays (Banner kind) = record { refusal = 0; value = some kind }
+firstSays Other = refused NotTheBanner none
 
 -- the banner of a kind that is written
 abbrev pub bannerOf : Kind → List ℕ

@@ -10,6 +10,7 @@ use lib.IntN.{ℤ, pos, natAbs}
 use Rattle.table.specs.Tables.{inRange}
 use Rattle.table.specs.declared.Gauge.{Gauge}
 use Rattle.table.specs.declared.Case.{Case}
+use Rattle.refusals.specs.Answers.{Answer, refused}
 use Rattle.refusals.specs.declared.Refusal.the-variants.{LineTooLong, SizeFields, SizeRange, PairFields, PairRange, ReadingRange}
 use Rattle.text.specs.Fields.{fields}
 use Rattle.text.specs.declared.Fields.{Fields}
@@ -44,6 +45,12 @@ sizeOf Other = badHead SizeFields
 abbrev pub headLine : List ℕ → HeadLine
 headLine l = cond (tooLong l) (badHead LineTooLong) (cond (isComment l) skipHead (sizeOf (fields l)))
 
+-- how the code's answer reads: no number, and the size line's G, L and N, no values for a line that is passed over; or the number of the refusal
+abbrev pub headSays : HeadLine → Answer (List ℕ)
+headSays skipHead = record { refusal = 0; value = [] }
+headSays (Size g c n) = record { refusal = 0; value = g .0 ∷ c .0 ∷ n ∷ [] }
+headSays (badHead why) = refused why []
+
 -- a line of a file of pairs: two fields `g c`, and no reading, which stands here as 0
 abbrev pub pairOf : Fields → EntryFields
 pairOf Blank = noFields
@@ -77,3 +84,10 @@ entryOf gs cs otherFields = badEntry PairFields
 -- malformed pair line"
 unfoldable pub entryLine : Kind → Gauge → Case → List ℕ → EntryLine
 entryLine kind gs cs l = cond (tooLong l) (badEntry LineTooLong) (entryOf gs cs (fieldsBy kind l))
+
+-- how the code's answer reads: no number, and the entry's gauge, case and reading, no values for a line that is passed over; or the number of the
+-- refusal
+abbrev pub entrySays : EntryLine → Answer (List ℤ)
+entrySays skipEntry = record { refusal = 0; value = [] }
+entrySays (Entry g c v) = record { refusal = 0; value = pos (g .0) ∷ pos (c .0) ∷ v ∷ [] }
+entrySays (badEntry why) = refused why []

@@ -3,8 +3,8 @@
 // has a `requires`, and none changes lent memory. Lines and fields are made in `text` and `entries`; the lines of a whole file are gone
 // through in `reader`. A kind of file comes in here, in `first_line` and in `fields_by`, and nowhere else.
 ghost use mathlib.Core.Path.{_≡_};
-ghost use Rattle.kinds.specs.Banner.{isOfKind, firstLine};
-ghost use Rattle.kinds.specs.Kinds.{isComment, headLine, pairFields, fieldsBy, entryLine};
+ghost use Rattle.kinds.specs.Banner.{isOfKind, firstLine, firstSays};
+ghost use Rattle.kinds.specs.Kinds.{isComment, headLine, headSays, pairFields, fieldsBy, entryLine, entrySays};
 use entries::EntryFields;
 use recorded::Kind;
 use refusals::Refusal;
@@ -44,7 +44,7 @@ pub enum EntryLine {
 
 // "First line: 2 not the banner." Its words may have capitals; `integers` says whether the banner of an integer file is taken too.
 pub fn first_line(line: &[u8], integers: bool) -> FirstLine
-    ensures { λ r. ⌜ r ≡ firstLine integers (now (line .entry)) ⌝ }
+    ensures { λ r. ⌜ firstSays r ≡ firstSays (firstLine integers (now (line .entry))) ⌝ }
 {
     if is_of_kind(line, b" matrix coordinate pattern general") {
         return FirstLine::Banner(Kind::Pattern);
@@ -73,7 +73,7 @@ pub fn is_comment(line: &[u8]) -> bool
 
 // A line ahead of the entries: a comment, blank, or the size line.
 pub fn head_line(line: &[u8]) -> HeadLine
-    ensures { λ r. ⌜ r ≡ headLine (now (line .entry)) ⌝ }
+    ensures { λ r. ⌜ headSays r ≡ headSays (headLine (now (line .entry))) ⌝ }
 {
     if MOST_LINE < line.len() {
         return HeadLine::Bad(Refusal::LineTooLong);
@@ -99,7 +99,7 @@ pub fn head_line(line: &[u8]) -> HeadLine
 
 // A line behind the size line of a file of a kind, where `gauges` is the last gauge and `cases` the last case: blank, or an entry.
 pub fn entry_line(line: &[u8], kind: Kind, gauges: Gauge, cases: Case) -> EntryLine
-    ensures { λ r. ⌜ r ≡ entryLine kind gauges cases (now (line .entry)) ⌝ }
+    ensures { λ r. ⌜ entrySays r ≡ entrySays (entryLine kind gauges cases (now (line .entry))) ⌝ }
 {
     if MOST_LINE < line.len() {
         return EntryLine::Bad(Refusal::LineTooLong);

@@ -12,9 +12,15 @@ use libc::STDOUT_FILENO;
 use preference::GaugeOrder;
 use refusals::Verdict;
 use table::Table;
+use text;
+ghost use mathlib.Core.Path.{_≡_};
+ghost use Prim.Native.Nat.{_+_, _*_, _≤_, min};
+ghost use Rattle.ladders.specs.Cutoff.{cutoffOf};
 
-// The greatest cutoff.
+// The greatest cutoff, and what stands for every number above it.
 const MOST_CUTOFF: u64 = 1_000_000;
+
+const ABOVE: u64 = 1_000_001;
 
 // How a use of the program ended.
 enum End {
@@ -76,9 +82,10 @@ fn answer_test(file: &[u8]) -> End {
     }
 }
 
-// The number that the second argument is in decimal; 0, which is no cutoff, where it is none.
+// The cutoff that the second argument is. The longest argument that the system hands to a program has a byte less than the space (Linux: 32 pages of 4,096
+// bytes with its end), so a number of any length is read whole.
 fn cutoff() -> u64 {
-    let mut space = [0u8; 64];
+    let mut space = [0u8; 131072];
     let n = os::arg(2, &mut space);
     let from = 0;
     if space.len() < n {
@@ -87,41 +94,36 @@ fn cutoff() -> u64 {
     number(&space[from..n])
 }
 
-// The number of a word of digits; one above the greatest cutoff stays above it, whatever follows.
-fn number(word: &[u8]) -> u64 {
+// The cutoff that a word is in decimal; 0, which is no cutoff, where it is none.
+fn number(word: &[u8]) -> u64
+    ensures { λ r. ⌜ r ≡ cutoffOf (now (word .entry)) ⌝ }
+{
     let mut n: u64 = 0;
     let mut i = 0;
     while i < word.len() {
-        let d = digit(word[i]);
+        let d = text::digit_of(word[i]);
         if 9 < d {
             return 0;
         }
         n = more(n, d);
         i += 1;
     }
+    if MOST_CUTOFF < n {
+        return 0;
+    }
     n
 }
 
-fn more(n: u64, d: u64) -> u64 {
-    if MOST_CUTOFF < n {
-        return n;
+// A number with a digit more; what is above the greatest cutoff stays above it, whatever follows.
+fn more(n: u64, d: u64) -> u64
+    requires { ⌜ (n ≤ 1000001) × (d ≤ 9) ⌝ }
+    ensures { λ r. ⌜ r ≡ min (n * 10 + d) 1000001 ⌝ }
+{
+    let next = n * 10 + d;
+    if MOST_CUTOFF < next {
+        return ABOVE;
     }
-    if 9 < d {
-        return n;
-    }
-    n * 10 + d
-}
-
-// The value of a digit; 10 where the byte is none.
-fn digit(b: u8) -> u64 {
-    match b {
-        b'0'..=b'9' => wide(b - b'0'),
-        _ => 10,
-    }
-}
-
-fn wide(b: u8) -> u64 {
-    b as u64
+    next
 }
 
 // What was read: how many bytes, or that reading failed.

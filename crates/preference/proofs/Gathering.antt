@@ -27,7 +27,7 @@ use Rattle.lists.proofs.Standing.{in-range, index-below, index-place, place-ind
 use Rattle.lists.proofs.Arranging.{getD-map}
 use Rattle.lists.proofs.PlacedCandidates.{AllBelow}
 use Rattle.preference.specs.Preferences.{orderOf, numbersOf}
-use Rattle.preference.specs.private.Placing.{inverse, entries, rowNumbered, gathered, renumber, renumbered}
+use Rattle.preference.specs.Placing.{inverse, entries, rowNumbered, gathered, renumber, renumbered}
 use Rattle.preference.proofs.Holding.{order-numbers, numbers-at, length-order, order-at}
 use Rattle.preference.proofs.Placing.{zero-none}
 

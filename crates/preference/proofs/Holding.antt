@@ -23,7 +23,7 @@ use Rattle.lists.specs.private.Arranging.{indexAt}
 use Rattle.lists.proofs.Standing.{times-hit, times-miss, times-none, place-stands, mem-at, mem-tabulate, tabulate-distinct}
 use Rattle.lists.proofs.Arranging.{getD-map}
 use Rattle.preference.specs.Preferences.{isPreference, orderOf, numbersOf}
-use Rattle.preference.specs.private.Placing.{zerosFrom}
+use Rattle.preference.specs.private.Testing.{zerosFrom}
 
 pub record IsPreference (n : ℕ) (k : List ℕ) : Type 0 where
   pub arranged : IsArrangement n (orderOf n k)

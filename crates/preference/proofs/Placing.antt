@@ -27,7 +27,8 @@ use Rattle.lists.specs.Arrangements.{IsArrangement, placeOf}
 use Rattle.lists.specs.private.Arranging.{indexAt}
 use Rattle.lists.proofs.Standing.{arrangement-of, index-place, place-below, index-below, index-injective}
 use Rattle.preference.specs.Preferences.{isPreference, orderRefusal, preferredRefusal, orderOf, numbersOf}
-use Rattle.preference.specs.private.Placing.{inverse, nowhere, placedAs, zerosFrom}
+use Rattle.preference.specs.Placing.{inverse, nowhere, placedAs}
+use Rattle.preference.specs.private.Testing.{zerosFrom}
 use Rattle.preference.specs.declared.Placed.{Placed}
 use Rattle.preference.proofs.Holding.{IsPreference, length-order, order-at, numbers-at, held-of, held-front, zeros-at, zeros-of}
 use Rattle.preference.proofs.Holding.{preference-of, of-preference, zeros-in, none-large}

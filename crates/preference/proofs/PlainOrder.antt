@@ -20,7 +20,8 @@ use Rattle.lists.specs.Arrangements.{IsArrangement, plain}
 use Rattle.lists.specs.private.Arranging.{indexAt}
 use Rattle.lists.proofs.Standing.{length-plain, index-plain, plain-arrangement}
 use Rattle.preference.specs.Preferences.{isPreference, orderOf, numbersOf, plainNumbers}
-use Rattle.preference.specs.private.Placing.{plainAt, isPlain}
+use Rattle.preference.specs.Placing.{isPlain}
+use Rattle.preference.specs.private.Testing.{plainAt}
 use Rattle.preference.proofs.Holding.{IsPreference, order-numbers, numbers-at, of-preference}
 
 -- ---- at a place
@@ -53,7 +54,7 @@ plain-at n i h = pad-getD (map suc (plain (min n 64))) i ∙ go (decLt i n)
         ∙ plain-front n i (suc i) l (omega arith)
     go (no l) = List·getD-eq-default (map suc (plain (min n 64))) 0 (omega (arith, size)) ∙ plain-rest n i (omega arith)
 
-length-numbers : (n : ℕ) → length (plainNumbers n) ≡ 64
+pub length-numbers : (n : ℕ) → length (plainNumbers n) ≡ 64
 length-numbers n = pad-length (map suc (plain (min n 64))) (omega (arith, length-map (plain (min n 64)) suc, length-plain (min n 64)))
 
 -- what the loop wrote
@@ -68,7 +69,7 @@ plain-written n l e =
 -- ---- telling it
 -- of the first i numbers, `strays` are not what they should be
 abbrev pub agrees : ℕ → List ℕ → ℕ → Bool
-agrees n k i = eqb (getD k i 0) (plainAt n i)
+agrees n k i = eqb (getD k i 0) (getD (plainNumbers n) i 0)
 
 pub record Counted (n : ℕ) (k : List ℕ) (strays i : ℕ) : Type 0 where
   pub most : strays ≤ i
@@ -88,12 +89,15 @@ and-false true = refl
 and-false false = refl
 
 module _ (n : ℕ) (k : List ℕ) (strays i v : ℕ) (c : Counted n k strays i) (h : i < 64) (is : v ≡ plainAt n i) where
+  here : v ≡ getD (plainNumbers n) i 0
+  here = is ∙ sym (plain-at n i h)
+
   pub counted-stray : ¬ (getD k i 0 ≡ v) → Counted n k (strays + 1) (i + 1)
   counted-stray d = record {
     most = omega (arith, c .most);
     end = omega arith;
     none = λ e. absurd (omega (arith, e));
-    some = λ l. all-suc (agrees n k) i ∙ ap (λ (x : Bool). allBelow (agrees n k) i && x) (ne-eqb (getD k i 0) (plainAt n i) (λ e. d (e ∙ sym is)))
+    some = λ l. all-suc (agrees n k) i ∙ ap (λ (x : Bool). allBelow (agrees n k) i && x) (ne-eqb (getD k i 0) (getD (plainNumbers n) i 0) (λ e. d (e ∙ sym here)))
         ∙ and-false (allBelow (agrees n k) i);
   }
 
@@ -101,7 +105,7 @@ module _ (n : ℕ) (k : List ℕ) (strays i v : ℕ) (c : Counted n k strays i) 
   counted-same d = record {
     most = omega (arith, c .most);
     end = omega arith;
-    none = λ e. all-suc (agrees n k) i ∙ rw (c .none e, eq-eqb (getD k i 0) (plainAt n i) (d ∙ is));
+    none = λ e. all-suc (agrees n k) i ∙ rw (c .none e, eq-eqb (getD k i 0) (getD (plainNumbers n) i 0) (d ∙ here));
     some = λ l. all-suc (agrees n k) i ∙ rw (c .some l);
   }
 
@@ -123,7 +127,7 @@ plain-is n k few long e =
     ext-getD 0 k (plainNumbers n) (long ∙ sym (length-numbers n))
     (λ i b.
     let h : i < 64 = omega (arith, long) in
-    eqb→eq (getD k i 0) (plainAt n i) (all-at (agrees n k) 64 i (rw e tt) h) ∙ sym (plain-at n i h))
+    eqb→eq (getD k i 0) (getD (plainNumbers n) i 0) (all-at (agrees n k) 64 i (rw e tt) h))
     ∙ ap (λ (m : ℕ). numbersOf (plain m)) (min-eq-left few)
 
 pub plain-order : (n : ℕ) → orderOf n (numbersOf (plain n)) ≡ plain n
@@ -140,3 +144,10 @@ plain-passes n few =
     is-true (isPreference n (numbersOf (plain n)))
     (of-preference n (numbersOf (plain n)) few (pad-length (map suc (plain n)) (omega (arith, length-map (plain n) suc, length-plain n)))
     (plain-preference n few))
+
+-- the same of `plainNumbers`, of at most 64 numbers: what it holds, and that no table's check and no 27 refuses it
+pub order-plain : (n : ℕ) → n ≤ 64 → orderOf n (plainNumbers n) ≡ plain n
+order-plain n few = ap (λ (m : ℕ). orderOf n (numbersOf (plain m))) (min-eq-left few) ∙ plain-order n
+
+pub plain-unrefused : (n : ℕ) → n ≤ 64 → isPreference n (plainNumbers n) ≡ true
+plain-unrefused n few = ap (λ (m : ℕ). isPreference n (numbersOf (plain m))) (min-eq-left few) ∙ plain-passes n few

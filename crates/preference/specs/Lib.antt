@@ -1,3 +1,4 @@
--- What a reader must believe of preferences as they are handed in; `private` is for inner steps alone.
+-- What a reader must believe of preferences as they are handed in, and of places in them; `private` is for private steps alone.
 pub mod Preferences
+pub mod Placing
 pub mod private

@@ -1,2 +1,2 @@
--- Definitions that no entry of a user mentions: the contracts of the inner steps here and in the crates above do.
-pub mod Placing
+-- Definitions that only private steps of this crate's code or proofs mention. No public promise does, and a reader need not believe them.
+pub mod Testing

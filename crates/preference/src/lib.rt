@@ -13,8 +13,8 @@ ghost use lib.ListN.{length};
 ghost use Rattle.table.specs.Tables.{padded};
 ghost use Rattle.refusals.specs.Answers.{verdict};
 ghost use Rattle.preference.specs.Preferences.{orderRefusal, preferredRefusal, plainNumbers};
-ghost use Rattle.preference.specs.private.Placing.{placedAs, nowhere, isPlain, zerosFrom, plainAt, rowNumbered, gathered, renumber as renumberBy};
-ghost use Rattle.preference.specs.private.Placing.{renumbered};
+ghost use Rattle.preference.specs.Placing.{isPlain, placedAs, nowhere, rowNumbered, gathered, renumber as renumberBy, renumbered};
+ghost use Rattle.preference.specs.private.Testing.{zerosFrom, plainAt};
 
 // How many numbers an order has room for.
 const MOST: usize = Table::MOST_GAUGES as usize;

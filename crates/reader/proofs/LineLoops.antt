@@ -24,10 +24,11 @@ use Rattle.refusals.specs.declared.Refusal.{Refusal}
 use Rattle.refusals.specs.declared.Refusal.the-variants.{FileTooLong, NotTheBanner, SizeFields, PairRepeated, PairCount}
 use Rattle.text.specs.Lines.{lines, spanAt}
 use Rattle.text.proofs.LineAt.{lines-at}
-use Rattle.kinds.specs.Banner.{firstLine}
-use Rattle.kinds.specs.Kinds.{headLine, entryLine}
+use Rattle.kinds.specs.Banner.{firstLine, firstSays}
+use Rattle.kinds.specs.Kinds.{headLine, headSays, entryLine, entrySays}
 use Rattle.reader.specs.Reading.{accepted, refusedFile, withCase, hasPair, readEntries, readHead, readLines, readRecorded}
 use Rattle.kinds.proofs.KindOf.{Bounded, entry-taken, size-range}
+use Rattle.kinds.proofs.Saying.{first-is, head-is, entry-is}
 use Rattle.text.specs.declared.Span.{Span}
 use Rattle.kinds.specs.declared.FirstLine.{FirstLine}
 use Rattle.kinds.specs.declared.FirstLine.the-variants.{Banner, Other}
@@ -52,40 +53,43 @@ pub record EntryTurn (f : List ℕ) (at : ℕ) (s : Span) (kind : Kind) (gs : Ga
     (A : Answer Test) : Type 0 where
   pub here : at < length f
   pub span : s ≡ spanAt f at
-  pub judged : e ≡ entryLine kind gs cs (take (s .end - at) (drop at f))
+  pub judged : entrySays e ≡ entrySays (entryLine kind gs cs (take (s .end - at) (drop at f)))
   pub goal : readEntries kind gs cs left rows vs (lines (drop at f)) ≡ A
 
 module _ {f : List ℕ} {at : ℕ} {s : Span} {kind : Kind} {gs : Gauge} {cs : Case} {left : ℕ} {rows : List ℕ} {vs : List ℤ} {e : EntryLine} {A : Answer Test}
     (T : EntryTurn f at s kind gs cs left rows vs e A) where
+  told : e ≡ entryLine kind gs cs (take (s .end - at) (drop at f))
+  told = entry-is kind gs cs (take (s .end - at) (drop at f)) e (T .judged)
+
   one-line : (size : ℕ) × (readEntries kind gs cs left rows vs (record { text = take (s .end - at) (drop at f); size = size } ∷ lines (drop (s .next) f)) ≡ A)
   one-line = let w = lines-at f at s (T .span) (T .here) in (w .0, rw (w .1) at (T .goal))
 
   pub turn-skip : e ≡ skipEntry → readEntries kind gs cs left rows vs (lines (drop (s .next) f)) ≡ A
   unfolding readEntries
-  turn-skip x = rw (sym (T .judged) ∙ x, readEntries) at (one-line .1)
+  turn-skip x = rw (sym told ∙ x, readEntries) at (one-line .1)
 
   pub turn-bad : {x : Refusal} → e ≡ badEntry x → refusedFile x ≡ A
   unfolding readEntries
-  turn-bad x = rw (sym (T .judged) ∙ x, readEntries) at (one-line .1)
+  turn-bad x = rw (sym told ∙ x, readEntries) at (one-line .1)
 
   module _ {g : Gauge} {c : Case} {v : ℤ} (x : e ≡ Entry g c v) where
     pub turn-range : Bounded gs cs g c
-    turn-range = entry-taken kind gs cs (take (s .end - at) (drop at f)) g c v (sym x ∙ T .judged) .places
+    turn-range = entry-taken kind gs cs (take (s .end - at) (drop at f)) g c v (sym x ∙ told) .places
 
     module _ {t : Bool} (d : t ≡ hasPair rows g c) where
       pub turn-repeated : t ≡ true → refusedFile PairRepeated ≡ A
       unfolding readEntries
-      turn-repeated y = rw (sym d ∙ y) at (rw (sym (T .judged) ∙ x, readEntries) at (one-line .1))
+      turn-repeated y = rw (sym d ∙ y) at (rw (sym told ∙ x, readEntries) at (one-line .1))
 
       pub turn-more : t ≡ false → left ≡ 0 → refusedFile PairCount ≡ A
       unfolding readEntries
-      turn-more y z = rw (eq-eqb left 0 z) at (rw (sym d ∙ y) at (rw (sym (T .judged) ∙ x, readEntries) at (one-line .1)))
+      turn-more y z = rw (eq-eqb left 0 z) at (rw (sym d ∙ y) at (rw (sym told ∙ x, readEntries) at (one-line .1)))
 
       -- r is the row with the case, and z what the code handed on of the reading
       pub turn-entry : t ≡ false → (left ≡ 0 → ⊥) → (r : ℕ) → r ≡ withCase (row rows (g .0 - 1)) c → (z : ℤ) → z ≡ v
           → readEntries kind gs cs (left - 1) (set rows (g .0 - 1) r) (set vs ((g .0 - 1) * 64 + (c .0 - 1)) z) (lines (drop (s .next) f)) ≡ A
       unfolding readEntries
-      turn-entry y n r w z q = rw (w, q) (rw (ne-eqb left 0 n) at (rw (sym d ∙ y) at (rw (sym (T .judged) ∙ x, readEntries) at (one-line .1))))
+      turn-entry y n r w z q = rw (w, q) (rw (ne-eqb left 0 n) at (rw (sym d ∙ y) at (rw (sym told ∙ x, readEntries) at (one-line .1))))
 
 -- the end of the lines ahead of the entries
 pub head-absent : (f : List ℕ) (at : ℕ) (kind : Kind) (A : Answer Test) → readHead kind (lines (drop at f)) ≡ A → length f ≤ at → refusedFile SizeFields ≡ A
@@ -96,28 +100,31 @@ head-absent f at kind A q h = rw (drop-of-length-le f h) at q
 pub record HeadTurn (f : List ℕ) (at : ℕ) (s : Span) (kind : Kind) (e : HeadLine) (A : Answer Test) : Type 0 where
   pub here : at < length f
   pub span : s ≡ spanAt f at
-  pub judged : e ≡ headLine (take (s .end - at) (drop at f))
+  pub judged : headSays e ≡ headSays (headLine (take (s .end - at) (drop at f)))
   pub goal : readHead kind (lines (drop at f)) ≡ A
 
 module _ {f : List ℕ} {at : ℕ} {s : Span} {kind : Kind} {e : HeadLine} {A : Answer Test} (T : HeadTurn f at s kind e A) where
+  told-head : e ≡ headLine (take (s .end - at) (drop at f))
+  told-head = head-is (take (s .end - at) (drop at f)) e (T .judged)
+
   one-head : (size : ℕ) × (readHead kind (record { text = take (s .end - at) (drop at f); size = size } ∷ lines (drop (s .next) f)) ≡ A)
   one-head = let w = lines-at f at s (T .span) (T .here) in (w .0, rw (w .1) at (T .goal))
 
   pub head-skip : e ≡ skipHead → readHead kind (lines (drop (s .next) f)) ≡ A
   unfolding readHead
-  head-skip x = rw (sym (T .judged) ∙ x, readHead) at (one-head .1)
+  head-skip x = rw (sym told-head ∙ x, readHead) at (one-head .1)
 
   pub head-bad : {x : Refusal} → e ≡ badHead x → refusedFile x ≡ A
   unfolding readHead
-  head-bad x = rw (sym (T .judged) ∙ x, readHead) at (one-head .1)
+  head-bad x = rw (sym told-head ∙ x, readHead) at (one-head .1)
 
   module _ {g : Gauge} {c : Case} {n : ℕ} (x : e ≡ Size g c n) where
     pub head-range : Bounded (record { 0 = 64 }) (record { 0 = 64 }) g c
-    head-range = size-range (take (s .end - at) (drop at f)) g c n (sym x ∙ T .judged)
+    head-range = size-range (take (s .end - at) (drop at f)) g c n (sym x ∙ told-head)
 
     pub head-size : readEntries kind g c n noRows noReadings (lines (drop (s .next) f)) ≡ A
     unfolding readHead
-    head-size = rw (sym (T .judged) ∙ x, readHead) at (one-head .1)
+    head-size = rw (sym told-head ∙ x, readHead) at (one-head .1)
 
 -- the file as a whole and its first line
 pub file-long : (integers : Bool) (f : List ℕ) → 65536 < length f → refusedFile FileTooLong ≡ readRecorded integers f
@@ -130,7 +137,10 @@ empty-other true = refl
 empty-other false = refl
 
 module _ (integers : Bool) (f : List ℕ) (h : length f ≤ 65536) (s : Span) (e : s ≡ spanAt f 0) (b : FirstLine)
-    (p : b ≡ firstLine integers (take (s .end - 0) (drop 0 f))) where
+    (p : firstSays b ≡ firstSays (firstLine integers (take (s .end - 0) (drop 0 f)))) where
+  told-first : b ≡ firstLine integers (take (s .end - 0) (drop 0 f))
+  told-first = first-is integers (take (s .end - 0) (drop 0 f)) b p
+
   file-lines : readRecorded integers f ≡ readLines integers (lines f)
   unfolding readRecorded
   file-lines = rw (le-ltb 65536 (length f) h, readRecorded)
@@ -144,14 +154,14 @@ module _ (integers : Bool) (f : List ℕ) (h : length f ≤ 65536) (s : Span) (e
   first-line : 0 < length f
       → readLines integers (lines f) ≡ elim b [ Banner kind ↦ readHead kind (lines (drop (s .next) f)) | Other ↦ refusedFile NotTheBanner ]
   unfolding readLines
-  first-line z = rw (lines-at f 0 s e z .1) (rw (← p, readLines))
+  first-line z = rw (lines-at f 0 s e z .1) (rw (← told-first, readLines))
 
   not-empty : {kind : Kind} → b ≡ Banner kind → 0 < length f
   not-empty {kind} x = go f refl
     where
       go : (g : List ℕ) → f ≡ g → 0 < length f
       go [] q =
-          let w : Banner kind ≡ Other = sym x ∙ p ∙ (rw (q, take-nil (s .end - 0)) (empty-other integers)) in
+          let w : Banner kind ≡ Other = sym x ∙ told-first ∙ (rw (q, take-nil (s .end - 0)) (empty-other integers)) in
           let z : _≡_ {A = ℕ} 0 1 = cc in
           absurd (omega arith)
       go (a ∷ g) q = rw q (omega arith)

@@ -193,7 +193,7 @@ fullTest v = record { kind = Integer; gauges = 64; cases = 64; entries = replica
 full-row : (i : ℕ) → i < 64 → row (replicate 64 (2 ^ 64 - 1)) i ≡ 2 ^ 64 - 1
 full-row i h = getD-replicate 64 i (2 ^ 64 - 1) 0 h
 
-full-reading : (v : ℤ) (p : ℕ) → p < 4096 → reading (replicate 4096 v) p ≡ v
+pub full-reading : (v : ℤ) (p : ℕ) → p < 4096 → reading (replicate 4096 v) p ≡ v
 full-reading v p h = getD-replicate 4096 p v (pos 0) h
 
 full-listed : (v : ℤ) → tableRefusal (listed (fullTest v)) ≡ 0
@@ -204,7 +204,7 @@ full-bit : (k : ℕ) → k < 64 → T (bit (2 ^ 64 - 1) k)
 unfolding lowest
 full-bit k h = subst T (sym (bit-lowest 64 k ∙ lt-ltb k 64 h)) tt
 
-full-legal : (v : ℤ) → natAbs v ≤ 1000000 → LegalTest (fullTest v)
+pub full-legal : (v : ℤ) → natAbs v ≤ 1000000 → LegalTest (fullTest v)
 full-legal v h =
     record {
       entries-legal = legal-of (listed (fullTest v)) (length-replicate 64 (2 ^ 64 - 1)) (full-listed v);

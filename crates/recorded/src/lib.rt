@@ -19,6 +19,7 @@ ghost use Rattle.table.specs.Tables.{made};
 ghost use Rattle.refusals.specs.Answers.{verdict};
 ghost use Rattle.recorded.specs.Tests.{readable as readableOf, placeFits, fitsAt, withinAt, testRefusal};
 ghost use Rattle.recorded.specs.Tests.{reaches as reachesOf, rowAt, rowsAt, tableAt};
+ghost use Rattle.recorded.specs.Cutoffs.{CutoffClaims};
 ghost use Rattle.recorded.specs.Equality.{ComparedAs, comparedNo};
 ghost use Rattle.recorded.specs.private.KindNumbers.{kindNumber};
 
@@ -81,9 +82,10 @@ pub fn check_test(t: Test) -> Verdict
     Verdict::Accepted
 }
 
-// The table of a test at a cutoff; 21, then 10, 11 and 20 are refused.
+// The table of a test at a cutoff; 21, then 10, 11 and 20 are refused. Raising the cutoff never adds a pair.
 pub fn table_at(t: Test, cutoff: u64) -> Made
     ensures { λ r. ⌜ made r ≡ tableAt t cutoff ⌝ }
+    ensures claims { λ r. ⌜ (verdict (r .verdict) ≡ 0 → CutoffClaims t cutoff (r .table .rows)) ⌝ }
 {
     if !table::in_range(cutoff, MOST_READING) {
         return table::refuse(Refusal::CutoffRange);

@@ -1,6 +1,7 @@
--- Laws that belong to no one function. For users: `LineAt` (the line at a place) and `same-lengths` of `Comparing`.
+-- Laws that belong to no one function. For users: `LineAt` (the line at a place), `same-lengths` of `Comparing` and `fields-are` of `Saying`.
 pub mod FirstLine
 pub mod LineAt
 pub mod Scanning
+pub mod Saying
 pub mod Comparing
 pub mod SmallLetters

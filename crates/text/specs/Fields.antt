@@ -48,3 +48,12 @@ shape (some (a ∷ b ∷ c ∷ d ∷ fs)) = Other
 -- the fields of a line
 abbrev pub fields : List ℕ → Fields
 fields l = shape (scan 0 0 l)
+
+-- how the code's answer reads (01: "For an answer that is an enum, a definition gives this paper's number and values for each case of the enum"):
+-- the values are the line's fields, none on a blank line. A malformed line has no values, and 01's number for it goes by its place, 4 for a size
+-- line and 6 for a pair line, so it stands in crate `kinds`.
+abbrev pub fieldsSay : Fields → Option (List ℕ)
+fieldsSay Blank = some []
+fieldsSay (Two a b) = some (a ∷ b ∷ [])
+fieldsSay (Three a b c) = some (a ∷ b ∷ c ∷ [])
+fieldsSay Other = none

@@ -6,7 +6,7 @@ ghost use mathlib.Core.List.{map};
 ghost use Prim.Native.Nat.{_≤_};
 ghost use lib.ListN.{length, drop};
 ghost use Rattle.text.specs.Lines.{spanAt};
-ghost use Rattle.text.specs.Fields.{isBlank, digitOf, fields};
+ghost use Rattle.text.specs.Fields.{isBlank, digitOf, fields, fieldsSay};
 ghost use Rattle.text.specs.Bytes.{sameBytes, small as smallOf};
 ghost use Rattle.text.specs.private.ScanSteps.{endSize, FieldAt};
 
@@ -57,7 +57,7 @@ pub fn line_at(file: &[u8], at: usize) -> Span
 
 // The fields of a line.
 pub fn fields_of(line: &[u8]) -> Fields
-    ensures { λ r. ⌜ r ≡ fields (now (line .entry)) ⌝ }
+    ensures { λ r. ⌜ fieldsSay r ≡ fieldsSay (fields (now (line .entry))) ⌝ }
 {
     let f1 = field_at(line, 0);
     if let Field::End = f1 {

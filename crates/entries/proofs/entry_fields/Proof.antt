@@ -1,4 +1,6 @@
 -- `entries::entry_fields` meets its contract.
+use mathlib.Core.Path.{ap}
+use Rattle.entries.specs.Words.{entryFieldsSay}
 use borrow.Author.Needs.{needs}
 use Rattle.entries.proofs.Words.{line-blank, line-cuts, line-entry, line-other}
 use Rattle.entries.proofs.entry_fields.Statement.{statement}
@@ -20,13 +22,14 @@ enum-told-2 : tie.Need-enum-told-2
 enum-told-2 c = search needs
 
 returns : tie.Need-returns
-returns c = line-blank (c .before .before .three-words .ensures) (c .enum-told .given .1)
+returns c = ap entryFieldsSay (line-blank (c .before .before .three-words .ensures) (c .enum-told .given .1))
 
 returns-2 : tie.Need-returns-2
-returns-2 c = line-entry (c .before .before .before .before .three-words .ensures) (c .before .before .found .given .1) (c .entry-of .ensures)
+returns-2 c =
+    ap entryFieldsSay (line-entry (c .before .before .before .before .three-words .ensures) (c .before .before .found .given .1) (c .entry-of .ensures))
 
 returns-3 : tie.Need-returns-3
-returns-3 c = line-other (c .before .before .three-words .ensures) (c .enum-told2 .given .1)
+returns-3 c = ap entryFieldsSay (line-other (c .before .before .three-words .ensures) (c .enum-told2 .given .1))
 
 pub entry-fields-spec : {M : Type 1} → statement M
 entry-fields-spec =

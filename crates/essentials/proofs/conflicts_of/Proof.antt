@@ -26,7 +26,7 @@ refuse-requires c κs = search needs
 
 returns : tie.Need-returns
 returns c = (
-  gives-refused _ _ _ (c .before .before .checked .given .0 .0) _
+  gives-refused _ _ (c .before .before .checked .given .0 .0) _
       (verdict-refused _ _ _ (c .before .before .checked .given .1) (c .before .before .before .before .check-pair .ensures)) (c .refuse .ensures),
   λ e.
       conflict-claims _,

@@ -7,15 +7,16 @@ use borrow.Author.Needs.{needs}
 use Rattle.table.specs.Tables.{Legal}
 use Rattle.refusals.proofs.Answering.{verdict-refused, verdict-accepted}
 use Rattle.table.proofs.Legality.{legal-of}
-use Rattle.essentials.proofs.Outdoing.{Finding, finding-none, finding-more, finding-all, rows-refused, ready}
+use Rattle.essentials.proofs.Answers.{gives-refused}
+use Rattle.essentials.proofs.Outdoing.{Finding, finding-none, finding-more, finding-all, ready}
 use Rattle.essentials.proofs.essential_rows.Statement.{statement}
 use Rattle.essentials.proofs.essential_rows.Tie as tie
 
 abbrev Inv-loop : tie.InvT-loop
-Inv-loop found₀ rows n store i₀ found i = Finding rows n found i
+Inv-loop rows n store found₀ i₀ found i = Finding rows n found i
 
 abbrev μ-loop : tie.MeasureT-loop
-μ-loop found₀ rows n store i₀ found i = n - i
+μ-loop rows n store found₀ i₀ found i = n - i
 
 rows-length : (c : tie.Start Inv-loop μ-loop) → length (c .args .t .rows) ≡ 64
 rows-length c = search needs
@@ -29,9 +30,13 @@ check-table-requires c κs = search needs
 enum-known-checked : tie.Need-enum-known-checked Inv-loop μ-loop
 enum-known-checked c = search needs
 
+refuse-requires : tie.Need-refuse-requires Inv-loop μ-loop
+refuse-requires c κs = search needs
+
 returns : tie.Need-returns Inv-loop μ-loop
 returns c =
-    rows-refused _ (c .before .checked .given .0 .0) (verdict-refused _ _ _ (c .before .checked .given .1) (c .before .before .before .check-table .ensures))
+    gives-refused _ _ (c .before .before .checked .given .0 .0) _
+    (verdict-refused _ _ _ (c .before .before .checked .given .1) (c .before .before .before .before .check-table .ensures)) (c .refuse .ensures)
 
 enum-told : tie.Need-enum-told Inv-loop μ-loop
 enum-told c = search needs
@@ -76,6 +81,7 @@ essential-rows-spec =
     μ-loop
     check-table-requires
     enum-known-checked
+    refuse-requires
     returns
     enum-told
     unions-requires

@@ -1,7 +1,8 @@
 -- `kinds::entry_line` meets its contract: each return has its law of `KindOf`; what no pattern took is malformed. In the answers `f` is where
 -- the fields were made, `w` the three numbers, `i` the first range test.
-use mathlib.Core.Path.{_≡_, refl}
-use mathlib.Core.List.{[], _∷_}
+use mathlib.Core.Path.{_≡_, refl, ap}
+use mathlib.Core.List.{List, [], _∷_}
+use Prim.Native.Nat.{ℕ}
 use mathlib.Core.Logic.{⊎-elim}
 use native.Mathlib.Omega.{arith}
 use mir.Facts.{toZ-ofZ}
@@ -11,6 +12,10 @@ use denote.Enum.Declared
 use Rattle.entries.specs.declared.EntryFields.{EntryFields}
 use Rattle.entries.specs.declared.EntryFields.the-variants.{Blank, Entry, Other}
 use Rattle.entries.proofs.EntryFields.{the-type}
+use Rattle.table.specs.declared.Gauge.{Gauge}
+use Rattle.table.specs.declared.Case.{Case}
+use Rattle.recorded.specs.declared.Kind.{Kind}
+use Rattle.kinds.specs.Kinds.{entrySays}
 use Rattle.kinds.proofs.KindOf.{entry-long, entry-blank, entry-none, entry-gauge, entry-case, entry-reach, entry-entry}
 use borrow.Author.Needs.{needs}
 use Rattle.kinds.proofs.entry_line.Statement.{statement}
@@ -21,8 +26,23 @@ only-other Blank h k = ⊎-elim (λ e. absurd (omega arith)) (λ e. absurd (omeg
 only-other (Entry g c v) h k = ⊎-elim (λ e. absurd (omega arith)) (λ e. absurd (omega arith)) k
 only-other Other h k = refl
 
+-- what the function was called with, from where the fields were made
+abbrev line : tie.After-fields-by → List ℕ
+line f = f .before .before .before .args .line .now
+
+abbrev kind : tie.After-fields-by → Kind
+kind f = f .before .before .before .args .kind
+
+abbrev gauges : tie.After-fields-by → Gauge
+gauges f = f .before .before .before .args .gauges
+
+abbrev cases : tie.After-fields-by → Case
+cases f = f .before .before .before .args .cases
+
 returns : tie.Need-returns
-returns c = let s = c .before .before in entry-long (s .args .line .now) (s .args .kind) (s .args .gauges) (s .args .cases) (c .if1 .taken)
+returns c =
+    let s = c .before .before in
+    ap entrySays (entry-long (s .args .line .now) (s .args .kind) (s .args .gauges) (s .args .cases) (c .if1 .taken))
 
 fields-by-requires : tie.Need-fields-by-requires
 fields-by-requires c κs = search needs
@@ -31,7 +51,10 @@ enum-told : tie.Need-enum-told
 enum-told c = search needs
 
 returns-2 : tie.Need-returns-2
-returns-2 c = let f = c .before .before in entry-blank _ (f .before .if1 .left) _ _ _ _ (f .fields-by .ensures) (c .enum-told .given .1)
+returns-2 c =
+    let f = c .before .before in
+    ap entrySays
+    (entry-blank (line f) (f .before .if1 .left) (kind f) (gauges f) (cases f) _ (f .fields-by .ensures) (c .enum-told .given .1))
 
 enum-known-f : tie.Need-enum-known-f
 enum-known-f c = search needs
@@ -39,7 +62,9 @@ enum-known-f c = search needs
 returns-3 : tie.Need-returns-3
 returns-3 c =
     let f = c .before .before in
-    entry-none _ (f .before .if1 .left) _ _ _ _ (f .fields-by .ensures) (only-other _ (c .before .match .keys2) (c .match2 .keys2))
+    ap entrySays
+    (entry-none (line f) (f .before .if1 .left) (kind f) (gauges f) (cases f) _ (f .fields-by .ensures)
+    (only-other _ (c .before .match .keys2) (c .match2 .keys2)))
 
 in-range-requires : tie.Need-in-range-requires
 in-range-requires c κs = search needs
@@ -49,7 +74,9 @@ returns-4 c =
     let i = c .before in
     let w = i .before .before in
     let f = w .before .before .before in
-    entry-gauge _ (f .before .if1 .left) _ _ _ _ (f .fields-by .ensures) _ _ _ (w .f .given .1) _ (i .in-range .ensures) (not-true _ (c .if2 .taken))
+    ap entrySays
+    (entry-gauge (line f) (f .before .if1 .left) (kind f) (gauges f) (cases f) _ (f .fields-by .ensures) _ _ _ (w .f .given .1)
+    _ (i .in-range .ensures) (not-true _ (c .if2 .taken)))
 
 in-range-requires-2 : tie.Need-in-range-requires-2
 in-range-requires-2 c κs = search needs
@@ -59,8 +86,9 @@ returns-5 c =
     let i = c .before .before .before in
     let w = i .before .before in
     let f = w .before .before .before in
-    entry-case _ (f .before .if1 .left) _ _ _ _ (f .fields-by .ensures) _ _ _ (w .f .given .1)
-    _ (i .in-range .ensures) (not-false _ (c .before .before .if2 .left)) _ (c .before .in-range2 .ensures) (not-true _ (c .if3 .taken))
+    ap entrySays
+    (entry-case (line f) (f .before .if1 .left) (kind f) (gauges f) (cases f) _ (f .fields-by .ensures) _ _ _ (w .f .given .1)
+    _ (i .in-range .ensures) (not-false _ (c .before .before .if2 .left)) _ (c .before .in-range2 .ensures) (not-true _ (c .if3 .taken)))
 
 magnitude-requires : tie.Need-magnitude-requires
 magnitude-requires c κs = search needs
@@ -71,9 +99,10 @@ returns-6 c =
     let i = j .before .before in
     let w = i .before .before in
     let f = w .before .before .before in
-    entry-reach _ (f .before .if1 .left) _ _ _ _ (f .fields-by .ensures) _ _ _ (w .f .given .1)
+    ap entrySays
+    (entry-reach (line f) (f .before .if1 .left) (kind f) (gauges f) (cases f) _ (f .fields-by .ensures) _ _ _ (w .f .given .1)
     _ (i .in-range .ensures) (not-false _ (j .before .if2 .left)) _ (j .in-range2 .ensures) (not-false _ (c .before .before .if3 .left))
-    _ (toZ-ofZ (sfits-of (i .before .known-told .given .1 .1 .0 .1))) _ (c .before .magnitude .ensures) (omega arith)
+    _ (toZ-ofZ (sfits-of (i .before .known-told .given .1 .1 .0 .1))) _ (c .before .magnitude .ensures) (omega arith))
 
 returns-7 : tie.Need-returns-7
 returns-7 c =
@@ -81,9 +110,10 @@ returns-7 c =
     let i = j .before .before in
     let w = i .before .before in
     let f = w .before .before .before in
-    entry-entry _ (f .before .if1 .left) _ _ _ _ (f .fields-by .ensures) _ _ _ (w .f .given .1)
+    ap entrySays
+    (entry-entry (line f) (f .before .if1 .left) (kind f) (gauges f) (cases f) _ (f .fields-by .ensures) _ _ _ (w .f .given .1)
     _ (i .in-range .ensures) (not-false _ (j .before .if2 .left)) _ (j .in-range2 .ensures) (not-false _ (c .before .before .if3 .left))
-    _ (toZ-ofZ (sfits-of (i .before .known-told .given .1 .1 .0 .1))) _ (c .before .magnitude .ensures) (omega arith)
+    _ (toZ-ofZ (sfits-of (i .before .known-told .given .1 .1 .0 .1))) _ (c .before .magnitude .ensures) (omega arith))
 
 pub entry-line-spec : {M : Type 1} → statement M
 entry-line-spec =

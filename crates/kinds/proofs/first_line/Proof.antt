@@ -1,5 +1,7 @@
 -- `kinds::first_line` meets its contract: a line of pairs' files, then, where they are taken, one of integer files.
+use mathlib.Core.Path.{ap}
 use borrow.Author.Tests.{not-true, not-false}
+use Rattle.kinds.specs.Banner.{firstSays}
 use Rattle.kinds.proofs.Opening.{first-pattern, first-unasked, first-integer, first-other}
 use borrow.Author.Needs.{needs}
 use Rattle.kinds.proofs.first_line.Statement.{statement}
@@ -16,12 +18,13 @@ is-of-kind-requires : tie.Need-is-of-kind-requires
 is-of-kind-requires c κs = search needs
 
 returns : tie.Need-returns
-returns c = let k = c .before in first-pattern (start k .args .integers) (start k .args .line .now) _ (k .is-of-kind .ensures) (c .if1 .taken)
+returns c = let k = c .before in ap firstSays (first-pattern (start k .args .integers) (start k .args .line .now) _ (k .is-of-kind .ensures) (c .if1 .taken))
 
 returns-2 : tie.Need-returns-2
 returns-2 c =
     let k = c .before .before in
-    first-unasked (start k .args .integers) (start k .args .line .now) _ (k .is-of-kind .ensures) (c .before .if1 .left) (not-true _ (c .if2 .taken))
+    ap firstSays
+    (first-unasked (start k .args .integers) (start k .args .line .now) _ (k .is-of-kind .ensures) (c .before .if1 .left) (not-true _ (c .if2 .taken)))
 
 slice-aggregate-is-of-kind-2 : tie.Need-slice-aggregate-is-of-kind-2
 slice-aggregate-is-of-kind-2 c = search needs
@@ -33,15 +36,17 @@ returns-3 : tie.Need-returns-3
 returns-3 c =
     let i = c .before .before .before in
     let k = i .before .before in
-    first-integer (start k .args .integers) (start k .args .line .now) _ (k .is-of-kind .ensures) (i .before .if1 .left) (not-false _ (i .if2 .left))
-    _ (c .before .is-of-kind2 .ensures) (c .if3 .taken)
+    ap firstSays
+    (first-integer (start k .args .integers) (start k .args .line .now) _ (k .is-of-kind .ensures) (i .before .if1 .left) (not-false _ (i .if2 .left))
+    _ (c .before .is-of-kind2 .ensures) (c .if3 .taken))
 
 returns-4 : tie.Need-returns-4
 returns-4 c =
     let i = c .before .before .before in
     let k = i .before .before in
-    first-other (start k .args .integers) (start k .args .line .now) _ (k .is-of-kind .ensures) (i .before .if1 .left) (not-false _ (i .if2 .left))
-    _ (c .before .is-of-kind2 .ensures) (c .if3 .left)
+    ap firstSays
+    (first-other (start k .args .integers) (start k .args .line .now) _ (k .is-of-kind .ensures) (i .before .if1 .left) (not-false _ (i .if2 .left))
+    _ (c .before .is-of-kind2 .ensures) (c .if3 .left))
 
 pub first-line-spec : {M : Type 1} → statement M
 first-line-spec =

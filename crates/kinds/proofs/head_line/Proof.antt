@@ -1,6 +1,8 @@
 -- `kinds::head_line` meets its contract: each return has its law of `KindOf`; what no pattern took is neither blank nor three fields. In
 -- the answers `k` is where the comment test was made, `f` the fields, `w` the three numbers, `i` the first range test.
-use mathlib.Core.List.{[], _∷_}
+use mathlib.Core.Path.{_≡_, ap}
+use mathlib.Core.List.{List, [], _∷_}
+use Prim.Native.Nat.{ℕ}
 use mathlib.Core.Logic.{⊎-elim}
 use native.Mathlib.Omega.{arith}
 use borrow.Author.Tests.{not-true, not-false}
@@ -8,6 +10,9 @@ use denote.Enum.Declared
 use Rattle.text.specs.declared.Fields.{Fields}
 use Rattle.text.specs.declared.Fields.the-variants.{Blank, Two, Three, Other}
 use Rattle.text.proofs.Fields.{the-type}
+use Rattle.text.specs.Fields.{fields}
+use Rattle.text.proofs.Saying.{fields-are}
+use Rattle.kinds.specs.Kinds.{headSays}
 use Rattle.kinds.proofs.KindOf.{NoSize, head-long, head-comment, head-blank, head-none, head-gauges, head-cases, head-size}
 use borrow.Author.Needs.{needs}
 use Rattle.kinds.proofs.head_line.Statement.{statement}
@@ -20,8 +25,16 @@ no-size (Two a b) h k = tt
 no-size (Three a b c) h k = ⊎-elim (λ e. omega arith) (⊎-elim (λ e. omega arith) (λ e. omega arith)) k
 no-size Other h k = tt
 
+-- the line, from where the comment test was made
+abbrev line : tie.After-is-comment → List ℕ
+line k = k .before .before .before .args .line .now
+
+-- the fields are the line's
+made : (f : tie.After-fields-of) → f .fields-of .result ≡ fields (line (f .before .before))
+made f = fields-are (line (f .before .before)) (f .fields-of .result) (f .fields-of .ensures)
+
 returns : tie.Need-returns
-returns c = head-long (c .before .before .args .line .now) (c .if1 .taken)
+returns c = ap headSays (head-long (c .before .before .args .line .now) (c .if1 .taken))
 
 is-comment-requires : tie.Need-is-comment-requires
 is-comment-requires c κs = search needs
@@ -29,7 +42,7 @@ is-comment-requires c κs = search needs
 returns-2 : tie.Need-returns-2
 returns-2 c =
     let k = c .before in
-    head-comment (k .before .before .before .args .line .now) (k .before .if1 .left) _ (k .is-comment .ensures) (c .if2 .taken)
+    ap headSays (head-comment (line k) (k .before .if1 .left) _ (k .is-comment .ensures) (c .if2 .taken))
 
 fields-of-requires : tie.Need-fields-of-requires
 fields-of-requires c κs = search needs
@@ -38,7 +51,11 @@ enum-told : tie.Need-enum-told
 enum-told c = search needs
 
 returns-3 : tie.Need-returns-3
-returns-3 c = search (needs, head-blank)
+returns-3 c =
+    let f = c .before .before in
+    let k = f .before .before in
+    ap headSays
+    (head-blank (line k) (k .before .if1 .left) _ (k .is-comment .ensures) (f .before .if2 .left) _ (made f) (c .enum-told .given .1))
 
 enum-known-f : tie.Need-enum-known-f
 enum-known-f c = search needs
@@ -47,8 +64,9 @@ returns-4 : tie.Need-returns-4
 returns-4 c =
     let f = c .before .before in
     let k = f .before .before in
-    head-none _ (k .before .if1 .left) _ (k .is-comment .ensures) (f .before .if2 .left) _ (f .fields-of .ensures)
-    (no-size _ (c .before .match .keys2) (c .match2 .keys2))
+    ap headSays
+    (head-none (line k) (k .before .if1 .left) _ (k .is-comment .ensures) (f .before .if2 .left) _ (made f)
+    (no-size _ (c .before .match .keys2) (c .match2 .keys2)))
 
 in-range-requires : tie.Need-in-range-requires
 in-range-requires c κs = search needs
@@ -59,8 +77,9 @@ returns-5 c =
     let w = i .before .before in
     let f = w .before .before .before in
     let k = f .before .before in
-    head-gauges _ (k .before .if1 .left) _ (k .is-comment .ensures) (f .before .if2 .left) _ (f .fields-of .ensures) _ _ _ (w .f .given .1)
-    _ (i .in-range .ensures) (not-true _ (c .if3 .taken))
+    ap headSays
+    (head-gauges (line k) (k .before .if1 .left) _ (k .is-comment .ensures) (f .before .if2 .left) _ (made f) _ _ _ (w .f .given .1)
+    _ (i .in-range .ensures) (not-true _ (c .if3 .taken)))
 
 in-range-requires-2 : tie.Need-in-range-requires-2
 in-range-requires-2 c κs = search needs
@@ -71,8 +90,9 @@ returns-6 c =
     let w = i .before .before in
     let f = w .before .before .before in
     let k = f .before .before in
-    head-cases _ (k .before .if1 .left) _ (k .is-comment .ensures) (f .before .if2 .left) _ (f .fields-of .ensures) _ _ _ (w .f .given .1)
-    _ (i .in-range .ensures) (not-false _ (c .before .before .if3 .left)) _ (c .before .in-range2 .ensures) (not-true _ (c .if4 .taken))
+    ap headSays
+    (head-cases (line k) (k .before .if1 .left) _ (k .is-comment .ensures) (f .before .if2 .left) _ (made f) _ _ _ (w .f .given .1)
+    _ (i .in-range .ensures) (not-false _ (c .before .before .if3 .left)) _ (c .before .in-range2 .ensures) (not-true _ (c .if4 .taken)))
 
 returns-7 : tie.Need-returns-7
 returns-7 c =
@@ -80,8 +100,9 @@ returns-7 c =
     let w = i .before .before in
     let f = w .before .before .before in
     let k = f .before .before in
-    head-size _ (k .before .if1 .left) _ (k .is-comment .ensures) (f .before .if2 .left) _ (f .fields-of .ensures) _ _ _ (w .f .given .1)
-    _ (i .in-range .ensures) (not-false _ (c .before .before .if3 .left)) _ (c .before .in-range2 .ensures) (not-false _ (c .if4 .left))
+    ap headSays
+    (head-size (line k) (k .before .if1 .left) _ (k .is-comment .ensures) (f .before .if2 .left) _ (made f) _ _ _ (w .f .given .1)
+    _ (i .in-range .ensures) (not-false _ (c .before .before .if3 .left)) _ (c .before .in-range2 .ensures) (not-false _ (c .if4 .left)))
 
 pub head-line-spec : {M : Type 1} → statement M
 head-line-spec =

@@ -3,7 +3,7 @@ use borrow.Author.Needs.{needs}
 use native.Mathlib.Omega.{arith}
 use mathlib.Core.Path.{_≡_}
 use Prim.Native.Nat.{_-_}
-use Rattle.preference.specs.private.Placing.{plainAt}
+use Rattle.preference.specs.private.Testing.{plainAt}
 use Rattle.preference.proofs.PlainOrder.{lifted-at, Counted, counted-none, counted-stray, counted-same, counted-all}
 use Rattle.preference.proofs.is_plain.Statement.{statement}
 use Rattle.preference.proofs.is_plain.Tie as tie

@@ -3,7 +3,7 @@ use mathlib.Core.Path.{_≡_, refl}
 use Prim.Native.Nat.{_-_}
 use native.Mathlib.Omega.{arith}
 use borrow.Author.Needs.{needs}
-use Rattle.preference.specs.private.Placing.{nowhere, placedAs}
+use Rattle.preference.specs.Placing.{nowhere, placedAs}
 use Rattle.preference.specs.declared.Placed.{Placed}
 use Rattle.preference.proofs.Holding.{IsPreference}
 use Rattle.preference.proofs.Placing.{Marked, marked-none, marked-more, not-zero, not-large, not-again, none-placed, place-done}

@@ -4,7 +4,7 @@ use native.Mathlib.Omega.{arith}
 use Prim.Native.Nat.{_-_}
 use mathlib.Core.Path.{refl}
 use Rattle.sets.proofs.Tabulated.{Filled, filled-none, filled-more, filled-all}
-use Rattle.preference.specs.private.Placing.{plainAt}
+use Rattle.preference.specs.private.Testing.{plainAt}
 use Rattle.preference.proofs.PlainOrder.{lifted-at, plain-written}
 use Rattle.preference.proofs.plain_numbers.Statement.{statement}
 use Rattle.preference.proofs.plain_numbers.Tie as tie

@@ -51,7 +51,7 @@ returns-3 c =
     let i = a .before .before in
     let s = i .before .before in
     file-given (s .args .file .now) (s .args .cutoff) _ (i .in-range .ensures) (not-false _ (a .before .if1 .left)) _ (a .read-recorded .ensures)
-    (v .enum-told .given .1) (c .before .table-at .result) (c .before .table-at .ensures)
+    (v .enum-told .given .1) (c .before .table-at .result) (c .before .table-at .ensures .0)
 
 pub read-test-spec : {M : Type 1} → statement M
 read-test-spec =

@@ -1,9 +1,10 @@
 -- `text::fields_of` meets its contract: the fields found so far, and what the next place says, give the answer (`Scanning`).
-use mathlib.Core.Path.{_≡_, refl}
+use mathlib.Core.Path.{_≡_, refl, ap}
 use mathlib.Core.List.{[], _∷_}
 use mathlib.Core.Logic.{⊎-elim}
 use native.Mathlib.Omega.{arith}
 use denote.Enum.Declared
+use Rattle.text.specs.Fields.{fieldsSay}
 use Rattle.text.specs.private.ScanSteps.{Found}
 use Rattle.text.proofs.Scanning.{
   NoNumber,
@@ -67,13 +68,13 @@ enum-told : tie.Need-enum-told
 enum-told c = search needs
 
 returns : tie.Need-returns
-returns c = fields-blank (c .before .before .field-at .ensures) (c .enum-told .given .1)
+returns c = ap fieldsSay (fields-blank (c .before .before .field-at .ensures) (c .enum-told .given .1))
 
 enum-known-f1 : tie.Need-enum-known-f1
 enum-known-f1 c = search needs
 
 returns-2 : tie.Need-returns-2
-returns-2 c = fields-none (c .before .before .field-at .ensures) (only-bad _ (c .before .match .keys2) (c .match2 .keys2))
+returns-2 c = ap fieldsSay (fields-none (c .before .before .field-at .ensures) (only-bad _ (c .before .match .keys2) (c .match2 .keys2)))
 
 field-at-requires-2 : tie.Need-field-at-requires-2
 field-at-requires-2 c κs = found1 (c .before) .inside
@@ -82,7 +83,7 @@ enum-known-f2 : tie.Need-enum-known-f2
 enum-known-f2 c = search needs
 
 returns-3 : tie.Need-returns-3
-returns-3 c = fields-one (found1 (c .before .before .before)) (c .before .field-at2 .ensures) (no-number _ (c .match3 .keys2))
+returns-3 c = ap fieldsSay (fields-one (found1 (c .before .before .before)) (c .before .field-at2 .ensures) (no-number _ (c .match3 .keys2)))
 
 field-at-requires-3 : tie.Need-field-at-requires-3
 field-at-requires-3 c κs = found2 (c .before) .inside
@@ -93,7 +94,7 @@ enum-told-2 c = search needs
 returns-4 : tie.Need-returns-4
 returns-4 c =
     let b = c .before .before .before .before in
-    fields-two (found1 (first b)) (found2 b) (c .before .before .field-at3 .ensures) (c .enum-told2 .given .1)
+    ap fieldsSay (fields-two (found1 (first b)) (found2 b) (c .before .before .field-at3 .ensures) (c .enum-told2 .given .1))
 
 enum-known-f3 : tie.Need-enum-known-f3
 enum-known-f3 c = search needs
@@ -101,7 +102,8 @@ enum-known-f3 c = search needs
 returns-5 : tie.Need-returns-5
 returns-5 c =
     let b = c .before .before .before .before in
-    fields-two-bad (found1 (first b)) (found2 b) (c .before .before .field-at3 .ensures) (only-bad _ (c .before .match4 .keys2) (c .match5 .keys2))
+    ap fieldsSay
+    (fields-two-bad (found1 (first b)) (found2 b) (c .before .before .field-at3 .ensures) (only-bad _ (c .before .match4 .keys2) (c .match5 .keys2)))
 
 field-at-requires-4 : tie.Need-field-at-requires-4
 field-at-requires-4 c κs = found3 (c .before) .inside
@@ -112,12 +114,12 @@ enum-told-3 c = search needs
 returns-6 : tie.Need-returns-6
 returns-6 c =
     let d = c .before .before .before in
-    fields-more (found1 (first (second d))) (found2 (second d)) (found3 d) (c .before .field-at4 .ensures) (no-end _ (c .match6 .keys2))
+    ap fieldsSay (fields-more (found1 (first (second d))) (found2 (second d)) (found3 d) (c .before .field-at4 .ensures) (no-end _ (c .match6 .keys2)))
 
 returns-7 : tie.Need-returns-7
 returns-7 c =
     let d = c .before .before .before .before in
-    fields-three (found1 (first (second d))) (found2 (second d)) (found3 d) (c .before .before .field-at4 .ensures) (c .enum-told3 .given .1)
+    ap fieldsSay (fields-three (found1 (first (second d))) (found2 (second d)) (found3 d) (c .before .before .field-at4 .ensures) (c .enum-told3 .given .1))
 
 pub fields-of-spec : {M : Type 1} → statement M
 fields-of-spec =
