@@ -20,7 +20,9 @@ use Rattle.rules.proofs.Calls.{answered-append}
 use Rattle.rules.proofs.Reports.{only18-by}
 use Rattle.lists.specs.Lists.{gaugeSide}
 use Rattle.lists.specs.OnTable.{handOut, ReachedOn}
-use Rattle.runs.specs.Calling.{arrangement, movesOf, callOf}
+use Rattle.runs.specs.Calling.{arrangement}
+use Rattle.runs.specs.private.Either.{callOf}
+use Rattle.runs.specs.Omitting.{movesOf}
 use Rattle.runs.proofs.Demands.{Started, reached-next}
 use Rattle.writer.specs.Writing.{writeFile}
 use Rattle.blocks.specs.Filling.{pairTable, files, calls, after, text, isEnd, isNone, has, Stops}

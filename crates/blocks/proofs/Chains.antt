@@ -15,22 +15,25 @@ use Rattle.table.specs.Tables.{Legal, tableRows}
 use Rattle.table.proofs.Padding.{pad-length, pad-getD}
 use Rattle.table.proofs.Places.{row-past, within-sub}
 use Rattle.table.proofs.Legality.{length-rows, row-tableRows}
-use Rattle.rules.specs.Machine.{State, Move, Given, nothing, hands, ends, move}
+use Rattle.rules.specs.Machine.{State, Move, Given, nothing, hands, ends}
+use Rattle.rules.specs.private.ByNumber.{move}
 use Rattle.rules.specs.private.Fitting.{Fits}
 use Rattle.rules.specs.Calls.{spent, handed, Call, mostBudget, callBy}
-use Rattle.rules.specs.Reports.{says, lastBy}
+use Rattle.rules.specs.private.Reports.{says, lastBy}
 use Rattle.rules.proofs.Calls.{Paid, cost, cost-lap, cost-pos, call-law}
 use Rattle.rules.proofs.Reports.{all-whole, calls-spent}
 use Rattle.rules.proofs.Renaming.{renamedCall, call-renamed}
 use Rattle.lists.specs.Lists.{Side, gaugeSide}
-use Rattle.lists.specs.Picks.{candidates}
+use Rattle.lists.specs.private.ByNumber.{candidates}
 use Rattle.lists.specs.OnTable.{handOut, callOn, ReachedOn}
 use Rattle.lists.specs.private.Arranging.{indexAt, prefer}
 use Rattle.lists.proofs.Arranging.{length-arrange}
 use Rattle.lists.proofs.CandidateTree.{candidate-tree}
 use Rattle.lists.proofs.ChainRows.{chainOf-within}
 use Rattle.lists.proofs.PlacedRuns.{follows, same-out, reached-placed}
-use Rattle.runs.specs.Calling.{arrangement, movesOf, callOf}
+use Rattle.runs.specs.Calling.{arrangement}
+use Rattle.runs.specs.private.Either.{callOf}
+use Rattle.runs.specs.Omitting.{movesOf}
 use Rattle.runs.proofs.Demands.{Started}
 use Rattle.blocks.specs.Filling.{pairTable}
 

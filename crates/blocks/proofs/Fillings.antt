@@ -19,7 +19,8 @@ use Rattle.lists.specs.Lists.{gaugeSide}
 use Rattle.lists.specs.OnTable.{ReachedOn}
 use Rattle.runs.specs.Paused.{Value, paused, blankValue}
 use Rattle.preference.specs.Preferences.{preferredRefusal}
-use Rattle.runs.specs.Calling.{arrangement, valueRefusal, PausedAt, callOf}
+use Rattle.runs.specs.Calling.{arrangement, valueRefusal, PausedAt}
+use Rattle.runs.specs.private.Either.{callOf}
 use Rattle.blocks.specs.Filling.{files, longest, Filling, calls, after, text, isEnd, isNone, has, Untouched, Stops, Fills, Filled}
 use Rattle.blocks.specs.private.Turning.{Checked, placed, Added, Turned, FillsOn}
 use Rattle.blocks.proofs.Calls.{none-ends, text-one, after-one, has-one, reached-after, added-some}

@@ -8,3 +8,4 @@ pub mod Deciding
 pub mod Listing
 pub mod Existence
 pub mod PlainBlocks
+pub mod Sentences

@@ -18,7 +18,7 @@ use Rattle.rules.specs.Calls.{Reply, refused, spent, handed, end, Call, mostBud
 use Rattle.rules.proofs.Ends.{Ended}
 use Rattle.lists.specs.Lists.{gaugeSide}
 use Rattle.lists.specs.OnTable.{ReachedOn}
-use Rattle.lists.specs.Demand.{Demand}
+use Rattle.lists.specs.private.Demand.{Demand}
 use Rattle.lists.proofs.Listed.{list-unique}
 use Rattle.lists.proofs.Demand.{demand3}
 use Rattle.runs.specs.Paused.{Value, paused}

@@ -27,7 +27,9 @@ use Rattle.lists.specs.Lists.{Side, gaugeSide}
 use Rattle.lists.specs.OnTable.{handOut}
 use Rattle.preference.proofs.Placing.{passes-both}
 use Rattle.runs.specs.Paused.{Value, paused}
-use Rattle.runs.specs.Calling.{Step, byRules, told, movesOf, callOf, refusal, held, valueRefusal, PausedAt, Called}
+use Rattle.runs.specs.Calling.{Step, byRules, told, refusal, held, valueRefusal, PausedAt}
+use Rattle.runs.specs.private.Either.{callOf, CalledOf}
+use Rattle.runs.specs.Omitting.{movesOf}
 use Rattle.writer.specs.Writing.{writeFile, roomRefusal, writeRefusal, writeAnswer, bufferAfter}
 use Rattle.writer.proofs.Sizes.{write-length}
 use Rattle.writer.proofs.Files.{long-enough}
@@ -42,7 +44,7 @@ told-answer t y order omit spent k s = refl
 told-answer t y order omit (handed x) k s = refl
 told-answer t y order omit end k s = refl
 
-module _ (v : Value) (b : ℕ) (r : Step) (c : Called gaugeSide v b r) (ok : valueRefusal gaugeSide v ≡ 0) (s : State) (p : PausedAt gaugeSide v s) where
+module _ (v : Value) (b : ℕ) (r : Step) (c : CalledOf gaugeSide v b r) (ok : valueRefusal gaugeSide v ≡ 0) (s : State) (p : PausedAt gaugeSide v s) where
   abbrev made : Call
   made = callOf (v .table) (gaugeSide (v .table)) (held gaugeSide v) (v .omit) b s
 
@@ -65,14 +67,14 @@ module _ (v : Value) (b : ℕ) (r : Step) (c : Called gaugeSide v b r) (ok : val
 refused-same : (r : Step) (n m : ℕ) → r .answer ≡ refused n → r ≡ refusal m → n ≡ m
 refused-same r n m e d = let z : refused n ≡ refused m = sym e ∙ ap (λ (x : Step). x .answer) d in cc
 
-pub checked-refused : (v : Value) (r : Step) → Called gaugeSide v 0 r → (n : ℕ) → r .answer ≡ refused n → Checked v n
+pub checked-refused : (v : Value) (r : Step) → CalledOf gaugeSide v 0 r → (n : ℕ) → r .answer ≡ refused n → Checked v n
 checked-refused v r c n e = record {
   table = λ h. refused-same r n _ e (c .table h);
   value = λ z k. refused-same r n _ e (c .value z k);
   legal = λ z s p. absurd (never-refused v 0 r c z s p (omega arith) n e);
 }
 
-pub checked-passed : (v : Value) (r : Step) → Called gaugeSide v 0 r → ((n : ℕ) → r .answer ≡ refused n → ⊥) → Checked v 0
+pub checked-passed : (v : Value) (r : Step) → CalledOf gaugeSide v 0 r → ((n : ℕ) → r .answer ≡ refused n → ⊥) → Checked v 0
 checked-passed v r c k = record {
   table = λ h. absurd (k (valueRefusal gaugeSide v) (ap (λ (x : Step). x .answer) (c .table h)));
   value = λ z n. absurd (k 15 (ap (λ (x : Step). x .answer) (c .value z n)));
@@ -141,7 +143,7 @@ module _ (t : Table) (before : List ℕ) (at : ℕ) (low : at ≤ length before)
       }
 
 -- ---- a turn
-module _ (v : Value) (size : length (v .table .rows) ≡ 64) (r : Step) (called : Called gaugeSide v mostBudget r) (before : List ℕ) (at : ℕ)
+module _ (v : Value) (size : length (v .table .rows) ≡ 64) (r : Step) (called : CalledOf gaugeSide v mostBudget r) (before : List ℕ) (at : ℕ)
     (low : at ≤ length before) where
   placed-none : placed before at [] ≡ before
   placed-none = ap (λ (k : ℕ). take at before ++ drop k before) (add-zero at) ∙ take-append-drop at before

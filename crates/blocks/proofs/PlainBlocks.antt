@@ -18,8 +18,8 @@ use Rattle.rules.specs.Machine.{fresh}
 use Rattle.lists.specs.Arrangements.{plain}
 use Rattle.lists.specs.Lists.{gaugeSide, GaugeList, PreferredList}
 use Rattle.lists.proofs.Standing.{length-plain}
+use Rattle.lists.proofs.Plain.{base-plain}
 use Rattle.lists.proofs.BothSides.{gauge-fair}
-use Rattle.lists.proofs.Plain.{list-plain}
 use Rattle.preference.specs.Preferences.{numbersOf, plainNumbers}
 use Rattle.preference.proofs.Placing.{both-pass}
 use Rattle.preference.proofs.PlainOrder.{plain-order, plain-preference, plain-passes}
@@ -52,7 +52,7 @@ module _ (t : Table) (l : Legal t) where
 
   pub plain-list : (xs : List (List ℕ)) → ListOf t numbers xs ↔ GaugeList t xs
   plain-list xs =
-      subst (λ (o : List ℕ). PreferredList t (gaugeSide t) o xs ↔ GaugeList t xs) (sym plain-held) (list-plain t (gaugeSide t) (gauge-fair t l) xs)
+      subst (λ (o : List ℕ). PreferredList t (gaugeSide t) o xs ↔ GaugeList t xs) (sym plain-held) (base-plain t (gaugeSide t) (gauge-fair t l) xs)
 
   pub whole-gauge-list : (xs : List (List ℕ)) → GaugeList t xs → (is : List Item) × Blocks (paused t numbers false fresh) is × (output is ≡ files t xs)
   whole-gauge-list xs g = whole-list t numbers plain-started (ap length numbers-are ∙ size) xs (plain-list xs .1 g)

@@ -22,7 +22,8 @@ use Rattle.rules.specs.Calls.{Reply, refused, spent, handed, end, Call, mostBud
 use Rattle.lists.specs.Lists.{gaugeSide, PreferredList}
 use Rattle.lists.specs.OnTable.{handOut}
 use Rattle.runs.specs.Paused.{Value, paused, blankValue, gaugeValue}
-use Rattle.runs.specs.Calling.{arrangement, movesOf, valueRefusal, PausedAt}
+use Rattle.runs.specs.Calling.{arrangement, valueRefusal, PausedAt}
+use Rattle.runs.specs.Omitting.{movesOf}
 use Rattle.writer.specs.Writing.{writeFile}
 use Rattle.blocks.specs.declared.Block.{Block}
 

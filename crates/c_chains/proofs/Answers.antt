@@ -251,7 +251,7 @@ conflicts-made t g c n = go (pair-known t g c)
     go : Known (pairRefusal t g c) → (a : Answer (List ℕ)) × GivesConflicts t g c a
     go (inl z) = let rows : List ℕ = conflictRows (t .rows) (g - 1) (c - 1) in
         (record { refusal = 0; value = rows }, gives t g c n (pair-facts t g c n z) rows refl)
-    go (inr (x, e)) = (refused x noRows, gives-refused t g c x (refused x noRows) e refl)
+    go (inr (x, e)) = (refused x noRows, gives-refused _ _ x (refused x noRows) e refl)
 
 module _ (t : List ℕ) (g c : ℕ) (out : List ℕ) where
   conflict-dec : Dec ((length t < 66) ⊎ (length out < 64))

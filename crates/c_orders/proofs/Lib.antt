@@ -1,3 +1,4 @@
--- Laws that belong to no one function.
+-- Laws that belong to no one function. For users of the entry: `Answers` and `Sentences`.
 pub mod Serving
 pub mod Answers
+pub mod Sentences

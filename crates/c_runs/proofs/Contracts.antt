@@ -1,4 +1,5 @@
--- The contracts of a run call and of a fresh start, from what each gives by value: demand 3 in words comes with it (`runs-of`, `starts-of`).
+-- The contracts of a run call and of a fresh start, from what each gives by value: demand 3 in words comes with it (`runs-of`, `starts-of`). And the words
+-- that a start left which returned 0 hold the fresh run (`start-passes`, `start-fresh`, `start-omitting`).
 use mathlib.Core.Path.{_≡_, sym, ap, _∙_, subst}
 use mathlib.Core.Logic.{_⊎_, inr}
 use mathlib.Core.Bool.{Bool, true, false, not, cond}
@@ -16,7 +17,8 @@ use Rattle.rules.specs.Machine.{fresh}
 use Rattle.lists.specs.Lists.{Side}
 use Rattle.preference.specs.Preferences.{preferredRefusal}
 use Rattle.runs.specs.Paused.{Value, paused, blankValue}
-use Rattle.runs.specs.Calling.{Called, SharesAll}
+use Rattle.runs.specs.Demand.{SharesAll}
+use Rattle.runs.specs.Omitting.{CalledEither}
 use Rattle.words.specs.Layouts.{tableAt, numbersAt}
 use Rattle.words.specs.Serving.{Gives}
 use Rattle.words.proofs.Answers.{gives-long}
@@ -32,12 +34,12 @@ use Rattle.c_runs.proofs.WordCalls.{keeps-word-demand, keeps-word-omits
 
 -- ---- the contract of a call
 -- without what it carries on: a call of a list
-pub called-of : (side : Table → Side) (n : ℕ) (w : List ℕ) (b : ℕ) (x : Seen) → GivesCall (RunCall side) n w b x → GivesCall (Called side) n w b x
+pub called-of : (side : Table → Side) (n : ℕ) (w : List ℕ) (b : ℕ) (x : Seen) → GivesCall (RunCall side) n w b x → GivesCall (CalledEither side) n w b x
 called-of side n w b x g = record {
   short = g .short;
   served = λ h.
       let s = g .served h in
-      record { answer = s .answer; promised = s .promised .called; says = s .says; leaves-first = s .leaves-first; leaves-second = s .leaves-second };
+      record { answer = s .answer; promised = s .promised .either; says = s .says; leaves-first = s .leaves-first; leaves-second = s .leaves-second };
 }
 
 pub runs-of : (side : Table → Side) → Startable side → {n : ℕ} {w : List ℕ} {b : ℕ} {out w′ out′ : List ℕ} {r : ℕ}
@@ -117,6 +119,16 @@ module _ (side : Table → Side) (all : Startable side) (n : ℕ) (t o : List �
         let a = accepted g e in
         keeps-word-omits side all n T K (all T (rows-size 2 t) K (numbers-read 0 o .size) (a .ok)) out′ (as-omit true (omitting z) (a .words));
   }
+
+  -- a start that returned 0: nothing is refused, and the words that it left hold the fresh run
+  pub start-passes : Starts side n t o omit out out′ r → r ≡ 0 → preferredRefusal T (side T .count) K ≡ 0
+  start-passes s e = accepted (s .gives) e .ok
+
+  pub start-fresh : Starts side n t o omit out out′ r → r ≡ 0 → omit ≡ 0 → FreshWords n T K false out′
+  start-fresh s e z = as-omit false (plain z) (accepted (s .gives) e .words)
+
+  pub start-omitting : Starts side n t o omit out out′ r → r ≡ 0 → ¬ (omit ≡ 0) → FreshWords n T K true out′
+  start-omitting s e z = as-omit true (omitting z) (accepted (s .gives) e .words)
 
 pub starts-of : (side : Table → Side) (all : Startable side) {n : ℕ} {t o : List ℕ} {omit : ℕ} {out out′ : List ℕ} {r : ℕ}
     → Given side all n t o omit out out′ r → Starts side n t o omit out out′ r

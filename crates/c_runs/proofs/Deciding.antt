@@ -16,7 +16,9 @@ use Rattle.rules.proofs.Calls.{above-by}
 use Rattle.lists.specs.Lists.{Side}
 use Rattle.lists.specs.OnTable.{handOut}
 use Rattle.runs.specs.Paused.{Value}
-use Rattle.runs.specs.Calling.{Step, refusal, told, movesOf, callOf, held, valueRefusal, PausedAt, Called}
+use Rattle.runs.specs.Calling.{Step, refusal, told, held, valueRefusal, PausedAt}
+use Rattle.runs.specs.private.Either.{callOf, CalledOf}
+use Rattle.runs.specs.Omitting.{movesOf}
 use Rattle.runs.proofs.Answered.{paused-state, called-refused}
 use Rattle.runs.proofs.Deciding.{paused-decided}
 use Rattle.c_runs.proofs.Sides.{Startable}
@@ -33,7 +35,7 @@ module _ (side : Table → Side) (v : Value) where
     pub within : b ≤ mostBudget
     pub is : r ≡ told (v .table) here (v .order) (v .omit) (callOf (v .table) here (held side v) (v .omit) b state)
 
-  pub called-cases : Startable side → length (v .table .rows) ≡ 64 → length (v .order) ≡ 64 → (b : ℕ) (r : Step) → Called side v b r
+  pub called-cases : Startable side → length (v .table .rows) ≡ 64 → length (v .order) ≡ 64 → (b : ℕ) (r : Step) → CalledOf side v b r
       → ((m : ℕ) × ¬ (m ≡ 0) × (r ≡ refusal m)) ⊎ Moved b r
   called-cases all rows long b r c = go (ℕ-discrete (valueRefusal side v) 0)
     where
@@ -53,14 +55,14 @@ module _ (side : Table → Side) (v : Value) where
       go (no z) = inl (valueRefusal side v, z, c .table (omega (arith, z)))
       go (yes z) = by-state z (paused-decided side v (all (v .table) rows (v .order) long z)) (decLe b mostBudget)
 
-  pub called-exists : Startable side → length (v .table .rows) ≡ 64 → length (v .order) ≡ 64 → (b : ℕ) → (r : Step) × Called side v b r
+  pub called-exists : Startable side → length (v .table .rows) ≡ 64 → length (v .order) ≡ 64 → (b : ℕ) → (r : Step) × CalledOf side v b r
   called-exists all rows long b = go (ℕ-discrete (valueRefusal side v) 0)
     where
       -- what the rules give from the state s
       by : State → Step
       by s = told (v .table) here (v .order) (v .omit) (callOf (v .table) here (held side v) (v .omit) b s)
 
-      by-state : valueRefusal side v ≡ 0 → ((s : State) × PausedAt side v s) ⊎ ((s : State) → PausedAt side v s → ⊥) → (r : Step) × Called side v b r
+      by-state : valueRefusal side v ≡ 0 → ((s : State) × PausedAt side v s) ⊎ ((s : State) → PausedAt side v s → ⊥) → (r : Step) × CalledOf side v b r
       by-state z (inl (s, p)) = (
         by s,
         record {
@@ -74,6 +76,6 @@ module _ (side : Table → Side) (v : Value) where
         record { table = λ l. absurd (omega (arith, z)); value = λ e n. refl; rules = λ e s p. absurd (none s p) },
       )
 
-      go : Dec (valueRefusal side v ≡ 0) → (r : Step) × Called side v b r
+      go : Dec (valueRefusal side v ≡ 0) → (r : Step) × CalledOf side v b r
       go (no z) = (refusal (valueRefusal side v), called-refused side v b (valueRefusal side v) refl (omega (arith, z)) (refusal (valueRefusal side v)) refl)
       go (yes z) = by-state z (paused-decided side v (all (v .table) rows (v .order) long z))

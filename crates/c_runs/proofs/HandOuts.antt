@@ -24,7 +24,9 @@ use Rattle.lists.proofs.BothSides.{Fair}
 use Rattle.lists.proofs.PreferredSides.{prefer-fair}
 use Rattle.lists.proofs.PlacedRuns.{hand-out-placed, good-below, reached-placed}
 use Rattle.conflicts.specs.Omitting.{keepsOf}
-use Rattle.runs.specs.Calling.{sequence, movesOf, callOf}
+use Rattle.runs.specs.Calling.{sequence}
+use Rattle.runs.specs.private.Either.{callOf}
+use Rattle.runs.specs.Omitting.{movesOf}
 use Rattle.runs.proofs.HandOuts.{handed-leaf, sequence-of}
 
 -- ---- a move gives a hand-out only as it becomes Handed, with the picks that are handed out

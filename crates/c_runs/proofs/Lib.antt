@@ -1,4 +1,4 @@
--- Laws that belong to no one function.
+-- Laws that belong to no one function. For users of the entries: `Foreign`, `Pinned` and `Sentences`.
 pub mod Serving
 pub mod Sides
 pub mod Deciding
@@ -9,3 +9,4 @@ pub mod WordCalls
 pub mod Contracts
 pub mod Foreign
 pub mod Pinned
+pub mod Sentences

@@ -17,7 +17,9 @@ use Rattle.rules.specs.Machine.{fresh}
 use Rattle.lists.specs.Lists.{Side}
 use Rattle.preference.specs.Preferences.{preferredRefusal}
 use Rattle.runs.specs.Paused.{Value, paused, blankValue}
-use Rattle.runs.specs.Calling.{Called, valueRefusal}
+use Rattle.runs.specs.Calling.{valueRefusal}
+use Rattle.runs.specs.Omitting.{CalledEither}
+use Rattle.runs.proofs.Answered.{called-both}
 use Rattle.runs.proofs.Demands.{Started, Starts as StartsAt, carries-demand, carries-omits, demand-answers-unique, omits-answers-unique}
 use Rattle.runs.proofs.Readings.{called-unique}
 use Rattle.runs.proofs.Starting.{promised}
@@ -72,17 +74,19 @@ module _ (side : Table → Side) (n : ℕ) (w : List ℕ) (b : ℕ) (out : List 
 
   pub runs-unique : (x y c d : List ℕ) (r s : ℕ) → Runs side n w b out x c r → Runs side n w b out y d s → (x ≡ y) × (c ≡ d) × (r ≡ s)
   runs-unique x y c d r s g f =
-      two-unique w out shortRun (λ u v p q. called-unique side (valueAt n w) b u v (p .called) (q .called)) x c y d r s (g .gives) (f .gives)
+      two-unique w out shortRun (λ u v p q. called-unique side (valueAt n w) b u v (p .either) (q .either)) x c y d r s (g .gives) (f .gives)
 
   pub runs-exists : Startable side → (w′ : List ℕ) × (out′ : List ℕ) × (r : ℕ) × Runs side n w b out w′ out′ r
   runs-exists all =
       let v = valueAt n w in
       let (s, c) = called-exists side v all (rows-size 3 w) (numbers-read 67 w .size) b in
       let starts : StartsAt side v = λ ok. all (v .table) (rows-size 3 w) (v .order) (numbers-read 67 w .size) ok in
+      let e = called-both side v b s c in
       let promise : RunCall side v b s = record {
-        called = c;
-        demand = carries-demand side v b s starts c;
-        omits = carries-omits side v b s starts c;
+        called = e .called;
+        demand = carries-demand side v b s starts (e .called);
+        either = e;
+        omits = carries-omits side v b s starts e;
       } in
       let (w′, out′, r, g) = two-exists w out shortRun s promise in
       (w′, out′, r, runs-of side all g)
@@ -117,15 +121,16 @@ module _ (side : Table → Side) (n : ℕ) where
           → _≡_ {A = Seen} (record { lent = l; number = i; run = p; step = s }) (record { lent = m; number = j; run = q; step = t })
       go l m i j p q s t a b c d = rw (a, b, c, d)
 
-  one-call : (w : List ℕ) (b : ℕ) (x y : Seen) → GivesCall (Called side) n w b x → GivesCall (Called side) n w b y → x .lent ≡ y .lent → x ≡ y
+  one-call : (w : List ℕ) (b : ℕ) (x y : Seen) → GivesCall (CalledEither side) n w b x → GivesCall (CalledEither side) n w b y → x .lent ≡ y .lent → x ≡ y
   one-call w b x y g f e =
       let (c, d, h) = two-unique w (y .lent) (shortRun side n w b (y .lent)) (called-unique side (valueAt n w) b) (x .run) (x .step) (y .run) (y .step)
       (x .number) (y .number) (moved g) f in
       seen-same x y e h c d
     where
-      moved : GivesCall (Called side) n w b x → GivesCall (Called side) n w b (record { lent = y .lent; number = x .number; run = x .run; step = x .step })
+      moved : GivesCall (CalledEither side) n w b x
+          → GivesCall (CalledEither side) n w b (record { lent = y .lent; number = x .number; run = x .run; step = x .step })
       moved h =
-          subst (λ (l : List ℕ). GivesCall (Called side) n w b (record { lent = l; number = x .number; run = x .run; step = x .step })) e h
+          subst (λ (l : List ℕ). GivesCall (CalledEither side) n w b (record { lent = l; number = x .number; run = x .run; step = x .step })) e h
 
   pub word-calls-unique : (w bs : List ℕ) (xs ys : List Seen) → WordCalls side n w bs xs → WordCalls side n w bs ys → lents xs ≡ lents ys → xs ≡ ys
   word-calls-unique w [] [] [] c d e = refl
@@ -168,7 +173,7 @@ module _ (side : Table → Side) (n : ℕ) where
         subst (λ (v : Value).
         valueRefusal side v ≡ 0 → 131 ≤ length (x .lent) → (y : List ℕ) → FreshWords n (v .table) (v .order) false y
         → (es : List ℕ) (zs : List Seen) → WordCalls side n y es zs → leftWords y zs ≡ leftWords u xs
-        → WordDemand side n (v .table) (v .order) y (es ++ (b ∷ [])) (zs ++ (x ∷ []))) (d .last ∙ d .holds .last) h (g .passed) l u f bs xs c refl
+        → WordDemand side n (v .table) (v .order) y (es ++ (b ∷ [])) (zs ++ (x ∷ []))) (d .last ∙ d .holds .rules .last) h (g .passed) l u f bs xs c refl
 
     pub carries-word-omits-made : FreshWords n t k true u → CarriesWordOmits side n (leftWords u xs) b x
         → WordOmits side n t k u (bs ++ (b ∷ [])) (xs ++ (x ∷ []))

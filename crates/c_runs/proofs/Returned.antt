@@ -27,7 +27,9 @@ use Rattle.lists.proofs.PlacedCandidates.{AllBelow}
 use Rattle.lists.proofs.PlacedRuns.{good-below, good-short, reached-placed}
 use Rattle.preference.specs.Preferences.{preferredRefusal}
 use Rattle.runs.specs.Paused.{Value, paused, blankValue}
-use Rattle.runs.specs.Calling.{Step, refusal, sequence, arrangement, byRules, movesOf, callOf, held, Called}
+use Rattle.runs.specs.Calling.{Step, refusal, sequence, arrangement, byRules, held}
+use Rattle.runs.specs.private.Either.{callOf, CalledOf}
+use Rattle.runs.specs.Omitting.{movesOf}
 use Rattle.runs.proofs.Padding.{take-padded}
 use Rattle.runs.proofs.Demands.{reached-next}
 use Rattle.run_words.proofs.ReadingBack.{Numbers, Held}
@@ -171,7 +173,7 @@ module _ (side : Table → Side) (all : Startable side) where
               }
           go end e = blank _ (λ y d. let z : _≡_ {A = ℕ} 0 1 = cc in omega arith) refl refl
 
-    pub called-held : Called side v b r → Held (r .next)
+    pub called-held : CalledOf side v b r → Held (r .next)
     called-held c = go (called-cases side v all rows (h .size) b r c)
       where
         go : ((m : ℕ) × ¬ (m ≡ 0) × (r ≡ refusal m)) ⊎ Moved side v b r → Held (r .next)
@@ -179,7 +181,7 @@ module _ (side : Table → Side) (all : Startable side) where
         go (inr m) = moved-held m
 
     -- a call is refused with a number that is not 0, and then everything else is blank; or its answer can be read from words
-    pub called-read : Called side v b r → ((m : ℕ) × ¬ (m ≡ 0) × (r ≡ refusal m)) ⊎ (((n : ℕ) → ¬ (r .answer ≡ refused n)) × Readable r)
+    pub called-read : CalledOf side v b r → ((m : ℕ) × ¬ (m ≡ 0) × (r ≡ refusal m)) ⊎ (((n : ℕ) → ¬ (r .answer ≡ refused n)) × Readable r)
     called-read c = go (called-cases side v all rows (h .size) b r c)
       where
         go : ((m : ℕ) × ¬ (m ≡ 0) × (r ≡ refusal m)) ⊎ Moved side v b r

@@ -17,7 +17,8 @@ use Rattle.table.specs.Tables.{chainRows}
 use Rattle.rules.specs.Calls.{Reply, refused, spent, handed, end}
 use Rattle.lists.specs.Lists.{Side}
 use Rattle.runs.specs.Paused.{Value}
-use Rattle.runs.specs.Calling.{Step, refusal, kept, Called}
+use Rattle.runs.specs.Calling.{Step, refusal, kept}
+use Rattle.runs.specs.private.Either.{CalledOf}
 use Rattle.words.specs.Layouts.{wordAt, numbersAt, chainAt}
 use Rattle.words.specs.Serving.{left as leftIn}
 use Rattle.words.proofs.Serving.{left-refused}
@@ -65,7 +66,7 @@ accepted-number end h = refl
 
 module _ (side : Table → Side) (all : Startable side) (n : ℕ) where
   -- what is seen of a call reads as its answer, and the words that it leaves as the value that the next call gets
-  module _ (w : List ℕ) (l : 199 ≤ length w) (b : ℕ) (s : Step) (x : Seen) (m : 131 ≤ length (x .lent)) (c : Called side (valueAt n w) b s)
+  module _ (w : List ℕ) (l : 199 ≤ length w) (b : ℕ) (s : Step) (x : Seen) (m : 131 ≤ length (x .lent)) (c : CalledOf side (valueAt n w) b s)
       (h : Tells n w s x) where
     next-back : x .number ≡ 0 → valueAt n (x .run) ≡ s .next
     next-back e =

@@ -21,8 +21,9 @@ use Rattle.lists.specs.Lists.{Side, gaugeSide, caseSide}
 use Rattle.lists.specs.Demand.{OneSet}
 use Rattle.preference.specs.Preferences.{preferredRefusal}
 use Rattle.runs.specs.Paused.{Value, paused}
-use Rattle.runs.specs.Calling.{Step, refusal, Called, left, valueRefusal, RunDemand, sets, Ends}
-use Rattle.runs.specs.Omitting.{RunOmits}
+use Rattle.runs.specs.Calling.{Step, refusal, left, valueRefusal}
+use Rattle.runs.specs.Demand.{RunDemand, sets, Ends}
+use Rattle.runs.specs.Omitting.{CalledEither, RunOmits}
 use Rattle.words.specs.Layouts.{wordAt, numbersAt, chainAt}
 use Rattle.words.specs.Serving.{GivesTwo}
 use Rattle.run_words.specs.Values.{valueAt, valueWords, refusalNumber, stepWords}
@@ -57,7 +58,7 @@ abbrev pub WordCalls : (Table → Side) → ℕ → List ℕ → List ℕ → Li
 WordCalls side n w [] [] = Unit {0}
 WordCalls side n w [] (x ∷ xs) = ⊥
 WordCalls side n w (b ∷ bs) [] = ⊥
-WordCalls side n w (b ∷ bs) (x ∷ xs) = (131 ≤ length (x .lent)) × (GivesCall (Called side) n w b x × WordCalls side n (x .run) bs xs)
+WordCalls side n w (b ∷ bs) (x ∷ xs) = (131 ≤ length (x .lent)) × (GivesCall (CalledEither side) n w b x × WordCalls side n (x .run) bs xs)
 
 -- the words of the run that they leave
 abbrev pub leftWords : List ℕ → List Seen → List ℕ

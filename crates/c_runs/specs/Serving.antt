@@ -17,8 +17,9 @@ use Rattle.rules.specs.Machine.{fresh}
 use Rattle.lists.specs.Lists.{Side}
 use Rattle.preference.specs.Preferences.{preferredRefusal}
 use Rattle.runs.specs.Paused.{Value, paused, blankValue}
-use Rattle.runs.specs.Calling.{Step, Called, KeepsDemand, CarriesDemand, SharesAll}
-use Rattle.runs.specs.Omitting.{KeepsOmits, CarriesOmits}
+use Rattle.runs.specs.Calling.{Step, Called}
+use Rattle.runs.specs.Demand.{KeepsDemand, CarriesDemand, SharesAll}
+use Rattle.runs.specs.Omitting.{CalledEither, KeepsOmits, CarriesOmits}
 use Rattle.words.specs.Layouts.{tableAt, numbersAt}
 use Rattle.words.specs.Serving.{Gives}
 use Rattle.run_words.specs.Values.{valueWords}
@@ -50,6 +51,7 @@ pub record Starts (side : Table → Side) (n : ℕ) (t o : List ℕ) (omit : ℕ
 pub record RunCall (side : Table → Side) (v : Value) (b : ℕ) (s : Step) : Type 0 where
   pub called : Called side v b s
   pub demand : CarriesDemand side v b s
+  pub either : CalledEither side v b s
   pub omits : CarriesOmits side v b s
 
 -- a call of the run in the words w of the side with number n, with the budget b: the next value in their place, and the answer; and it carries on what

@@ -1,32 +1,39 @@
 -- The entries one after another: what a call of the reader leaves in the slices is what the writer and the comparison take, the test that the file holds
--- (`read-back`, `read-passes`); and both refuse a word that is no kind with 10, or else 11 (`no-kind-written`,
--- `no-kind-compared`).
+-- (`read-back`, `read-passes`), and its table at the cutoff stands beside it (`read-table`); and both refuse a word that is no kind with 10, or else 11
+-- (`no-kind-written`, `no-kind-compared`).
 use mathlib.Core.Path.{_≡_, ap, sym, _∙_}
-use mathlib.Core.Bool.{false}
+use mathlib.Core.Bool.{true, false}
 use mathlib.Core.Logic.{_⊎_, inl, inr}
 use mathlib.Core.List.{List}
 use Prim.Native.Nat.{ℕ, _<_, _≤_}
 use native.Mathlib.Omega.{arith}
 use lib.IntN.{ℤ}
 use lib.ListN.{length}
-use borrow.Author.Tests.{ne-eqb}
+use borrow.Author.Tests.{eq-eqb, ne-eqb}
 use Rattle.refusals.specs.Answers.{verdict}
-use Rattle.recorded.specs.Tests.{LegalTest, testRefusal}
+use Rattle.recorded.specs.Tests.{LegalTest, testRefusal, tableOf, cutoffFirst}
 use Rattle.recorded.specs.Equality.{twoRefusal, ComparedAs}
 use Rattle.recorded.specs.declared.Test.{Test}
 use Rattle.recorded.specs.declared.Compared.{Compared}
 use Rattle.recorded.proofs.Legality.{legal-test}
-use Rattle.reader.specs.Reading.{readTest}
+use Rattle.reader.specs.Reading.{readRecorded, readTest}
 use Rattle.reader.proofs.Answered.{read-test-legal}
 use Rattle.writer.specs.Writing.{roomRefusal}
-use Rattle.words.specs.Layouts.{wordAt}
+use Rattle.words.specs.Layouts.{wordAt, tableAt, tableWords}
 use Rattle.words.specs.Serving.{left}
+use Rattle.words.proofs.Answers.{left-zero}
+use Rattle.words.proofs.Back.{table-back}
 use Rattle.c_tests.specs.Layouts.{isKind, testAt, testWords}
 use Rattle.c_tests.specs.Serving.{ShortTest, leftReadings, LeavesTest, ReadsTest, WrittenTest}
 use Rattle.c_tests.proofs.Reading.{test-back, no-kind-refused}
 
 not-short : {n m : ℕ} → ¬ (m < n) → n ≤ m
 not-short {n} {m} h = omega arith
+
+its-table : (file : List ℕ) (cutoff : ℕ) → readTest file cutoff .refusal ≡ 0
+    → readTest file cutoff .value .table ≡ tableOf (readTest file cutoff .value .test) cutoff
+unfolding readTest
+its-table file cutoff e = rw (eq-eqb (cutoffFirst cutoff (readRecorded true file .refusal)) 0 e)
 
 -- ---- a call of the reader that returned 0
 module _ (file : List ℕ) (cutoff : ℕ) (w : List ℕ) (v : List ℤ) (t w′ : List ℕ) (v′ : List ℤ) (t′ : List ℕ) (r : ℕ)
@@ -47,6 +54,14 @@ module _ (file : List ℕ) (cutoff : ℕ) (w : List ℕ) (v : List ℤ) (t w′ 
       ∙ ap (λ (y : List ℤ). testAt (left 0 (testWords x) w) y) (leaves .readings ∙ ap (λ (n : ℕ). leftReadings n (x .readings) v) e)
       ∙ test-back x (legal .entries-legal .rows-length) (legal .readings-length) w v
       (not-short (λ s. long (inl (inl s)))) (not-short (λ s. long (inl (inr s))))
+
+  -- "and gives the test and its table": at that cutoff
+  pub read-table : tableAt 0 t′ ≡ tableOf (testAt w′ v′) cutoff
+  read-table =
+      let y = readTest file cutoff .value .table in
+      ap (tableAt 0) (leaves .table ∙ left-zero r (tableWords y) t e)
+      ∙ table-back t y (read-test-legal file cutoff (sym (leaves .number) ∙ e) .1 .rows-length) (not-short (λ s. long (inr s)))
+      ∙ its-table file cutoff (sym (leaves .number) ∙ e) ∙ ap (λ (x : Test). tableOf x cutoff) (sym read-back)
 
   pub read-passes : testRefusal (testAt w′ v′) ≡ 0
   read-passes = ap testRefusal read-back ∙ legal-test (readTest file cutoff .value .test) legal

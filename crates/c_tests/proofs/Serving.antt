@@ -22,7 +22,7 @@ use Rattle.c_tests.specs.Layouts.{testAt, testWords}
 use Rattle.c_tests.specs.private.Putting.{PutReadings}
 use Rattle.c_tests.specs.Serving.{ShortTest, leftReadings, LeavesTest, ReadsTest, WritesTest}
 
-readings-refused : (n : ℕ) (vs v : List ℤ) → ¬ (n ≡ 0) → leftReadings n vs v ≡ v
+pub readings-refused : (n : ℕ) (vs v : List ℤ) → ¬ (n ≡ 0) → leftReadings n vs v ≡ v
 readings-refused n vs v h = rw (ne-eqb n 0 h)
 
 -- ---- the reader: it answered a, and n is the answer's number

@@ -1,6 +1,6 @@
 -- The second theorem of R-2: a maximal chain belongs to some irreducible cover exactly when it holds an essential pair
 -- (`irreducible-iff-essential`; Lemma 3 of source document 003), and both theorems together (`conflict-claims`). One way, some pair is held
--- by this member alone, and the essential pair above it is held by none else. The other way, each pair outside the chain lies in a maximal
+-- by this member alone (`own-pair`), and the essential pair above it is held by none else. The other way, each pair outside the chain lies in a maximal
 -- chain without the essential pair; these and the chain cover the table, and no irreducible part of them can do without the chain.
 use mathlib.Core.Path.{_≡_, refl, sym, subst}
 use mathlib.Core.Logic.{_⊎_, inl, inr, _↔_, _≢_}
@@ -10,7 +10,7 @@ use native.Mathlib.Decide.{ℕ-discrete}
 use Rattle.table.specs.Pairs.{Has}
 use Rattle.table.specs.Chains.{IsMaximal}
 use Rattle.conflicts.specs.Conflicts.{Includes, Essential, HoldsEssential}
-use Rattle.conflicts.specs.Covers.{Together, Cover, InIrreducible, ConflictClaims}
+use Rattle.conflicts.specs.Covers.{Together, Cover, Irreducible, InIrreducible, ConflictClaims}
 use Rattle.conflicts.proofs.Searching.{has-dec, Pair, pairsOf, mem-pairs, pairs-mem, all-or, pairs-or}
 use Rattle.conflicts.proofs.Holding.{Common, no-conflict-common, conflict-apart, include-holds, holds-iff-conflicts}
 use Rattle.conflicts.proofs.Essentials.{Lacks, lacks-not, include-or, EssentialAbove, essential-above}
@@ -32,10 +32,21 @@ module _ (r m : List ℕ) where
       swap (inl f) = inr f
       swap (inr w) = inl (w .0, (w .1, w .2 .0), w .2 .1)
 
-  pub irreducible-essential : InIrreducible r m → HoldsEssential r m
-  irreducible-essential i =
+  -- "no ladder can be dropped": a member of an irreducible cover holds a pair that no other member holds
+  pub own-pair : (xs : List (List ℕ)) → Irreducible r xs → List·Memᴰ m xs
+      → (g : ℕ) × (c : ℕ) × Has r g c × Has m g c × ((x : List ℕ) → List·Memᴰ x xs → Has x g c → x ≡ m)
+  own-pair xs i k =
       go (pairs-or r (λ g c. (x : List ℕ) × (List·Memᴰ x xs × (x ≢ m)) × Has x g c) (λ g c. (x : List ℕ) → List·Memᴰ x xs → Has x g c → x ≡ m)
       (λ g c p. other-or xs g c))
+    where
+      go : Together r (λ x. List·Memᴰ x xs × (x ≢ m)) ⊎ ((g : ℕ) × (c : ℕ) × Has r g c × ((x : List ℕ) → List·Memᴰ x xs → Has x g c → x ≡ m))
+          → (g : ℕ) × (c : ℕ) × Has r g c × Has m g c × ((x : List ℕ) → List·Memᴰ x xs → Has x g c → x ≡ m)
+      go (inl t) = absurd (i .needed m k t)
+      go (inr (g, c, p, only)) =
+          let (x, l, h) = i .cover .together g c p in (g, c, p, subst (λ (y : List ℕ). Has y g c) (only x l h) h, only)
+
+  pub irreducible-essential : InIrreducible r m → HoldsEssential r m
+  irreducible-essential i = go (own-pair xs (i .irreducible) (i .belongs))
     where
       xs : List (List ℕ)
       xs = i .members
@@ -43,10 +54,8 @@ module _ (r m : List ℕ) where
       cover : Cover r xs
       cover = i .irreducible .cover
 
-      go : Together r (λ x. List·Memᴰ x xs × (x ≢ m)) ⊎ ((g : ℕ) × (c : ℕ) × Has r g c × ((x : List ℕ) → List·Memᴰ x xs → Has x g c → x ≡ m))
-          → HoldsEssential r m
-      go (inl t) = absurd (i .irreducible .needed m (i .belongs) t)
-      go (inr (g, c, p, only)) =
+      go : (g : ℕ) × (c : ℕ) × Has r g c × Has m g c × ((x : List ℕ) → List·Memᴰ x xs → Has x g c → x ≡ m) → HoldsEssential r m
+      go (g, c, p, h, only) =
           record { gauge = a .gauge; case = a .case; held = subst (λ (x : List ℕ). Has x (a .gauge) (a .case)) same (y .2); essential = a .essential }
         where
           a : EssentialAbove r g c

@@ -5,6 +5,7 @@ pub mod Holding
 pub mod Essentials
 pub mod Reducing
 pub mod Covering
+pub mod Sentences
 pub mod SamePairs
 pub mod Testing
 pub mod Example

@@ -22,7 +22,8 @@ use Rattle.lists.specs.OnTable.{callsOn}
 use Rattle.lists.proofs.BothSides.{Fair, gauge-fair, case-fair}
 use Rattle.lists.proofs.Keeping.{demand-keeping, keeping-ends, keeping-all, keeping-unique}
 use Rattle.conflicts.specs.Conflicts.{HoldsEssential}
-use Rattle.conflicts.specs.Omitting.{keepsOf, omittingCalls, Omits}
+use Rattle.conflicts.specs.Omitting.{keepsOf, omittingCalls}
+use Rattle.conflicts.specs.private.Omits.{Omits}
 use Rattle.conflicts.proofs.Testing.{holds-test}
 
 module _ (t : Table) (l : Legal t) where

@@ -9,9 +9,9 @@ use native.Mathlib.Omega.{arith}
 use lib.ListN.{length}
 use Rattle.table.specs.Pairs.{Cases}
 use Rattle.rules.proofs.Sequences.{before-irrefl, before-trans}
-use Rattle.lists.specs.PickSequence.{pickSeq, Precedes}
-use Rattle.lists.specs.Lists.{SideList}
+use Rattle.lists.specs.Lists.{SideList, baseKey, Precedes}
 use Rattle.lists.proofs.Listed.{chainsInOrder, gauge-list}
+use Rattle.lists.proofs.Plain.{base-keys}
 use Rattle.conflicts.specs.Covers.{Together, Cover}
 use Rattle.covers.specs.Covers.{LeastNumber}
 use Rattle.pairs.specs.PairOrder.{holds, PairList, pairs}
@@ -53,7 +53,7 @@ module _ (w : ℕ) (r : List ℕ) (h : Cases w r) where
       size : length (d .0) ≡ k
       size = omega (arith, d .1 .few, l .least (d .0) cover)
 
-  module _ (ls : List (List ℕ)) (gl : SideList r pickSeq ls) where
+  module _ (ls : List (List ℕ)) (gl : SideList r baseKey ls) where
     from-list : (xs : List (List ℕ)) → Cover r xs → From holds ls xs
     from-list xs a x m = gl .members x .1 (a .maximal x m)
 
@@ -106,13 +106,13 @@ first-least-unique w r k j c d a b = (
     go (inl e) y = e
     go (inr h) (inl e) = sym e
     go (inr h) (inr k) =
-        absurd (ahead-apart Precedes (λ x. before-irrefl (pickSeq x)) (λ x y z p q. before-trans (pickSeq x) (pickSeq y) (pickSeq z) p q) c d h k)
+        absurd (ahead-apart Precedes (λ x. before-irrefl (baseKey x)) (λ x y z p q. before-trans (baseKey x) (baseKey y) (baseKey z) p q) c d h k)
 
 -- the least number of a table, from what the rule comes to
 pub least-of : (w : ℕ) (r : List ℕ) → Cases w r → (n : ℕ) (c : List (List ℕ)) → fewestLadders w r (chainsInOrder r) ≡ record { tried = n; cover = some c }
     → LeastNumber r (length c)
 least-of w r h n c e =
-    let f = fewest-ladders w r h (chainsInOrder r) (gauge-list r) in
+    let f = fewest-ladders w r h (chainsInOrder r) (base-keys r (chainsInOrder r) (gauge-list r)) in
     let same : f .1 ≡ c =
     Option·some-injective (f .1) c (sym (ap (λ (o : Outcome (List ℕ)). o .cover) (f .2 .outcome)) ∙ ap (λ (o : Outcome (List ℕ)). o .cover) e) in
     subst (LeastNumber r) (sym (f .3 .number) ∙ ap length same) (f .3 .least)
@@ -121,5 +121,5 @@ least-of w r h n c e =
 pub least-exists : (r : List ℕ) → (k : ℕ) × LeastNumber r k
 least-exists r =
     let h = some-cases r in
-    let f = fewest-ladders (h .0) r (h .1) (chainsInOrder r) (gauge-list r) in
+    let f = fewest-ladders (h .0) r (h .1) (chainsInOrder r) (base-keys r (chainsInOrder r) (gauge-list r)) in
     (f .0, f .3 .least)

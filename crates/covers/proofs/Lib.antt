@@ -6,3 +6,4 @@ pub mod Sides
 pub mod Fewest
 pub mod Samples
 pub mod Replacing
+pub mod Sentences

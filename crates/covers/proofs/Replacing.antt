@@ -1,5 +1,5 @@
--- R-8: where one gauge's row changes, or one case's column, the least number moves by at most 1 (`one-gauge`, `one-case`; `one-replaced` for two
--- tables, and in plain inequalities `moves-reads`), and 1 is reached either way (`one-reached`). From a cover of the one table, take that row out of
+-- R-8: where one gauge's row changes, or one case's column, the least number moves by at most 1 (`one-gauge`, `one-case`; `one-replaced` for any two
+-- tables), and 1 is reached either way (`one-reached`). What the definitions say to a reader: Sentences.antt. From a cover of the one table, take that row out of
 -- each chain and add the new row as a chain of its own; a case by exchanging sides.
 use mathlib.Core.Path.{_≡_, refl, sym, ap, _∙_, subst}
 use mathlib.Core.Logic.{_⊎_, inl, inr}
@@ -20,11 +20,10 @@ use Rattle.table.proofs.Legality.{legal-of, legal-cases}
 use Rattle.transpose.specs.Transposing.{transpose}
 use Rattle.transpose.proofs.Transposition.{length-transpose, has-transpose}
 use Rattle.covers.specs.Covers.{ChainOf, ChainCover, LeastNumber}
-use Rattle.covers.specs.Replacing.{OneGauge, OneCase, Replaced, AtMostOne, MovesAtMostOne}
+use Rattle.covers.specs.Replacing.{OneGauge, OneCase, Replaced, AtMostOne, MovesAtMostOne, ReplacingClaim}
 use Rattle.covers.proofs.Rows.{only, only-same, without, length-without, without-same, without-other, without-chain}
 use Rattle.covers.proofs.Covers.{only-of, cover-chains, none-smaller}
 use Rattle.covers.proofs.Sides.{least-transpose}
-use Rattle.covers.proofs.Fewest.{least-exists}
 use Rattle.covers.proofs.Samples.{least-both, least-one}
 
 -- ---- one gauge
@@ -103,8 +102,8 @@ module _ (w c : ℕ) (r r′ : List ℕ) (h : Cases w r) (h′ : Cases w r′) w
   one-case d k j a b = one-gauge c (transpose w r) (transpose w r′) (case-gauge d) k j (least-transpose w r h k a) (least-transpose w r′ h′ j b)
 
 -- ---- two tables
-pub one-replaced : (t u : Table) → Legal t → Legal u → Replaced t u → MovesAtMostOne t u
-one-replaced t u l m d k j a b = go (d .one)
+tables-replaced : (t u : Table) → Legal t → Legal u → Replaced t u → MovesAtMostOne t u
+tables-replaced t u l m d k j a b = go (d .one)
   where
     go : ((g : ℕ) × OneGauge g (tableRows t) (tableRows u)) ⊎ ((c : ℕ) × OneCase c (tableRows t) (tableRows u)) → AtMostOne k j
     go (inl e) = one-gauge (e .0) (tableRows t) (tableRows u) (e .1) k j a b
@@ -112,14 +111,8 @@ one-replaced t u l m d k j a b = go (d .one)
         one-case (t .cases) (e .0) (tableRows t) (tableRows u) (legal-cases t l)
         (subst (λ (w : ℕ). Cases w (tableRows u)) (d .cases) (legal-cases u m)) (e .1) k j a b
 
--- what the claim says of the one least number of each table, as two inequalities
-pub moves-reads : (t u : Table) → MovesAtMostOne t u
-    → (k : ℕ) × (j : ℕ) × LeastNumber (tableRows t) k × LeastNumber (tableRows u) j × (j ≤ k + 1) × (k ≤ j + 1)
-moves-reads t u m =
-    let a = least-exists (tableRows t) in
-    let b = least-exists (tableRows u) in
-    let h = m (a .0) (b .0) (a .1) (b .1) in
-    (a .0, b .0, a .1, b .1, h .more, h .fewer)
+pub one-replaced : ReplacingClaim
+one-replaced = record { differs = tables-replaced }
 
 -- ---- 1 is reached
 -- K1 of 01, and K1 with its second gauge loose, which loses the pair 2:2: so they differ in one gauge's row, and in one case's column

@@ -7,7 +7,7 @@ use mathlib.Core.Logic.{_⊎_}
 use mathlib.Core.List.{List}
 use Prim.Native.Nat.{ℕ}
 use lib.ListN.{length}
-use Rattle.lists.specs.PickSequence.{Precedes}
+use Rattle.lists.specs.Lists.{Precedes}
 use Rattle.conflicts.specs.Covers.{Cover}
 use Rattle.covers.specs.Covers.{LeastNumber}
 use Rattle.pairs.specs.PairOrder.{holds, pairs}

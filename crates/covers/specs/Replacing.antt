@@ -3,15 +3,16 @@
 --
 -- In order: one gauge replaced, and one case; the two tables; the claim.
 --
--- Elsewhere: the claim is proved of any two legal tables, `one-replaced` in proofs/Replacing.antt; that 1 is reached, by a gauge and by a case,
--- `one-reached` there; that every table has one least number, `least-exists` in proofs/Fewest.antt, `least-unique` in proofs/Covers.antt.
+-- Elsewhere: the claim's theorem, and that 1 is reached, by a gauge and by a case (`one-reached`), proofs/Replacing.antt; what the words say of rows,
+-- columns and numbers (`gauge-rows`, `case-columns`, `at-most-one`), proofs/Sentences.antt; that every table has one least number, `least-exists` in
+-- proofs/Fewest.antt, `least-unique` in proofs/Covers.antt.
 use mathlib.Core.Path.{_≡_}
 use mathlib.Core.Logic.{_⊎_, _↔_}
 use mathlib.Core.List.{List}
 use Prim.Native.Nat.{ℕ, _+_, _≤_}
 use lib.ListN.{length}
 use Rattle.table.specs.Pairs.{Has}
-use Rattle.table.specs.Tables.{tableRows}
+use Rattle.table.specs.Tables.{Legal, tableRows}
 use Rattle.table.specs.declared.Table.{Table}
 use Rattle.covers.specs.Covers.{LeastNumber}
 
@@ -39,3 +40,8 @@ pub record AtMostOne (k j : ℕ) : Type 0 where
 -- of the least numbers of the two tables, each by ladders of its own
 abbrev pub MovesAtMostOne : Table → Table → Type 0
 MovesAtMostOne t u = (k j : ℕ) → LeastNumber (tableRows t) k → LeastNumber (tableRows u) j → AtMostOne k j
+
+-- "Show that between two tables .. the least number of R-7 differs by at most 1", of every two legal tables
+-- Theorem alone: `one-replaced` in proofs/Replacing.antt
+pub record ReplacingClaim : Type 0 where
+  pub differs : (t u : Table) → Legal t → Legal u → Replaced t u → MovesAtMostOne t u

@@ -1,6 +1,7 @@
--- "A run paused on the old table remains a run of the old table" (02, R-10): `old-run-kept`, of every paused value, whatever its preference; and
--- `kept-after-commit`, of one that is paused on the current table when a flip is committed, which is then no run of the new table.
-use mathlib.Core.Path.{_≡_, refl, sym, _∙_, subst}
+-- "A run paused on the old table remains a run of the old table" (02, R-10): `old-run-kept`, of every paused value, whatever its preference; what that says
+-- after any calls (`remains-paused`); and `kept-after-commit`, of one that is paused on the current table when a flip is committed, which is then no run of
+-- the new table.
+use mathlib.Core.Path.{_≡_, refl, sym, ap₂, _∙_, subst, subst₂}
 use mathlib.Core.List.{List, [], _∷_}
 use Prim.Native.Nat.{ℕ}
 use native.Mathlib.Decide.{ℕ-discrete}
@@ -11,8 +12,12 @@ use Rattle.table.specs.declared.Table.{Table}
 use Rattle.rules.specs.Machine.{State}
 use Rattle.rules.specs.Calls.{Reply, refused, spent, handed, end, Call}
 use Rattle.lists.specs.Lists.{Side}
+use Rattle.lists.specs.OnTable.{ReachedOn}
 use Rattle.runs.specs.Paused.{Value, paused}
-use Rattle.runs.specs.Calling.{Step, byRules, callOf, held, valueRefusal, kept, PausedAt, Called, Calls, left}
+use Rattle.runs.specs.Calling.{Step, arrangement, byRules, held, valueRefusal, kept, PausedAt, left}
+use Rattle.runs.specs.Omitting.{CallsEither}
+use Rattle.runs.specs.private.Either.{callOf, CalledOf}
+use Rattle.runs.proofs.Answered.{called-of-both}
 use Rattle.runs.proofs.Demands.{reached-next}
 use Rattle.trials.specs.declared.Proposal.{Proposal}
 use Rattle.trials.specs.Trials.{Committed}
@@ -28,7 +33,7 @@ module _ (side : Table → Side) where
     stands : PausedAt side w state
 
   -- one call leads from such a run to such a run; one that 10, 11 or 27 refuses changes nothing
-  next-run : (t : Table) (k : List ℕ) (v : Value) (b : ℕ) (r : Step) → RunOf t k v → Called side v b r → RunOf t k (kept (r .answer) v (r .next))
+  next-run : (t : Table) (k : List ℕ) (v : Value) (b : ℕ) (r : Step) → RunOf t k v → CalledOf side v b r → RunOf t k (kept (r .answer) v (r .next))
   next-run t k v b r h c = go (ℕ-discrete (valueRefusal side v) 0)
     where
       u : Table
@@ -61,17 +66,33 @@ module _ (side : Table → Side) where
       go (yes ok) = after (c .rules ok (h .state) (h .stands)) (by-answer (call .answer))
       go (no ok) = after (c .table (omega arith)) h
 
-  all-runs : (t : Table) (k : List ℕ) (v : Value) → RunOf t k v → (bs : List ℕ) (rs : List Step) → Calls side v bs rs → RunOf t k (left v rs)
+  all-runs : (t : Table) (k : List ℕ) (v : Value) → RunOf t k v → (bs : List ℕ) (rs : List Step) → CallsEither side v bs rs → RunOf t k (left v rs)
   all-runs t k v h [] [] c = h
   all-runs t k v h [] (r ∷ rs) c = absurd c
   all-runs t k v h (b ∷ bs) [] c = absurd c
-  all-runs t k v h (b ∷ bs) (r ∷ rs) c = all-runs t k (kept (r .answer) v (r .next)) (next-run t k v b r h (c .0)) bs rs (c .1)
+  all-runs t k v h (b ∷ bs) (r ∷ rs) c = all-runs t k (kept (r .answer) v (r .next)) (next-run t k v b r h (called-of-both side v b r (c .0))) bs rs (c .1)
 
   pub old-run-kept : (v : Value) (s : State) → PausedAt side v s → RemainsRunOf side (v .table) v
-  old-run-kept v s h bs rs c =
-      let r : RunOf (v .table) (v .order) (left v rs) =
-      all-runs (v .table) (v .order) v (record { table = refl; order = refl; state = s; stands = h }) bs rs c in
-      (r .table, r .order, (r .state, r .stands))
+  old-run-kept v s h = record {
+    table = λ bs rs c. run bs rs c .table;
+    order = λ bs rs c. run bs rs c .order;
+    state = λ bs rs c. (run bs rs c .state, run bs rs c .stands);
+  }
+    where
+      run : (bs : List ℕ) (rs : List Step) → CallsEither side v bs rs → RunOf (v .table) (v .order) (left v rs)
+      run bs rs c = all-runs (v .table) (v .order) v (record { table = refl; order = refl; state = s; stands = h }) bs rs c
+
+  -- after any calls the value left is that of a state which moves on the table t, with v's preference, lead to
+  pub remains-paused : (t : Table) (v : Value) → RemainsRunOf side t v → (bs : List ℕ) (rs : List Step) → CallsEither side v bs rs
+      → (s : State) × ReachedOn (side t) (arrangement (side t) (v .order)) s × (left v rs ≡ paused t (v .order) (left v rs .omit) s)
+  remains-paused t v r bs rs c =
+      let (s, h) = r .state bs rs c in
+      let e : left v rs .table ≡ t = r .table bs rs c in
+      let d : left v rs .order ≡ v .order = r .order bs rs c in (
+        s,
+        subst₂ (λ (u : Table) (k : List ℕ). ReachedOn (side u) (arrangement (side u) k) s) e d (h .reached),
+        h .stands ∙ ap₂ (λ (u : Table) (k : List ℕ). paused u k (left v rs .omit) s) e d,
+      )
 
   -- a flip is committed on the table that v is paused on
   pub kept-after-commit : (p : Proposal) (t : Table) (a : Answer Table) → length (t .rows) ≡ 64 → length (p .chain .rows) ≡ 64 → Committed p t a
@@ -79,5 +100,5 @@ module _ (side : Table → Side) where
   kept-after-commit p t a n m x e v s d h =
       let k : Commits p t n m a x e = commits p t n m a x e in (
         subst (λ (w : Table). RemainsRunOf side w v) d (old-run-kept v s h),
-        λ y. k .another (sym (y [] [] tt .0) ∙ d),
+        λ y. k .another (sym (y .table [] [] tt) ∙ d),
       )

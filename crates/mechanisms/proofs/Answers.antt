@@ -17,7 +17,8 @@ use Rattle.refusals.proofs.Answering.{number-pos, number-injective}
 use Rattle.table.specs.declared.Table.{Table}
 use Rattle.table.specs.Tables.{tableRows, tableRefusal}
 use Rattle.table.proofs.Legality.{legal-of, legal-cases}
-use Rattle.lists.proofs.Listed.{chainsInOrder, gauge-list, list-unique}
+use Rattle.lists.proofs.Listed.{chainsInOrder, list-unique}
+use Rattle.lists.proofs.Plain.{gauge-list-of}
 use Rattle.boards.specs.Boards.{board}
 use Rattle.covers.proofs.Covers.{none-smaller}
 use Rattle.covers.proofs.Sides.{least-few}
@@ -68,7 +69,7 @@ module _ (t : Table) (b : ℕ) where
   covers-refused : (n : ℕ) (r : Reading) → refusalOf t b (length xs) ≡ n → 0 < n → r ≡ refusal n → Covers t b r
   covers-refused n r e l q = record {
     ladders = xs;
-    listed = gauge-list (tableRows t);
+    listed = gauge-list-of t;
     refuses = λ _. q ∙ ap refusal (sym e);
     searches = λ z. absurd (omega (arith, e, z));
   }
@@ -92,18 +93,18 @@ module _ (t : Table) (b : ℕ) where
         module _ (wide : t .cases ≤ mostSide) (n : ℕ) (boards : List ℕ) (l : Lists t n boards) where
           pub covers-ladders : (r : Reading) → r ≡ refusal 24 → mostLadders < n → Covers t b r
           covers-ladders r q h =
-              covers-refused 24 r (refused-ladders t b (length xs) passes small low wide (l .more h xs (gauge-list (tableRows t)))) (omega arith) q
+              covers-refused 24 r (refused-ladders t b (length xs) passes small low wide (l .more h xs (gauge-list-of t))) (omega arith) q
 
           pub covers-searched : (r : Reading) → n ≤ mostLadders → Answers t b r → Covers t b r
           covers-searched r h a = record {
             ladders = xs;
-            listed = gauge-list (tableRows t);
+            listed = gauge-list-of t;
             refuses = λ z. absurd (omega (arith, z, none-refused t b (length xs) passes small low wide few));
-            searches = λ _. a xs (gauge-list (tableRows t));
+            searches = λ _. a xs (gauge-list-of t);
           }
             where
               few : length xs ≤ mostLadders
-              few = omega (arith, length-map xs board, ap length (l .whole h xs (gauge-list (tableRows t))), length-take-le n boards (omega (arith, l .size)))
+              few = omega (arith, length-map xs board, ap length (l .whole h xs (gauge-list-of t)), length-take-le n boards (omega (arith, l .size)))
 
 -- ---- an answer for every table and every budget, and only one
 pub covers-only : (t : Table) (b : ℕ) (r q : Reading) → Covers t b r → Covers t b q → r ≡ q
@@ -131,18 +132,18 @@ covers-some t size b = go (ℕ-discrete (refusalOf t b (length (chainsInOrder (t
     refuse : ¬ (refusalOf t b (length (chainsInOrder (tableRows t))) ≡ 0) → (r : Reading) × Covers t b r
     refuse z = (
       refusal (refusalOf t b (length (chainsInOrder (tableRows t)))),
-      record { ladders = chainsInOrder (tableRows t); listed = gauge-list (tableRows t); refuses = λ _. refl; searches = λ e. absurd (z e) },
+      record { ladders = chainsInOrder (tableRows t); listed = gauge-list-of t; refuses = λ _. refl; searches = λ e. absurd (z e) },
     )
 
     go : Dec (refusalOf t b (length (chainsInOrder (tableRows t))) ≡ 0) → Dec (tableRefusal t ≡ 0) → (r : Reading) × Covers t b r
     go (no z) d = refuse z
     go (yes z) (no d) = absurd (d (sym (refused-table t b (length (chainsInOrder (tableRows t))) (omega arith)) ∙ z))
     go (yes z) (yes d) =
-        let f = fewest-ladders (t .cases) (tableRows t) (legal-cases t (legal-of t size d)) (chainsInOrder (tableRows t)) (gauge-list (tableRows t)) in (
+        let f = fewest-ladders (t .cases) (tableRows t) (legal-cases t (legal-of t size d)) (chainsInOrder (tableRows t)) (gauge-list-of t) in (
           withinBudget t b (f .0) (f .1) (byRule t (chainsInOrder (tableRows t)) .tried),
           record {
             ladders = chainsInOrder (tableRows t);
-            listed = gauge-list (tableRows t);
+            listed = gauge-list-of t;
             refuses = λ l. absurd (omega (arith, z, l));
             searches = λ _. record {
               number = f .0;

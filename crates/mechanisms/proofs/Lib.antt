@@ -3,3 +3,4 @@ pub mod Listing
 pub mod Chains
 pub mod Searching
 pub mod Answers
+pub mod Sentences

@@ -28,12 +28,13 @@ use Rattle.rules.specs.Calls.{Reply, refused, spent, handed, end, Call, mostBud
 use Rattle.rules.proofs.Reports.{only18-by}
 use Rattle.lists.specs.Lists.{gaugeSide, GaugeList}
 use Rattle.lists.specs.OnTable.{handOut, moveOn, callOn}
-use Rattle.lists.specs.Demand.{Demand}
+use Rattle.lists.specs.private.Demand.{Demand}
 use Rattle.lists.proofs.Demand.{demand3}
 use Rattle.lists.proofs.Listed.{list-unique}
 use Rattle.runs.specs.Paused.{Value, paused, blankValue}
 use Rattle.preference.specs.Preferences.{preferredRefusal, plainNumbers}
-use Rattle.runs.specs.Calling.{Step, arrangement, byRules, told, callOf, held, PausedAt, Called}
+use Rattle.runs.specs.Calling.{Step, arrangement, byRules, told, held, PausedAt}
+use Rattle.runs.specs.private.Either.{callOf, CalledOf}
 use Rattle.runs.proofs.Demands.{Started}
 use Rattle.blocks.specs.Filling.{calls, after}
 use Rattle.blocks.proofs.Chains.{handed-within, never-spent}
@@ -66,7 +67,7 @@ told-answer t k spent n s = refl
 told-answer t k (handed x) n s = refl
 told-answer t k end n s = refl
 
-module _ (v : Value) (r : Step) (called : Called gaugeSide v mostBudget r) where
+module _ (v : Value) (r : Step) (called : CalledOf gaugeSide v mostBudget r) where
   module _ (l : Legal (v .table)) (d : v .order ≡ plainNumbers (v .table .gauges)) (o : v .omit ≡ false) (s : State) (p : PausedAt gaugeSide v s) where
     abbrev made : Call
     made = callOn (gaugeSide (v .table)) (held gaugeSide v) mostBudget s

@@ -13,8 +13,8 @@ use Rattle.table.specs.declared.Chain.{Chain}
 use Rattle.table.specs.Pairs.{Within}
 use Rattle.table.specs.Tables.{tableRows, blankChain}
 use Rattle.table.proofs.Legality.{row-tableRows}
-use Rattle.lists.specs.PickSequence.{Precedes}
-use Rattle.lists.specs.Lists.{GaugeList}
+use Rattle.lists.specs.Lists.{gaugeSide, GaugeList, Precedes}
+use Rattle.lists.proofs.Plain.{base-list}
 use Rattle.pairs.specs.PairOrder.{holds, pairs}
 use Rattle.covers.specs.Searching.{Outcome, ByRule}
 use Rattle.covers.specs.Fewest.{fewestLadders, FirstLeast}
@@ -38,11 +38,11 @@ use Rattle.mechanisms.specs.private.Steps.{SmallTable, shown}
 use Rattle.mechanisms.proofs.Listing.{small-fits}
 use Rattle.mechanisms.proofs.Chains.{chainOf, chains-back}
 
-within-over : (t : Table) (b k : ℕ) (c : List (List ℕ)) (tried : ℕ) → b < tried → withinBudget t b k c tried ≡ spentAt b
+pub within-over : (t : Table) (b k : ℕ) (c : List (List ℕ)) (tried : ℕ) → b < tried → withinBudget t b k c tried ≡ spentAt b
 unfolding withinBudget
 within-over t b k c tried h = ap (λ (x : Bool). cond x (spentAt b) (coveredBy t k tried c)) (lt-ltb b tried h)
 
-within-whole : (t : Table) (b k : ℕ) (c : List (List ℕ)) (tried : ℕ) → tried ≤ b → withinBudget t b k c tried ≡ coveredBy t k tried c
+pub within-whole : (t : Table) (b k : ℕ) (c : List (List ℕ)) (tried : ℕ) → tried ≤ b → withinBudget t b k c tried ≡ coveredBy t k tried c
 unfolding withinBudget
 within-whole t b k c tried h = ap (λ (x : Bool). cond x (spentAt b) (coveredBy t k tried c)) (le-ltb b tried h)
 
@@ -72,7 +72,7 @@ module _ (t : Table) (h : SmallTable t) (xs : List (List ℕ)) (g : GaugeList t 
   -- the rule, at most up to 8, on the boards
   on-boards : upTo (map board xs) (board (tableRows t)) 0 8 ≡ mapped board (fewestLadders (t .cases) (tableRows t) xs)
   on-boards =
-      board-from (t .cases) (tableRows t) fits xs g 0 8
+      board-from (t .cases) (tableRows t) fits xs (base-list t (gaugeSide t) xs .0 g) 0 8
       ∙ ap (mapped board) (from-fewest holds Precedes xs (g .ascends) (pairs (t .cases) (tableRows t))
       (all-held (t .cases) (tableRows t) (fits .cases) xs g) 8 k c few (rule .2 .found))
 

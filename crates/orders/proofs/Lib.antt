@@ -7,4 +7,5 @@ pub mod Counting
 pub mod Greedy
 pub mod Orders
 pub mod Members
+pub mod Sentences
 pub mod Samples

@@ -4,3 +4,4 @@ pub mod Turns
 pub mod Rows
 pub mod Refusing
 pub mod Places
+pub mod Sentences

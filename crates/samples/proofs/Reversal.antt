@@ -184,6 +184,11 @@ step-lt : (x : ℕ) → x < 2 ^ 64 → step x < 2 ^ 64
 unfolding step
 step-lt x h = left-lt 17 (right 7 (left 13 x)) (right-lt 7 (left 13 x) (left-lt 13 x h))
 
+pub unstep-lt : (x : ℕ) → x < 2 ^ 64 → unstep x < 2 ^ 64
+unfolding unstep
+unstep-lt x h =
+    left-lt 13 _ (left-lt 26 _ (left-lt 52 _ (right-lt 7 _ (right-lt 14 _ (right-lt 28 _ (right-lt 56 _ (left-lt 17 _ (left-lt 34 x h))))))))
+
 unstep-zero : unstep 0 ≡ 0
 unfolding unstep left right
 unstep-zero = refl

@@ -1,4 +1,5 @@
--- A set changed at one place: without it, with it, and the places from one on, as the code computes them.
+-- A set changed at one place: without it, with it, and the places from one on, as the code computes them; then that each leaves one answer, and what a reader
+-- finds in them beyond that (`added-places`, `rest-falls`).
 use mathlib.Core.Path.{_≡_, refl, sym, ap, ap₂, _∙_}
 use mathlib.Core.Bool.{Bool, true, false, not, _&&_, _||_}
 use Prim.Native.Nat.{ℕ, zero, suc, _+_, _*_, _-_, _/_, _%_, _^_, _≤_, _<_, min}
@@ -10,7 +11,7 @@ use lib.Count.{trailingZeros}
 use lib.Pow.{shr-shr, shl-exact, pow-pos}
 use borrow.Author.Tests.{eq-eqb, ne-eqb, eqb-true, le-leb, lt-leb, lt-ltb, le-ltb}
 use Rattle.sets.specs.Sets.{bit, join, lowest}
-use Rattle.sets.specs.First.{First, Rest, Without, With, Upper}
+use Rattle.sets.specs.First.{First, Rest, Without, Added, With, Upper}
 use Rattle.sets.proofs.Digits.{bit-zero, bit-suc}
 use Rattle.sets.proofs.Masks.{bit-past}
 use Rattle.sets.proofs.Joins.{bit-join}
@@ -199,3 +200,23 @@ with-unique a k r q f g = go (decLt k 64)
 
 pub upper-unique : (a k r q : ℕ) → Upper a k r → Upper a k q → r ≡ q
 upper-unique a k r q f g = eq-of-bits r q (λ i. f .bits i ∙ sym (g .bits i))
+
+-- ---- what a reader finds in them
+-- the place put in is there, and every other place is there exactly where it was
+pub added-places : (a k r : ℕ) → Added a k r → (bit r k ≡ true) × ((i : ℕ) → ¬ (i ≡ k) → bit r i ≡ bit a i)
+added-places a k r h = (
+  h .bits k ∙ ap (λ (x : Bool). bit a k || x) (eq-eqb k k refl) ∙ or-true (bit a k),
+  λ i n. h .bits i ∙ ap (λ (x : Bool). bit a i || x) (ne-eqb i k n) ∙ or-false (bit a i),
+)
+  where
+    or-true : (x : Bool) → (x || true) ≡ true
+    or-true true = refl
+    or-true false = refl
+
+    or-false : (x : Bool) → (x || false) ≡ x
+    or-false true = refl
+    or-false false = refl
+
+-- the lowest places of a set, taken one after the other, come to an end: what is left is a smaller number each time
+pub rest-falls : (a r : ℕ) → Rest a r → ¬ (a ≡ 0) → r < a
+rest-falls a r h n = h .fewer n

@@ -4,3 +4,4 @@ pub mod Trying
 pub mod Finding
 pub mod Answers
 pub mod Readings
+pub mod Sentences

@@ -33,7 +33,7 @@ use Rattle.wiring.specs.Wiring.{ordered, Leads, LadderChecks, Checks, Re
 use Rattle.wiring.specs.private.Steps.{Checked, Between, Ready, StoresOrder}
 
 -- ---- the bytes of an order
-bytes-length : (ps : List Pair) → length (pairBytes ps) ≡ 2 * length ps
+pub bytes-length : (ps : List Pair) → length (pairBytes ps) ≡ 2 * length ps
 bytes-length [] = refl
 bytes-length (p ∷ ps) = omega (arith, bytes-length ps)
 

@@ -4,3 +4,4 @@ pub mod Checking
 pub mod Placing
 pub mod Storing
 pub mod Answers
+pub mod Sentences

@@ -13,6 +13,7 @@ use Rattle.runs.specs.Calling.{outcome, gaugeStep}
 use Rattle.runs.specs.declared.Outcome.{Outcome}
 use Rattle.runs.specs.declared.Outcome.the-variants.{HandedOut, Spent, End, Refused}
 use Rattle.runs.proofs.Outcome.{the-type}
+use Rattle.runs.proofs.Answered.{called-of-both}
 use Rattle.blocks.proofs.OneTurn.{checked-refused, checked-passed}
 use Rattle.blocks.proofs.check_run.Statement.{statement}
 use Rattle.blocks.proofs.check_run.Tie as tie
@@ -32,13 +33,13 @@ enum-known-outcome c = search needs
 returns : tie.Need-returns
 returns c =
     let g = c .before .before .before in
-    checked-refused (gaugeValue (g .before .args .run)) (gaugeStep (g .run-gauges .result)) (g .run-gauges .ensures .0) _
+    checked-refused (gaugeValue (g .before .args .run)) (gaugeStep (g .run-gauges .result)) (called-of-both _ _ _ _ (g .run-gauges .ensures .1 .1 .0)) _
     (ap (λ (o : Outcome). outcome o (chainRows (g .run-gauges .result .chain))) (c .before .outcome .given .1))
 
 returns-2 : tie.Need-returns-2
 returns-2 c =
     let g = c .before in
-    checked-passed (gaugeValue (g .before .args .run)) (gaugeStep (g .run-gauges .result)) (g .run-gauges .ensures .0)
+    checked-passed (gaugeValue (g .before .args .run)) (gaugeStep (g .run-gauges .result)) (called-of-both _ _ _ _ (g .run-gauges .ensures .1 .1 .0))
     (not-refused (g .run-gauges .result .outcome) (chainRows (g .run-gauges .result .chain)) (c .match .keys2))
 
 pub check-run-spec : {M : Type 1} → statement M

@@ -11,7 +11,8 @@ use Rattle.rules.specs.Machine.{State}
 use Rattle.rules.specs.Calls.{Call, mostBudget, answered}
 use Rattle.lists.specs.Lists.{gaugeSide}
 use Rattle.runs.specs.Paused.{Value, paused}
-use Rattle.runs.specs.Calling.{held, valueRefusal, PausedAt, callOf}
+use Rattle.runs.specs.Calling.{held, valueRefusal, PausedAt}
+use Rattle.runs.specs.private.Either.{callOf}
 use Rattle.writer.specs.Writing.{writeFile}
 use Rattle.blocks.specs.Filling.{files, longest, isEnd, isNone, Filling, Fills}
 

@@ -1,6 +1,6 @@
 -- `c_chains::rivals` meets its contract: the promise of the table that the words read as.
 use mathlib.Core.Logic.{inl, inr}
-use Rattle.essentials.specs.Answers.{conflictSet}
+use Rattle.essentials.specs.Answers.{foundPairs}
 use Rattle.words.proofs.Serving.{gives-short, gives-refused, gives-accepted, long-two}
 use Rattle.c_chains.proofs.Serving.{conflicts-at}
 use Rattle.conflicts.proofs.Covering.{conflict-claims}
@@ -29,7 +29,7 @@ returns-3 c =
     let x = n .before in
     let e = x .before .before in
     let a = e .before .before .before .before .args in (
-      gives-refused _ (long-two (e .before .if1 .left) (e .if2 .left)) (conflictSet (x .conflicts-of .result))
+      gives-refused _ (long-two (e .before .if1 .left) (e .if2 .left)) (foundPairs (x .conflicts-of .result))
           (conflicts-at (a .table .now) _ (x .before .table-at .ensures) (a .gauge) (a .case) _ (x .conflicts-of .ensures .0)) _
           (n .verdict-number .ensures) (c .if3 .taken),
       λ e. conflict-claims _,
@@ -48,7 +48,7 @@ returns-4 c =
     let x = n .before in
     let e = x .before .before in
     let a = e .before .before .before .before .args in (
-      gives-accepted _ _ (long-two (e .before .if1 .left) (e .if2 .left)) (conflictSet (x .conflicts-of .result))
+      gives-accepted _ _ (long-two (e .before .if1 .left) (e .if2 .left)) (foundPairs (x .conflicts-of .result))
           (conflicts-at (a .table .now) _ (x .before .table-at .ensures) (a .gauge) (a .case) _ (x .conflicts-of .ensures .0)) _
           (n .verdict-number .ensures) (z .if3 .left)
           (c .before .before .put-rows .ensures),

@@ -40,7 +40,8 @@ returns-3 c =
     (caseStep (r .run-cases .result)) = record {
       called = r .run-cases .ensures .0;
       demand = r .run-cases .ensures .1 .0;
-      omits = r .run-cases .ensures .1 .1;
+      either = r .run-cases .ensures .1 .1 .0;
+      omits = r .run-cases .ensures .1 .1 .1;
     } in
     runs-of caseSide cases-start (two-refused _ _ (long-two (e .before .if1 .left) (e .if2 .left)) _
     (call-at 2 (e .before .before .before .before .args .run .now) (r .before .case-run-at .ensures) p) _
@@ -74,7 +75,8 @@ returns-4 c =
     (caseStep (r .run-cases .result)) = record {
       called = r .run-cases .ensures .0;
       demand = r .run-cases .ensures .1 .0;
-      omits = r .run-cases .ensures .1 .1;
+      either = r .run-cases .ensures .1 .1 .0;
+      omits = r .run-cases .ensures .1 .1 .1;
     } in
     let x = r .run-cases .result in
     runs-of caseSide cases-start (two-accepted _ _ _ _ (long-two (e .before .if1 .left) (e .if2 .left)) _

@@ -40,7 +40,8 @@ returns-3 c =
     (gaugeStep (r .run-gauges .result)) = record {
       called = r .run-gauges .ensures .0;
       demand = r .run-gauges .ensures .1 .0;
-      omits = r .run-gauges .ensures .1 .1;
+      either = r .run-gauges .ensures .1 .1 .0;
+      omits = r .run-gauges .ensures .1 .1 .1;
     } in
     runs-of gaugeSide gauges-start (two-refused _ _ (long-two (e .before .if1 .left) (e .if2 .left)) _
     (call-at 1 (e .before .before .before .before .args .run .now) (r .before .gauge-run-at .ensures) p) _
@@ -74,7 +75,8 @@ returns-4 c =
     (gaugeStep (r .run-gauges .result)) = record {
       called = r .run-gauges .ensures .0;
       demand = r .run-gauges .ensures .1 .0;
-      omits = r .run-gauges .ensures .1 .1;
+      either = r .run-gauges .ensures .1 .1 .0;
+      omits = r .run-gauges .ensures .1 .1 .1;
     } in
     let x = r .run-gauges .result in
     runs-of gaugeSide gauges-start (two-accepted _ _ _ _ (long-two (e .before .if1 .left) (e .if2 .left)) _

@@ -5,6 +5,7 @@ use Rattle.table.specs.Tables.{chainRows}
 use Rattle.runs.specs.Paused.{gaugeValue}
 use Rattle.runs.specs.Calling.{outcome, gaugeStep}
 use Rattle.runs.specs.declared.Outcome.{Outcome}
+use Rattle.runs.proofs.Answered.{called-of-both}
 use Rattle.mechanisms.proofs.Listing.{hands-given, hands-spent, hands-end, hands-refused}
 use Rattle.mechanisms.proofs.next_ladder.Statement.{statement}
 use Rattle.mechanisms.proofs.next_ladder.Tie as tie
@@ -30,15 +31,15 @@ next-ladder-spec =
     (λ c.
     let b = c .before .before in
     let g = call b in
-    hands-given (gaugeValue (g .before .args .run)) (gaugeStep (g .run-gauges .result)) (g .run-gauges .ensures .0) _ (answer g (c .enum-told .given .1))
+    hands-given (gaugeValue (g .before .args .run)) (gaugeStep (g .run-gauges .result)) (called-of-both _ _ _ _ (g .run-gauges .ensures .1 .1 .0)) _ (answer g (c .enum-told .given .1))
     _ (b .board-of .ensures) _ refl)
     (λ c.
     let g = call (c .before .before) in
-    hands-spent (gaugeValue (g .before .args .run)) (gaugeStep (g .run-gauges .result)) (g .run-gauges .ensures .0) (answer g (c .enum-told2 .given .1)) _ _)
+    hands-spent (gaugeValue (g .before .args .run)) (gaugeStep (g .run-gauges .result)) (called-of-both _ _ _ _ (g .run-gauges .ensures .1 .1 .0)) (answer g (c .enum-told2 .given .1)) _ _)
     (λ c.
     let g = call (c .before .before) in
-    hands-end (gaugeValue (g .before .args .run)) (gaugeStep (g .run-gauges .result)) (g .run-gauges .ensures .0) (answer g (c .enum-told3 .given .1)) _ _)
+    hands-end (gaugeValue (g .before .args .run)) (gaugeStep (g .run-gauges .result)) (called-of-both _ _ _ _ (g .run-gauges .ensures .1 .1 .0)) (answer g (c .enum-told3 .given .1)) _ _)
     λ c.
     let g = call (c .before .before) in
-    hands-refused (gaugeValue (g .before .args .run)) (gaugeStep (g .run-gauges .result)) (g .run-gauges .ensures .0) _ (answer g (c .enum-told4 .given .1))
+    hands-refused (gaugeValue (g .before .args .run)) (gaugeStep (g .run-gauges .result)) (called-of-both _ _ _ _ (g .run-gauges .ensures .1 .1 .0)) _ (answer g (c .enum-told4 .given .1))
     _ _)

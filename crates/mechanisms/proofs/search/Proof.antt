@@ -5,7 +5,8 @@ use borrow.Author.Needs.{needs}
 use Rattle.table.specs.declared.Table.{Table}
 use Rattle.table.specs.Tables.{tableRows}
 use Rattle.lists.specs.Lists.{GaugeList}
-use Rattle.lists.proofs.Listed.{chainsInOrder, gauge-list}
+use Rattle.lists.proofs.Listed.{chainsInOrder}
+use Rattle.lists.proofs.Plain.{gauge-list-of}
 use Rattle.mechanisms.proofs.Searching.{answer-spent, some-cover, rest-low, count-low, answer-cover}
 use Rattle.mechanisms.proofs.search.Statement.{statement}
 use Rattle.mechanisms.proofs.search.Tie as tie
@@ -21,7 +22,7 @@ abbrev ladders : tie.After-least-cover → List (List ℕ)
 ladders c = chainsInOrder (tableRows (table c))
 
 listed : (c : tie.After-least-cover) → GaugeList (table c) (ladders c)
-listed c = gauge-list (tableRows (table c))
+listed c = gauge-list-of (table c)
 
 sub-covered : tie.Need-sub-covered
 sub-covered c =

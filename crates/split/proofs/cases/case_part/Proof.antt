@@ -7,8 +7,10 @@ use Rattle.table.specs.Tables.{chainRows}
 use Rattle.refusals.proofs.Answering.{verdict-refused, verdict-accepted}
 use Rattle.lists.specs.Lists.{caseSide}
 use Rattle.runs.specs.Paused.{Value, caseValue}
-use Rattle.runs.specs.Calling.{Step, caseStep, Called}
+use Rattle.runs.specs.Calling.{Step, caseStep}
+use Rattle.runs.specs.private.Either.{CalledOf}
 use Rattle.runs.proofs.Starting.{case-started}
+use Rattle.runs.proofs.Answered.{called-of-both}
 use Rattle.split.specs.Entries.{casePart}
 use Rattle.split.proofs.Trying.{check-refused, check-passed}
 use Rattle.split.proofs.Answers.{part-refused, part-given}
@@ -26,8 +28,8 @@ value c = caseValue (start c .args .p)
 abbrev step : tie.After-check → Step
 step c = caseStep (c .before .before .run-cases .result)
 
-called : (c : tie.After-check) → Called caseSide (value c) 0 (step c)
-called c = c .before .before .run-cases .ensures .0
+called : (c : tie.After-check) → CalledOf caseSide (value c) 0 (step c)
+called c = called-of-both _ _ _ _ (c .before .before .run-cases .ensures .1 .1 .0)
 
 blank-rows : (c : tie.After-blank-run) → length (c .blank-run .result .table .rows) ≡ 64
 blank-rows c = search needs

@@ -8,9 +8,11 @@ use lib.ListN.{length}
 use Rattle.table.specs.Tables.{chainRows}
 use Rattle.lists.specs.Lists.{caseSide}
 use Rattle.runs.specs.Paused.{Value, caseValue}
-use Rattle.runs.specs.Calling.{caseStep, valueRefusal, Called}
+use Rattle.runs.specs.Calling.{caseStep, valueRefusal}
+use Rattle.runs.specs.private.Either.{CalledOf}
 use Rattle.runs.proofs.Demands.{Starts}
 use Rattle.runs.proofs.Starting.{case-started}
+use Rattle.runs.proofs.Answered.{called-of-both}
 use Rattle.split.specs.private.Trying.{oneMore, TriedAt}
 use Rattle.split.proofs.Trying.{no-room, too-large, not-taken, is-taken}
 use Rattle.split.proofs.cases.try_case.Statement.{statement}
@@ -38,9 +40,9 @@ start c = c .before .before .before
 abbrev made : tie.After-taken → tie.After-one-more
 made c = c .before .before
 
-called : (c : tie.After-taken) → Called caseSide (oneMore (value (start (made c))) (start (made c) .args .c)) 0 (caseStep (c .before .run-cases .result))
+called : (c : tie.After-taken) → CalledOf caseSide (oneMore (value (start (made c))) (start (made c) .args .c)) 0 (caseStep (c .before .run-cases .result))
 called c =
-    subst (λ (v : Value). Called caseSide v 0 (caseStep (c .before .run-cases .result))) (made c .one-more .ensures) (c .before .run-cases .ensures .0)
+    subst (λ (v : Value). CalledOf caseSide v 0 (caseStep (c .before .run-cases .result))) (made c .one-more .ensures) (called-of-both _ _ _ _ (c .before .run-cases .ensures .1 .1 .0))
 
 no-part-requires : tie.Need-no-part-requires
 no-part-requires c κs = search needs

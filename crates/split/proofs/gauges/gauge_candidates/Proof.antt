@@ -7,9 +7,11 @@ use Rattle.table.specs.Tables.{chainRows}
 use Rattle.refusals.proofs.Answering.{verdict-refused, verdict-accepted}
 use Rattle.lists.specs.Lists.{gaugeSide}
 use Rattle.runs.specs.Paused.{Value, gaugeValue}
-use Rattle.runs.specs.Calling.{Step, gaugeStep, Called}
+use Rattle.runs.specs.Calling.{Step, gaugeStep}
+use Rattle.runs.specs.private.Either.{CalledOf}
 use Rattle.runs.proofs.Demands.{Starts}
 use Rattle.runs.proofs.Starting.{gauge-started}
+use Rattle.runs.proofs.Answered.{called-of-both}
 use Rattle.split.specs.Entries.{SplitsAt}
 use Rattle.split.specs.Listing.{ListsPart}
 use Rattle.split.proofs.Trying.{check-refused, check-passed}
@@ -28,8 +30,8 @@ value c = gaugeValue (start c .args .p)
 abbrev step : tie.After-check → Step
 step c = gaugeStep (c .before .before .run-gauges .result)
 
-called : (c : tie.After-check) → Called gaugeSide (value c) 0 (step c)
-called c = c .before .before .run-gauges .ensures .0
+called : (c : tie.After-check) → CalledOf gaugeSide (value c) 0 (step c)
+called c = called-of-both _ _ _ _ (c .before .before .run-gauges .ensures .1 .1 .0)
 
 rows-length : (s : tie.Start) → length (s .args .p .table .rows) ≡ 64
 rows-length s = search needs

@@ -8,9 +8,11 @@ use lib.ListN.{length}
 use Rattle.table.specs.Tables.{chainRows}
 use Rattle.lists.specs.Lists.{gaugeSide}
 use Rattle.runs.specs.Paused.{Value, gaugeValue}
-use Rattle.runs.specs.Calling.{gaugeStep, valueRefusal, Called}
+use Rattle.runs.specs.Calling.{gaugeStep, valueRefusal}
+use Rattle.runs.specs.private.Either.{CalledOf}
 use Rattle.runs.proofs.Demands.{Starts}
 use Rattle.runs.proofs.Starting.{gauge-started}
+use Rattle.runs.proofs.Answered.{called-of-both}
 use Rattle.split.specs.private.Trying.{oneMore, TriedAt}
 use Rattle.split.proofs.Trying.{no-room, too-large, not-taken, is-taken}
 use Rattle.split.proofs.gauges.try_gauge.Statement.{statement}
@@ -38,9 +40,9 @@ start c = c .before .before .before
 abbrev made : tie.After-taken → tie.After-one-more
 made c = c .before .before
 
-called : (c : tie.After-taken) → Called gaugeSide (oneMore (value (start (made c))) (start (made c) .args .g)) 0 (gaugeStep (c .before .run-gauges .result))
+called : (c : tie.After-taken) → CalledOf gaugeSide (oneMore (value (start (made c))) (start (made c) .args .g)) 0 (gaugeStep (c .before .run-gauges .result))
 called c =
-    subst (λ (v : Value). Called gaugeSide v 0 (gaugeStep (c .before .run-gauges .result))) (made c .one-more .ensures) (c .before .run-gauges .ensures .0)
+    subst (λ (v : Value). CalledOf gaugeSide v 0 (gaugeStep (c .before .run-gauges .result))) (made c .one-more .ensures) (called-of-both _ _ _ _ (c .before .run-gauges .ensures .1 .1 .0))
 
 no-part-requires : tie.Need-no-part-requires
 no-part-requires c κs = search needs

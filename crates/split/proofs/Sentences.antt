@@ -1,0 +1,50 @@
+-- What a reader finds in the promises about parts, sentence by sentence. Of a part (`Divides`): it is a part by itself (`part-itself`); the parts of its
+-- candidates may stand in its place, and their lists, one after the other, are then still the list (`part-replaced`, `candidates-join`); what the runs of
+-- parts of the whole list hand over, one after the other, is what a run of the whole list does (`whole-joins`). Of the run calls from a part (`PartRun`): what
+-- they hand out of it is a front of its list, and all of it once it is closed (`part-handed`).
+use mathlib.Core.Path.{_≡_, ap, _∙_}
+use mathlib.Core.Bool.{Bool, true}
+use mathlib.Core.List.{List, [], _∷_, _++_, map}
+use Prim.Native.Nat.{ℕ}
+use Rattle.table.specs.declared.Table.{Table}
+use Rattle.lists.specs.Lists.{Side, PreferredList}
+use Rattle.lists.proofs.Listed.{list-unique}
+use Rattle.parts.specs.Parts.{PartList, Splits, PartLists, joined, splitAt}
+use Rattle.parts.proofs.Joining.{part-unique}
+use Rattle.runs.specs.Paused.{Value}
+use Rattle.runs.specs.Calling.{Step, held}
+use Rattle.split.specs.Listing.{partSets, isClosed, handedOver, PartRun}
+use Rattle.split.specs.Entries.{Divides}
+
+-- ---- a part, and the parts of its candidates
+pub part-itself : (t : Table) (s : Side) (o p : List ℕ) → Divides t s o p → Splits t s o p (p ∷ [])
+part-itself t s o p d = d .itself
+
+-- the lists of the candidates' parts are, one after the other, the part's
+pub candidates-join : (t : Table) (s : Side) (o p : List ℕ) → Divides t s o p → (xss : List (List (List ℕ))) → PartLists t s o (splitAt s o p) xss
+    → PartList t s o p (joined xss)
+candidates-join t s o p d xss l = d .joins p (splitAt s o p) xss (d .splits) l
+
+-- and so where the part is one of several
+pub part-replaced : (t : Table) (s : Side) (o p : List ℕ) → Divides t s o p → (q : List ℕ) (b c : List (List ℕ)) (xss : List (List (List ℕ)))
+    → Splits t s o q (b ++ (p ∷ c)) → PartLists t s o (b ++ (splitAt s o p ++ c)) xss → PartList t s o q (joined xss)
+part-replaced t s o p d q b c xss h l = d .joins q (b ++ (splitAt s o p ++ c)) xss (d .more q b c h) l
+
+-- of parts that split the empty sequence: their lists are, one after the other, the side's list, and what is handed over of them that of a run
+pub whole-joins : (t : Table) (s : Side) (o p : List ℕ) → Divides t s o p → (ps : List (List ℕ)) (xss : List (List (List ℕ))) → Splits t s o [] ps
+    → PartLists t s o ps xss → (xs : List (List ℕ)) → PreferredList t s o xs
+    → (joined xss ≡ xs) × ((omit : Bool) → joined (map (handedOver t omit) xss) ≡ handedOver t omit xs)
+whole-joins t s o p d ps xss h l xs k = (same, λ omit. d .handed omit xss ∙ ap (handedOver t omit) same)
+  where
+    same : joined xss ≡ xs
+    same = list-unique (joined xss) xs (d .whole ps xss h l) k
+
+-- ---- the calls that list a part whose list is xs
+pub part-handed : (side : Table → Side) (v : Value) (p : List ℕ) (rs : List Step) → PartRun side v p rs
+    → (xs : List (List ℕ)) → PartList (v .table) (side (v .table)) (held side v) p xs
+    → ((rest : List (List ℕ)) × (partSets v rs ++ rest ≡ handedOver (v .table) (v .omit) xs))
+    × (isClosed v rs ≡ true → partSets v rs ≡ handedOver (v .table) (v .omit) xs)
+part-handed side v p rs r xs l = ((r .front .0, r .front .1 ∙ over), λ c. r .complete c ∙ over)
+  where
+    over : handedOver (v .table) (v .omit) (r .list) ≡ handedOver (v .table) (v .omit) xs
+    over = ap (handedOver (v .table) (v .omit)) (part-unique (v .table) (side (v .table)) (held side v) p (r .list) xs (r .listed) l)
