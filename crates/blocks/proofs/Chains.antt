@@ -16,7 +16,7 @@ use Rattle.table.proofs.Padding.{pad-length, pad-getD}
 use Rattle.table.proofs.Places.{row-past, within-sub}
 use Rattle.table.proofs.Legality.{length-rows, row-tableRows}
 use Rattle.rules.specs.Machine.{State, Move, Given, nothing, hands, ends}
-use Rattle.rules.specs.private.ByNumber.{move}
+use Rattle.rules.specs.ByNumber.{move}
 use Rattle.rules.specs.private.Fitting.{Fits}
 use Rattle.rules.specs.Calls.{spent, handed, Call, mostBudget, callBy}
 use Rattle.rules.specs.private.Reports.{says, lastBy}
@@ -24,7 +24,7 @@ use Rattle.rules.proofs.Calls.{Paid, cost, cost-lap, cost-pos, call-law}
 use Rattle.rules.proofs.Reports.{all-whole, calls-spent}
 use Rattle.rules.proofs.Renaming.{renamedCall, call-renamed}
 use Rattle.lists.specs.Lists.{Side, gaugeSide}
-use Rattle.lists.specs.private.ByNumber.{candidates}
+use Rattle.lists.specs.ByNumber.{candidates}
 use Rattle.lists.specs.OnTable.{handOut, callOn, ReachedOn}
 use Rattle.lists.specs.private.Arranging.{indexAt, prefer}
 use Rattle.lists.proofs.Arranging.{length-arrange}

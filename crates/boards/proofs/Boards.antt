@@ -16,7 +16,7 @@ use Rattle.table.specs.Pairs.{row, Has, Within, Cases}
 use Rattle.table.proofs.Places.{row-past, place-has, within-sub}
 use Rattle.rules.specs.Sequences.{All, Sorted}
 use Rattle.rules.proofs.Sequences.{Ascending, sorted-unique}
-use Rattle.lists.specs.private.ByNumber.{pickSeq}
+use Rattle.lists.specs.ByNumber.{pickSeq}
 use Rattle.lists.specs.Lists.{SideList}
 use Rattle.lists.proofs.Selecting.{mem-select, select-ascends}
 use Rattle.pairs.specs.PairOrder.{Pair, holds, PairBefore, PairList, pairs}

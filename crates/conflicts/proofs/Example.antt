@@ -11,11 +11,11 @@ use Rattle.sets.specs.Sets.{bit, meet, isSubset, isProperSubset}
 use Rattle.sets.specs.Lists.{tabulate, allBelow}
 use Rattle.table.specs.Pairs.{row, Within, Cases}
 use Rattle.table.proofs.Places.{small-cases}
-use Rattle.lists.specs.private.ByNumber.{pickSeq}
+use Rattle.lists.specs.ByNumber.{pickSeq}
 use Rattle.lists.specs.Lists.{SideList}
 use Rattle.lists.specs.PickSequence.{isIn}
 use Rattle.lists.specs.Picks.{common, select}
-use Rattle.lists.specs.private.ByNumber.{rulesOut, candidate, candidates}
+use Rattle.lists.specs.ByNumber.{rulesOut, candidate, candidates}
 use Rattle.lists.specs.OnTable.{chainRow, chainOf}
 use Rattle.lists.proofs.Listed.{chainsInOrder, gauge-list}
 use Rattle.conflicts.specs.Conflicts.{HoldsEssential}

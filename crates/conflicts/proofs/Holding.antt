@@ -15,7 +15,7 @@ use Rattle.table.specs.Chains.{IsMaximal}
 use Rattle.table.proofs.Places.{has-place, place-has, by-place}
 use Rattle.lists.specs.Picks.{common}
 use Rattle.lists.specs.OnTable.{chainOf}
-use Rattle.lists.specs.private.ByNumber.{pickSeq}
+use Rattle.lists.specs.ByNumber.{pickSeq}
 use Rattle.lists.specs.Growing.{FirstContaining}
 use Rattle.lists.proofs.ChainRows.{row-hit, row-miss, row-chainOf, chainOf-within, chainOf-chain}
 use Rattle.lists.proofs.Growing.{grow, grow-first}

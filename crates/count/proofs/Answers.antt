@@ -27,7 +27,7 @@ use Rattle.table.proofs.Places.{row-past}
 use Rattle.table.proofs.Padding.{pad-getD}
 use Rattle.lists.specs.Arrangements.{IsArrangement}
 use Rattle.lists.specs.Lists.{gaugeSide}
-use Rattle.lists.specs.private.ByNumber.{candidates}
+use Rattle.lists.specs.ByNumber.{candidates}
 use Rattle.lists.specs.OnTable.{handOut}
 use Rattle.lists.specs.private.Arranging.{indexAt, arrange, prefer}
 use Rattle.lists.proofs.Arranging.{length-arrange, arrange-moves}

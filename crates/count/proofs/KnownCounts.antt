@@ -9,7 +9,7 @@ use Rattle.table.specs.Tables.{rowsFit, tableRefusal}
 use Rattle.lists.specs.Arrangements.{times}
 use Rattle.lists.specs.PickSequence.{isIn}
 use Rattle.lists.specs.Picks.{common, select}
-use Rattle.lists.specs.private.ByNumber.{rulesOut, candidate, candidates}
+use Rattle.lists.specs.ByNumber.{rulesOut, candidate, candidates}
 use Rattle.lists.specs.private.Arranging.{arrange}
 use Rattle.preference.specs.Preferences.{isPreference, preferredRefusal, numbersOf, plainNumbers}
 use Rattle.known.specs.KnownTables.{k1, k2, k3, k4, k5}

@@ -1,7 +1,7 @@
 -- What an answer of counting says (02, R-4), from its contract alone: there is one answer only (`counts-only`); the sequences are those of states that
--- moves lead to, the empty one included (`sequence-reached`, `empty-sequence`); spent exactly when there are more sequences than the budget, and a budget equal to their number is enough; the count is at most the calls, at most (min G L)!, and
--- the number of sets that a run of either side, under any preference, hands out once a call has answered end, as it does when it is called on; and
--- under every preference it is the same (`ladders-same`).
+-- moves lead to, the empty one included (`sequence-reached`, `empty-sequence`); spent exactly when there are more sequences than the budget, and a budget
+-- equal to their number is enough; the count is at most the calls, at most (min G L)!, and the number of sets that a run of either side, under any
+-- preference, hands out once a call has answered end, as it does when it is called on; and under every preference it is the same (`ladders-same`).
 use mathlib.Core.Path.{_≡_, refl, sym, ap, ap₂, _∙_}
 use mathlib.Core.Logic.{_↔_}
 use mathlib.Core.List.{List, [], map, List·Memᴰ}
@@ -19,7 +19,7 @@ use Rattle.rules.proofs.Sequences.{distinct-length}
 use Rattle.rules.proofs.Ends.{Enough}
 use Rattle.lists.specs.Arrangements.{IsArrangement}
 use Rattle.lists.specs.Lists.{Side, gaugeSide}
-use Rattle.lists.specs.private.ByNumber.{candidates}
+use Rattle.lists.specs.ByNumber.{candidates}
 use Rattle.lists.specs.OnTable.{handOut, moveOn, callsOn}
 use Rattle.lists.specs.private.Demand.{Demand}
 use Rattle.lists.specs.private.Arranging.{indexAt, arrange, prefer}

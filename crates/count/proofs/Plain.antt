@@ -10,11 +10,11 @@ use Rattle.table.specs.Tables.{Legal, tableRows}
 use Rattle.table.proofs.Legality.{legal-passes, length-rows}
 use Rattle.rules.specs.Sequences.{Sorted}
 use Rattle.rules.specs.Machine.{Phase, at}
-use Rattle.rules.specs.private.ByNumber.{Reached}
+use Rattle.rules.specs.ByNumber.{Reached}
 use Rattle.lists.specs.Arrangements.{plain}
 use Rattle.lists.specs.Lists.{gaugeSide, GaugeList}
 use Rattle.lists.specs.OnTable.{ReachedOn}
-use Rattle.lists.specs.private.ByNumber.{candidates}
+use Rattle.lists.specs.ByNumber.{candidates}
 use Rattle.lists.proofs.BothSides.{gauge-fair}
 use Rattle.lists.proofs.Plain.{base-plain, reached-plain}
 use Rattle.preference.specs.Preferences.{plainNumbers}

@@ -22,7 +22,7 @@ use Rattle.rules.proofs.Trees.{each, branch, leaves}
 use Rattle.lists.specs.Arrangements.{IsArrangement, placeOf}
 use Rattle.lists.specs.Lists.{Side}
 use Rattle.lists.specs.Picks.{select}
-use Rattle.lists.specs.private.ByNumber.{candidate, candidates}
+use Rattle.lists.specs.ByNumber.{candidate, candidates}
 use Rattle.lists.proofs.Selecting.{mem-select, select-nil}
 use Rattle.lists.proofs.Candidates.{cand-of}
 use Rattle.lists.specs.private.Arranging.{indexAt, prefer}

@@ -18,7 +18,7 @@ use Rattle.table.proofs.Nesting.{NoPairs}
 use Rattle.sets.proofs.OnePlace.{none-in}
 use Rattle.rules.specs.Sequences.{Sorted}
 use Rattle.rules.proofs.Sequences.{All-of}
-use Rattle.lists.specs.private.ByNumber.{pickSeq}
+use Rattle.lists.specs.ByNumber.{pickSeq}
 use Rattle.lists.specs.Growing.{FirstContaining}
 use Rattle.lists.specs.OnTable.{chainOf}
 use Rattle.lists.proofs.Growing.{grow, grow-first}

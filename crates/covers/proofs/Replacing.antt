@@ -1,6 +1,6 @@
 -- R-8: where one gauge's row changes, or one case's column, the least number moves by at most 1 (`one-gauge`, `one-case`; `one-replaced` for any two
--- tables), and 1 is reached either way (`one-reached`). What the definitions say to a reader: Sentences.antt. From a cover of the one table, take that row out of
--- each chain and add the new row as a chain of its own; a case by exchanging sides.
+-- tables), and 1 is reached either way (`one-reached`). What the definitions say to a reader: Sentences.antt. From a cover of the one table, take that row
+-- out of each chain and add the new row as a chain of its own; a case by exchanging sides.
 use mathlib.Core.Path.{_≡_, refl, sym, ap, _∙_, subst}
 use mathlib.Core.Logic.{_⊎_, inl, inr}
 use mathlib.Core.List.{List, [], _∷_, map, List·Memᴰ, List·Memᴰ·head, List·Memᴰ·tail, List·Memᴰ·cases-cons, Memᴰ·map, Memᴰ·of-map}

@@ -12,7 +12,7 @@ use Rattle.table.specs.Pairs.{row}
 use Rattle.table.proofs.Places.{small-cases}
 use Rattle.lists.specs.PickSequence.{isIn}
 use Rattle.lists.specs.Picks.{common, select}
-use Rattle.lists.specs.private.ByNumber.{rulesOut, candidate, candidates}
+use Rattle.lists.specs.ByNumber.{rulesOut, candidate, candidates}
 use Rattle.lists.specs.OnTable.{chainRow, chainOf}
 use Rattle.lists.proofs.Listed.{chainsInOrder}
 use Rattle.pairs.specs.PairOrder.{holds, pairsFrom}

@@ -9,10 +9,10 @@ use Rattle.table.specs.declared.Table.{Table}
 use Rattle.table.specs.Tables.{tableRefusal}
 use Rattle.refusals.specs.Answers.{Answer, answer}
 use Rattle.rules.specs.Machine.{Handed, at}
-use Rattle.rules.specs.private.ByNumber.{Reached}
+use Rattle.rules.specs.ByNumber.{Reached}
 use Rattle.lists.specs.Lists.{Side}
 use Rattle.lists.specs.OnTable.{ReachedOn}
-use Rattle.lists.specs.private.ByNumber.{candidates}
+use Rattle.lists.specs.ByNumber.{candidates}
 use Rattle.lists.proofs.Plain.{reached-plain}
 use Rattle.preference.specs.Preferences.{plainNumbers}
 use Rattle.preference.proofs.Placing.{both-pass}
@@ -20,7 +20,8 @@ use Rattle.preference.proofs.PlainOrder.{order-plain, plain-unrefused}
 use Rattle.runs.specs.Paused.{paused}
 use Rattle.explain.specs.Reasons.{Question, firstLacking, reasonRefusal, Explained}
 
-module _ (side : Table → Side) (question : Table → ℕ → ℕ → Question) (t : Table) (few : side t .count ≤ 64) (counted : length (side t .rows) ≡ side t .count) where
+module _ (side : Table → Side) (question : Table → ℕ → ℕ → Question) (t : Table)
+    (few : side t .count ≤ 64) (counted : length (side t .rows) ≡ side t .count) where
   pub explained-plain : tableRefusal t ≡ 0 → (omit : Bool) (p : List ℕ) → Reached (candidates (side t .rows)) (at p Handed) → (g c : ℕ) (a : Answer ℕ)
       → Explained side question (paused t (plainNumbers (side t .count)) omit (at p Handed)) g c a
       → a ≡ answer (reasonRefusal t (side t) p g c) (firstLacking (question t g c .meets) (map suc p)) 0

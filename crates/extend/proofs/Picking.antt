@@ -19,7 +19,7 @@ use Rattle.sets.proofs.Order.{is-subset, zero-sub}
 use Rattle.table.specs.Pairs.{row}
 use Rattle.lists.specs.PickSequence.{isIn}
 use Rattle.lists.specs.Picks.{remainder, select}
-use Rattle.lists.specs.private.ByNumber.{candidate}
+use Rattle.lists.specs.ByNumber.{candidate}
 use Rattle.lists.specs.OnTable.{chainOf}
 use Rattle.lists.proofs.Selecting.{head-select, nil-select}
 use Rattle.lists.proofs.Candidates.{cand-of}

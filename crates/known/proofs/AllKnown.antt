@@ -31,10 +31,10 @@ use Rattle.rules.proofs.Sequences.{All-of}
 use Rattle.lists.specs.Arrangements.{placeOf, plain}
 use Rattle.lists.specs.Preferred.{rulesOutBy, candidateBy, chosen, candidatesBy, bestFrom, bestIn, takeBy, pickSeqBy}
 use Rattle.lists.specs.PickSequence.{isIn, score}
-use Rattle.lists.specs.private.ByNumber.{best, takeFrom, pickSeq}
+use Rattle.lists.specs.ByNumber.{best, takeFrom, pickSeq}
 use Rattle.lists.specs.Lists.{gaugeSide, GaugeList}
 use Rattle.lists.specs.Picks.{common, select}
-use Rattle.lists.specs.private.ByNumber.{rulesOut, candidate, candidates}
+use Rattle.lists.specs.ByNumber.{rulesOut, candidate, candidates}
 use Rattle.lists.specs.OnTable.{chainRow, chainOf, moveOn}
 use Rattle.lists.proofs.Listed.{chainsInOrder}
 use Rattle.lists.proofs.Plain.{gauge-list-of, first-plain}
@@ -86,8 +86,9 @@ none-ends t n h k l b = no-end (moveOf t k .given) (all-at (λ i. goesOn (after 
 
 -- ---- all of them
 holds : (k : Known) → Claim k
-unfolding tableRefusal rowsFit candidatesBy chosen candidateBy rulesOutBy placeOf pickSeqBy takeBy bestIn bestFrom candidates select candidate rulesOut common isIn isProperSubset isSubset meet allBelow chainOf chainRow tabulate pickSeq
-    takeFrom best score ones onesIn grow growFrom fitting covers k8 goesOn
+unfolding tableRefusal rowsFit candidatesBy chosen candidateBy rulesOutBy placeOf pickSeqBy takeBy bestIn bestFrom candidates select candidate
+    rulesOut common isIn isProperSubset isSubset meet allBelow chainOf chainRow tabulate pickSeq takeFrom best score ones onesIn grow growFrom fitting
+    covers k8 goesOn
 holds K1 = lists k1 _ _ _ (shape k1 _ _ refl refl refl refl) refl refl refl
 holds K2 = lists k2 _ _ _ (shape k2 _ _ refl refl refl refl) refl refl refl
 holds K3 = lists k3 _ _ _ (shape k3 _ _ refl refl refl refl) refl refl refl

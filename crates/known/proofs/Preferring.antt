@@ -18,7 +18,7 @@ use Rattle.lists.specs.Picks.{common, select}
 use Rattle.lists.specs.Preferred.{bestFrom, bestIn, takeBy, pickSeqBy}
 use Rattle.lists.specs.Lists.{gaugeSide, PreferredList}
 use Rattle.lists.specs.OnTable.{chainRow, chainOf}
-use Rattle.lists.specs.private.ByNumber.{rulesOut, candidate, candidates}
+use Rattle.lists.specs.ByNumber.{rulesOut, candidate, candidates}
 use Rattle.lists.specs.private.Arranging.{arrange, unarrange, prefer}
 use Rattle.lists.proofs.BothSides.{gauge-fair, sideList}
 use Rattle.lists.proofs.PreferredSides.{prefer-fair, preferred-list}

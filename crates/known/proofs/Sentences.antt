@@ -20,7 +20,8 @@ use Rattle.lists.specs.Preferred.{pickSeqBy}
 use Rattle.lists.specs.Lists.{gaugeSide, listKey, GaugeList}
 use Rattle.lists.specs.Growing.{FirstContaining}
 use Rattle.lists.specs.OnTable.{moveOn, callsOn}
-use Rattle.known.specs.KnownTables.{count, Entry, Shape, Lists, NoChain, NotMaximal, Grows, moveOf, FirstEnd, k2, k3, k5, K5, K9, Claim, AllKnown, Attained}
+use Rattle.known.specs.KnownTables.{count, Entry, Shape, Lists, NoChain, NotMaximal, Grows, moveOf, FirstEnd, k2, k3, k5, K5, K9}
+use Rattle.known.specs.KnownTables.{Claim, AllKnown, Attained}
 
 -- ---- the forms of a claim
 -- a table of g gauges and l cases that 10 and 11 do not refuse

@@ -1,7 +1,8 @@
 -- The known tables (01, "Known tables": K1 to K10), as statements about the definitions that the contracts use, at "the arrangement 1, 2, 3 and on":
--- `GaugeList`, `pickSeqBy`, `IsChain`, `IsMaximal` and `FirstContaining`, and rules 1 to 5, `moveOn`, from a fresh start. Sets are written as in 01, rows in braces: {2,3} is 2 ∷ 3 ∷ []. A set of pairs
--- is written by its rows too: 1:2, 1:3, 3:2 in three rows is {2,3} {} {2}. *Maximal chain* is 01's "ladder". The one list is `knownTables`,
--- the one theorem `AllKnown`, at the end, with the limits of demand 3 that K2 and K3 attain; both are proved in proofs/AllKnown.antt.
+-- `GaugeList`, `pickSeqBy`, `IsChain`, `IsMaximal` and `FirstContaining`, and rules 1 to 5, `moveOn`, from a fresh start. Sets are written as in 01, rows
+-- in braces: {2,3} is 2 ∷ 3 ∷ []. A set of pairs is written by its rows too: 1:2, 1:3, 3:2 in three rows is {2,3} {} {2}. *Maximal chain* is 01's
+-- "ladder". The one list is `knownTables`, the one theorem `AllKnown`, at the end, with the limits of demand 3 that K2 and K3 attain; both are proved in
+-- proofs/AllKnown.antt.
 use mathlib.Core.Path.{_≡_}
 use mathlib.Core.Logic.{_≢_}
 use mathlib.Core.List.{List, [], _∷_, _++_, map, List·Memᴰ}

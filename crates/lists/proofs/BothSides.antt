@@ -20,9 +20,9 @@ use Rattle.transpose.proofs.Transposition.{length-transpose, cases-transpose, c
 use Rattle.table.proofs.Legality.{length-rows, legal-cases}
 use Rattle.rules.specs.Sequences.{All, Sorted, factorial}
 use Rattle.rules.proofs.Sequences.{All-of}
-use Rattle.lists.specs.private.ByNumber.{ComesBefore}
+use Rattle.lists.specs.ByNumber.{ComesBefore}
 use Rattle.lists.specs.Lists.{Earlier, SideList, Side, gaugeSide, caseSide}
-use Rattle.lists.specs.private.ByNumber.{sequenceOf}
+use Rattle.lists.specs.ByNumber.{sequenceOf}
 use Rattle.lists.specs.OnTable.{chainOf, handOut}
 use Rattle.lists.proofs.Listed.{picksInOrder, chainsInOrder, listed, lists-length, gauge-list, leaves-few}
 

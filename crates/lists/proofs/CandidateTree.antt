@@ -7,11 +7,11 @@ use native.Mathlib.Omega.{arith}
 use lib.ListN.{length}
 use lib.Seq.{append-snoc}
 use Rattle.rules.specs.Machine.{State}
-use Rattle.rules.specs.private.ByNumber.{Reached}
+use Rattle.rules.specs.ByNumber.{Reached}
 use Rattle.rules.specs.private.Fitting.{ValidFrom, Valid, Fits}
 use Rattle.rules.proofs.Trees.{Tree}
 use Rattle.rules.proofs.Reach.{reachable}
-use Rattle.lists.specs.private.ByNumber.{candidate, candidates}
+use Rattle.lists.specs.ByNumber.{candidate, candidates}
 use Rattle.lists.proofs.Unpicked.{free, free-nil, free-drop}
 use Rattle.lists.proofs.Selecting.{select-ascends, select-free}
 use Rattle.lists.proofs.Candidates.{Cand, cand-of, mem-candidates}

@@ -20,7 +20,7 @@ use Rattle.sets.proofs.Tabulated.{all-at, all-of}
 use Rattle.rules.specs.private.Fitting.{ValidFrom, Valid}
 use Rattle.lists.specs.PickSequence.{isIn}
 use Rattle.lists.specs.Picks.{remainder}
-use Rattle.lists.specs.private.ByNumber.{rulesOut, candidate, candidates}
+use Rattle.lists.specs.ByNumber.{rulesOut, candidate, candidates}
 use Rattle.sets.proofs.Tests.{eq→eqb}
 use Rattle.lists.proofs.Unpicked.{Un}
 use Rattle.lists.proofs.Remainders.{remainder-past}

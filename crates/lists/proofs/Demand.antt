@@ -19,13 +19,13 @@ use Rattle.table.specs.Tables.{Legal}
 use Rattle.rules.specs.Sequences.{All}
 use Rattle.rules.specs.Machine.{fresh}
 use Rattle.rules.specs.Calls.{handed, end, Call, handouts, movesUntil, isHandOut, isHandOutOrEnd}
-use Rattle.rules.specs.private.ByNumber.{calls}
+use Rattle.rules.specs.ByNumber.{calls}
 use Rattle.rules.proofs.Calls.{calls-front, calls-complete, calls-start, calls-gap}
 use Rattle.rules.proofs.Ends.{Enough, calls-end}
 use Rattle.rules.proofs.Reports.{all-only18, all-whole, all-spent, one-list}
 use Rattle.rules.proofs.Renaming.{renamedCall, calls-renamed, handouts-renamed, moves-until-renamed, split-renamed}
 use Rattle.lists.specs.Arrangements.{IsArrangement}
-use Rattle.lists.specs.private.ByNumber.{candidates}
+use Rattle.lists.specs.ByNumber.{candidates}
 use Rattle.lists.specs.Lists.{Side, PreferredList}
 use Rattle.lists.specs.OnTable.{handOut, moveOn, callsOn}
 use Rattle.lists.specs.Demand.{startLimit, gapLimit, mostSets, OneSet}

@@ -15,9 +15,9 @@ use borrow.Author.Tests.{eq-eqb}
 use Rattle.sets.specs.Sets.{meet, _⊆_}
 use Rattle.sets.proofs.Order.{sub-trans, sub-zero, zero-sub, ones-eq, ones-empty, ones-zero}
 use Rattle.lists.specs.PickSequence.{isIn}
-use Rattle.lists.specs.private.ByNumber.{best}
+use Rattle.lists.specs.ByNumber.{best}
 use Rattle.lists.specs.Picks.{remainder}
-use Rattle.lists.specs.private.ByNumber.{candidates}
+use Rattle.lists.specs.ByNumber.{candidates}
 use Rattle.sets.proofs.Tests.{test, is-true, is-false}
 use Rattle.lists.proofs.Unpicked.{Un}
 use Rattle.lists.proofs.Remainders.{remainder-past}

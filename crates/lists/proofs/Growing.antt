@@ -25,12 +25,12 @@ use Rattle.table.proofs.Nesting.{Nested}
 use Rattle.rules.specs.Sequences.{Before}
 use Rattle.rules.proofs.Sequences.{before-irrefl, before-trans}
 use Rattle.lists.specs.PickSequence.{isIn, score}
-use Rattle.lists.specs.private.ByNumber.{ComesBefore}
-use Rattle.lists.specs.private.ByNumber.{pickSeq}
+use Rattle.lists.specs.ByNumber.{ComesBefore}
+use Rattle.lists.specs.ByNumber.{pickSeq}
 use Rattle.lists.specs.Lists.{Earlier}
 use Rattle.lists.specs.Growing.{FirstContaining}
 use Rattle.lists.specs.Picks.{remainder, select}
-use Rattle.lists.specs.private.ByNumber.{candidate, candidates}
+use Rattle.lists.specs.ByNumber.{candidate, candidates}
 use Rattle.lists.specs.OnTable.{chainRow, chainOf}
 use Rattle.sets.proofs.Tests.{and-l, and-r, and-i, or-l, or-r, or-e, test, eq→eqb}
 use Rattle.lists.proofs.Unpicked.{Un, un-nil, un-left, un-ne, un-snoc, free, free-nil, free-drop}

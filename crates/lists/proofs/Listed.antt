@@ -15,10 +15,10 @@ use Rattle.rules.specs.Sequences.{All, Sorted, Before, factorial}
 use Rattle.rules.proofs.Sequences.{All-of, Sorted-map, before-irrefl, before-trans, sorted-unique, distinct-length}
 use Rattle.rules.proofs.Trees.{leaves}
 use Rattle.rules.proofs.Leaves.{leaves-ascend, leaf-iff, leaf-count}
-use Rattle.lists.specs.private.ByNumber.{ComesBefore}
-use Rattle.lists.specs.private.ByNumber.{pickSeq}
+use Rattle.lists.specs.ByNumber.{ComesBefore}
+use Rattle.lists.specs.ByNumber.{pickSeq}
 use Rattle.lists.specs.Lists.{Earlier, SideList}
-use Rattle.lists.specs.private.ByNumber.{candidates}
+use Rattle.lists.specs.ByNumber.{candidates}
 use Rattle.lists.specs.OnTable.{chainOf}
 use Rattle.lists.proofs.Candidates.{IsLeaf}
 use Rattle.lists.proofs.CandidateTree.{candidate-tree, candidates-few}

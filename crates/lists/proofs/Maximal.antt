@@ -24,9 +24,9 @@ use Rattle.table.specs.Chains.{IsChain, IsMaximal}
 use Rattle.table.proofs.Places.{row-past, within-sub, sub-within}
 use Rattle.table.proofs.Nesting.{Nested, chain-nested, nested-chain}
 use Rattle.lists.specs.PickSequence.{isIn, score}
-use Rattle.lists.specs.private.ByNumber.{takeFrom, pickSeq}
+use Rattle.lists.specs.ByNumber.{takeFrom, pickSeq}
 use Rattle.lists.specs.Picks.{common, remainder}
-use Rattle.lists.specs.private.ByNumber.{candidates}
+use Rattle.lists.specs.ByNumber.{candidates}
 use Rattle.lists.specs.OnTable.{chainRow, chainOf}
 use Rattle.sets.proofs.Tests.{test}
 use Rattle.lists.proofs.Unpicked.{Un, un-nil, un-left, un-ne, un-snoc, free, free-nil, free-drop}

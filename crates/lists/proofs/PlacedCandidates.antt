@@ -22,7 +22,7 @@ use Rattle.rules.proofs.Renaming.{map-snoc}
 use Rattle.lists.specs.Arrangements.{IsArrangement, placeOf}
 use Rattle.lists.specs.PickSequence.{isIn}
 use Rattle.lists.specs.Picks.{common, remainder, select}
-use Rattle.lists.specs.private.ByNumber.{rulesOut, candidate, candidates}
+use Rattle.lists.specs.ByNumber.{rulesOut, candidate, candidates}
 use Rattle.lists.specs.Preferred.{rulesOutBy, candidateBy, chosen, candidatesBy}
 use Rattle.lists.specs.private.Arranging.{indexAt, arrange}
 use Rattle.lists.proofs.Standing.{index-place, place-below, index-below, place-index, index-injective}

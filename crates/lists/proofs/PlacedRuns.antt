@@ -17,9 +17,9 @@ use lib.ListN.{length}
 use lib.Seq.{ext-getD}
 use Rattle.table.specs.Pairs.{row}
 use Rattle.rules.specs.Machine.{Phase, Down, Handed, Back, Ended, State, at, fresh, hands, Cut, empty, cut, cutLast, takeBack, down, back}
-use Rattle.rules.specs.private.ByNumber.{above, step}
+use Rattle.rules.specs.ByNumber.{above, step}
 use Rattle.rules.specs.Machine.{afterBy}
-use Rattle.rules.specs.private.ByNumber.{move}
+use Rattle.rules.specs.ByNumber.{move}
 use Rattle.rules.specs.private.Fitting.{ValidFrom, Valid, Fits}
 use Rattle.rules.proofs.Sequences.{All-append}
 use Rattle.rules.proofs.Progress.{move-fits}
@@ -27,7 +27,7 @@ use Rattle.rules.proofs.Reach.{reachable}
 use Rattle.rules.proofs.Renaming.{renamed, renamedPhase, map-snoc, Below, Renames, moves-renamed, Follows, SameOut, after-renamed}
 use Rattle.lists.specs.Arrangements.{IsArrangement, placeOf}
 use Rattle.lists.specs.Picks.{common}
-use Rattle.lists.specs.private.ByNumber.{candidates}
+use Rattle.lists.specs.ByNumber.{candidates}
 use Rattle.lists.specs.Preferred.{candidatesBy}
 use Rattle.lists.specs.Lists.{Side}
 use Rattle.lists.specs.OnTable.{chainRow, chainOf, handOut, moveOn, ReachedOn}

@@ -18,7 +18,7 @@ use Rattle.rules.proofs.Trees.{by-last, length-snoc}
 use Rattle.rules.proofs.Renaming.{map-snoc}
 use Rattle.lists.specs.Arrangements.{IsArrangement, placeOf}
 use Rattle.lists.specs.PickSequence.{isIn, score}
-use Rattle.lists.specs.private.ByNumber.{best, takeFrom, pickSeq}
+use Rattle.lists.specs.ByNumber.{best, takeFrom, pickSeq}
 use Rattle.lists.specs.Preferred.{bestFrom, bestIn, takeBy, pickSeqBy, placesOf}
 use Rattle.lists.specs.private.Arranging.{indexAt, arrange}
 use Rattle.lists.proofs.Taking.{best-in, next, take-none, take-stop, take-more, next-in}

@@ -1,6 +1,7 @@
 -- "The arrangement 1, 2, 3 and on gives the former results" (02, R-12), value for value: places are indices there (`place-plain`), so candidates, pick
--- sequences, lists (`base-list`, `base-plain`; 01's two exist, `lists-exist`), growing, the states reached and every call of a run are those by number (`candidates-plain`, `sequence-plain`, `list-plain`,
--- `first-plain`, `first-base`, `reached-plain`, `moves-plain`, `calls-plain`, `left-plain`), of a run that omits too (`keeping-plain`).
+-- sequences, lists (`base-list`, `base-plain`; 01's two exist, `lists-exist`), growing, the states reached and every call of a run are those by number
+-- (`candidates-plain`, `sequence-plain`, `list-plain`, `first-plain`, `first-base`, `reached-plain`, `moves-plain`, `calls-plain`, `left-plain`), of a run
+-- that omits too (`keeping-plain`).
 use mathlib.Core.Path.{_≡_, refl, sym, ap, ap₂, _∙_, subst, fun-ext}
 use mathlib.Core.Logic.{_⊎_, inl, inr, _↔_}
 use mathlib.Core.Bool.{Bool}
@@ -11,9 +12,9 @@ use Rattle.table.specs.declared.Table.{Table}
 use Rattle.table.specs.Chains.{IsMaximal}
 use Rattle.table.specs.Tables.{Legal, tableRows}
 use Rattle.rules.specs.Machine.{Phase, Down, Handed, Back, Ended, State, at, fresh, Given, nothing, hands, ends, Move, gives}
-use Rattle.rules.specs.private.ByNumber.{move, Reached}
+use Rattle.rules.specs.ByNumber.{move, Reached}
 use Rattle.rules.specs.Calls.{Call, callBy, callsBy, stateBy}
-use Rattle.rules.specs.private.ByNumber.{calls, stateAfter}
+use Rattle.rules.specs.ByNumber.{calls, stateAfter}
 use Rattle.rules.specs.Keeping.{moveKeeping}
 use Rattle.rules.specs.private.Fitting.{Fits}
 use Rattle.rules.proofs.Renaming.{renamed, renamedPhase, renamedGiven, renamedMove, renamedCall, Below, Follows, SameOut, call-stays}
@@ -24,7 +25,7 @@ use Rattle.lists.specs.Lists.{Earlier, SideList, Side, gaugeSide, caseSi
 use Rattle.lists.specs.Growing.{FirstContaining}
 use Rattle.lists.specs.OnTable.{chainOf, handOut, moveOn, ReachedOn, callsOn, leftOn}
 use Rattle.lists.specs.Keeping.{callsKeeping}
-use Rattle.lists.specs.private.ByNumber.{pickSeq, candidates, sequenceOf}
+use Rattle.lists.specs.ByNumber.{pickSeq, candidates, sequenceOf}
 use Rattle.lists.specs.private.Arranging.{indexAt, arrange, unarrange, prefer}
 use Rattle.lists.proofs.Standing.{place-index, index-plain, plain-arrangement}
 use Rattle.lists.proofs.Arranging.{arrange-plain, unarrange-arrange}

@@ -9,7 +9,7 @@ use Rattle.table.specs.Pairs.{Within}
 use Rattle.table.specs.Chains.{IsChain, IsMaximal}
 use Rattle.rules.specs.Sequences.{Before}
 use Rattle.lists.specs.Arrangements.{IsArrangement}
-use Rattle.lists.specs.private.ByNumber.{pickSeq}
+use Rattle.lists.specs.ByNumber.{pickSeq}
 use Rattle.lists.specs.Preferred.{placesOf}
 use Rattle.lists.specs.Lists.{Earlier}
 use Rattle.lists.specs.Growing.{FirstContaining}

@@ -10,7 +10,7 @@ use Rattle.table.specs.Chains.{IsMaximal}
 use Rattle.table.specs.Tables.{tableRows}
 use Rattle.lists.specs.Arrangements.{IsArrangement}
 use Rattle.lists.specs.Lists.{Side, listKey, PreferredList}
-use Rattle.lists.specs.private.ByNumber.{sequenceOf}
+use Rattle.lists.specs.ByNumber.{sequenceOf}
 use Rattle.lists.specs.private.Arranging.{arrange, unarrange, prefer}
 use Rattle.lists.proofs.Arranging.{length-arrange, arrange-maximal, unarrange-maximal, unarrange-arrange, arrange-unarrange}
 use Rattle.lists.proofs.Listed.{list-keys}

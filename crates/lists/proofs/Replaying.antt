@@ -13,7 +13,7 @@ use Rattle.table.specs.Pairs.{row}
 use Rattle.rules.specs.private.Fitting.{Valid}
 use Rattle.rules.proofs.Trees.{valid-up, valid-kid, valid-snoc}
 use Rattle.lists.specs.Picks.{common, remainder}
-use Rattle.lists.specs.private.ByNumber.{candidates}
+use Rattle.lists.specs.ByNumber.{candidates}
 use Rattle.lists.proofs.Unpicked.{Un, un-left, un-ne, un-snoc}
 use Rattle.lists.proofs.Remainders.{common-snoc, remainder-left}
 use Rattle.lists.proofs.Candidates.{Cand, mem-candidates}

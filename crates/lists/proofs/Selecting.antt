@@ -16,7 +16,7 @@ use native.Mathlib.Omega.{arith}
 use lib.Dec.{T, not-T, ltb}
 use lib.ListN.{length, length-append}
 use Rattle.rules.specs.Sequences.{All}
-use Rattle.rules.specs.private.ByNumber.{above}
+use Rattle.rules.specs.ByNumber.{above}
 use Rattle.rules.proofs.Sequences.{Ascending, All-get, All-of, Sorted-append}
 use Rattle.lists.specs.Picks.{select}
 use Rattle.sets.proofs.Tests.{is-false}

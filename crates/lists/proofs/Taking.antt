@@ -18,7 +18,7 @@ use Rattle.sets.proofs.Order.{ones-empty, ones-zero}
 use Rattle.table.specs.Pairs.{row}
 use Rattle.table.proofs.Places.{row-past}
 use Rattle.lists.specs.PickSequence.{isIn, score}
-use Rattle.lists.specs.private.ByNumber.{best, takeFrom}
+use Rattle.lists.specs.ByNumber.{best, takeFrom}
 use Rattle.sets.proofs.Tests.{test, is-true, is-false}
 use Rattle.lists.proofs.Unpicked.{Un}
 

@@ -8,4 +8,5 @@ pub mod Growing
 pub mod OnTable
 pub mod Demand
 pub mod Keeping
+pub mod ByNumber
 pub mod private

@@ -1,4 +1,3 @@
--- Definitions that no entry of a user mentions: the laws of this crate and of the crates above it do, and the contracts of inner crates.
+-- Definitions that no entry of a user mentions: the laws of this crate and of the crates above it do.
 pub mod Arranging
-pub mod ByNumber
 pub mod Demand

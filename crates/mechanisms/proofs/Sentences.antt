@@ -16,7 +16,7 @@ use Rattle.conflicts.specs.Covers.{Cover}
 use Rattle.pairs.specs.PairOrder.{Pair, holds, pairs}
 use Rattle.covers.specs.Covers.{ChainCover, LeastNumber}
 use Rattle.covers.specs.Searching.{Outcome, search, triedBelow, Arranged, Ahead}
-use Rattle.mechanisms.specs.Covering.{Reply, covered, spent, Reading, spentAt, chains, coveredBy, byRule, Searched}
+use Rattle.mechanisms.specs.Covering.{covered, spent, Reading, spentAt, chains, coveredBy, byRule, Searched}
 use Rattle.mechanisms.proofs.Searching.{within-over, within-whole}
 
 apart : covered ≡ spent → ⊥

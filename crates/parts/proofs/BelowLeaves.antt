@@ -8,7 +8,7 @@ use native.Mathlib.Omega.{arith}
 use lib.ListN.{length}
 use Rattle.rules.specs.Sequences.{All, Sorted, Before}
 use Rattle.rules.specs.Machine.{Down, Handed, State, at, fresh, Given, nothing, hands, ends}
-use Rattle.rules.specs.private.ByNumber.{move, after}
+use Rattle.rules.specs.ByNumber.{move, after}
 use Rattle.rules.specs.private.Fitting.{ValidFrom, Valid, Fits}
 use Rattle.rules.proofs.Sequences.{All-map, All-get, All-of, before-irrefl}
 use Rattle.rules.proofs.Trees.{each, branch, Tree, leaves}

@@ -8,7 +8,7 @@ use native.Mathlib.Nat.{zero-add, suc-add}
 use native.Mathlib.Decide.{decLe}
 use native.Mathlib.Omega.{arith}
 use Rattle.rules.specs.Machine.{Down, Ended, State, at, fresh}
-use Rattle.rules.specs.private.ByNumber.{move, after, Reached}
+use Rattle.rules.specs.ByNumber.{move, after, Reached}
 use Rattle.rules.specs.Calls.{end, Call, callsBy}
 use Rattle.rules.specs.Keeping.{moveKeeping}
 use Rattle.rules.specs.private.Fitting.{Valid}

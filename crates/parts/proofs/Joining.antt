@@ -1,9 +1,9 @@
 -- The lists of parts that split a part are, one after the other, its list (`joined-part`), and of parts that split the empty sequence, the side's whole
 -- list (`joined-list`). This is by the definitions alone: no run and no candidate is looked at.
 --
--- In order: the list of a part is unique (`part-unique`), and has each set once (`part-once`); it exists for every sequence, as the side's list without the other sets (`part-list`); the
--- empty sequence names the whole list (`whole-part`, `part-whole`); the lists of parts exist and are unique (`part-lists`, `part-lists-unique`); a maximal
--- chain is of one part only (`one-part`); the theorem.
+-- In order: the list of a part is unique (`part-unique`), and has each set once (`part-once`); it exists for every sequence, as the side's list without
+-- the other sets (`part-list`); the empty sequence names the whole list (`whole-part`, `part-whole`); the lists of parts exist and are unique
+-- (`part-lists`, `part-lists-unique`); a maximal chain is of one part only (`one-part`); the theorem.
 use mathlib.Core.Path.{_≡_, refl, sym, ap₂, _∙_, subst}
 use mathlib.Core.Logic.{_⊎_, inl, inr, _↔_, _≢_}
 use mathlib.Core.List.{List, [], _∷_, _++_, List·Memᴰ, List·Memᴰ·head, List·Memᴰ·tail, List·Memᴰ·not-nil, List·Memᴰ·cases-cons}

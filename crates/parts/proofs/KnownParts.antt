@@ -15,7 +15,7 @@ use Rattle.rules.specs.Calls.{Call, callBy}
 use Rattle.lists.specs.Arrangements.{placeOf, plain}
 use Rattle.lists.specs.PickSequence.{isIn, score}
 use Rattle.lists.specs.Picks.{common, select}
-use Rattle.lists.specs.private.ByNumber.{rulesOut, candidate, candidates}
+use Rattle.lists.specs.ByNumber.{rulesOut, candidate, candidates}
 use Rattle.lists.specs.Preferred.{rulesOutBy, candidateBy, chosen, candidatesBy, bestFrom, bestIn, takeBy, pickSeqBy}
 use Rattle.lists.specs.Lists.{gaugeSide, PreferredList}
 use Rattle.lists.specs.OnTable.{chainRow, chainOf}

@@ -8,9 +8,9 @@ use Prim.Native.Nat.{ℕ}
 use native.Mathlib.Omega.{arith}
 use Rattle.rules.specs.Sequences.{All}
 use Rattle.rules.specs.Machine.{Ended, State, Move, at}
-use Rattle.rules.specs.private.ByNumber.{move}
+use Rattle.rules.specs.ByNumber.{move}
 use Rattle.rules.specs.Calls.{Reply, refused, spent, handed, end, Call, answered, callBy, callsBy}
-use Rattle.rules.specs.private.ByNumber.{call}
+use Rattle.rules.specs.ByNumber.{call}
 use Rattle.rules.specs.Keeping.{moveKeeping}
 use Rattle.rules.specs.private.Fitting.{Fits}
 use Rattle.rules.proofs.Trees.{Tree}

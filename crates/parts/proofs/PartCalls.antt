@@ -15,9 +15,9 @@ use Rattle.table.specs.declared.Table.{Table}
 use Rattle.table.specs.Tables.{Legal}
 use Rattle.rules.specs.Sequences.{All, factorial}
 use Rattle.rules.specs.Machine.{Down, at}
-use Rattle.rules.specs.private.ByNumber.{move}
+use Rattle.rules.specs.ByNumber.{move}
 use Rattle.rules.specs.Calls.{Call, callsBy}
-use Rattle.rules.specs.private.ByNumber.{callsFrom}
+use Rattle.rules.specs.ByNumber.{callsFrom}
 use Rattle.rules.specs.Keeping.{moveKeeping, kept}
 use Rattle.rules.proofs.Sequences.{All-of, All-get}
 use Rattle.rules.proofs.Trees.{Tree}
@@ -27,7 +27,7 @@ use Rattle.rules.proofs.Kept.{mem-kept}
 use Rattle.rules.proofs.Ends.{Enough, end-from}
 use Rattle.rules.proofs.Renaming.{renamedCall, calls-renamed, keeping-follows, keeping-out}
 use Rattle.lists.specs.Arrangements.{IsArrangement}
-use Rattle.lists.specs.private.ByNumber.{candidates}
+use Rattle.lists.specs.ByNumber.{candidates}
 use Rattle.lists.specs.Lists.{Side}
 use Rattle.lists.specs.OnTable.{handOut, ReachedOn}
 use Rattle.lists.specs.private.Arranging.{indexAt, prefer}

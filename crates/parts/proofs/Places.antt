@@ -14,8 +14,8 @@ use Rattle.rules.specs.private.Fitting.{Valid, Fits}
 use Rattle.rules.proofs.Leaves.{leaf-iff}
 use Rattle.rules.proofs.Renaming.{renamedPhase}
 use Rattle.lists.specs.Arrangements.{IsArrangement, placeOf}
-use Rattle.lists.specs.private.ByNumber.{pickSeq}
-use Rattle.lists.specs.private.ByNumber.{candidates}
+use Rattle.lists.specs.ByNumber.{pickSeq}
+use Rattle.lists.specs.ByNumber.{candidates}
 use Rattle.lists.specs.Preferred.{candidatesBy}
 use Rattle.lists.specs.Lists.{Side}
 use Rattle.lists.specs.OnTable.{chainOf, handOut, ReachedOn}

@@ -19,7 +19,7 @@ use Rattle.rules.proofs.Sequences.{All-of, All-get, All-map, All-append, Sorted
 use Rattle.rules.proofs.Trees.{by-last, valid-up, valid-kid, valid-snoc}
 use Rattle.rules.proofs.Renaming.{map-snoc}
 use Rattle.lists.specs.Arrangements.{IsArrangement, placeOf}
-use Rattle.lists.specs.private.ByNumber.{candidates}
+use Rattle.lists.specs.ByNumber.{candidates}
 use Rattle.lists.specs.Preferred.{candidatesBy}
 use Rattle.lists.specs.Lists.{Side}
 use Rattle.lists.specs.OnTable.{ReachedOn}

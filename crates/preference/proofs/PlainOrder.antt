@@ -97,7 +97,8 @@ module _ (n : ℕ) (k : List ℕ) (strays i v : ℕ) (c : Counted n k strays i) 
     most = omega (arith, c .most);
     end = omega arith;
     none = λ e. absurd (omega (arith, e));
-    some = λ l. all-suc (agrees n k) i ∙ ap (λ (x : Bool). allBelow (agrees n k) i && x) (ne-eqb (getD k i 0) (getD (plainNumbers n) i 0) (λ e. d (e ∙ sym here)))
+    some = λ l. all-suc (agrees n k) i
+        ∙ ap (λ (x : Bool). allBelow (agrees n k) i && x) (ne-eqb (getD k i 0) (getD (plainNumbers n) i 0) (λ e. d (e ∙ sym here)))
         ∙ and-false (allBelow (agrees n k) i);
   }
 

@@ -21,13 +21,13 @@ use Rattle.sets.proofs.Tabulated.{length-tabulate, getD-tabulate}
 use Rattle.table.specs.Pairs.{row}
 use Rattle.table.proofs.Places.{row-past}
 use Rattle.rules.specs.Machine.{Down, at}
-use Rattle.rules.specs.private.ByNumber.{Reached}
+use Rattle.rules.specs.ByNumber.{Reached}
 use Rattle.rules.specs.private.Fitting.{Valid}
 use Rattle.rules.proofs.Reach.{reachable}
 use Rattle.rules.proofs.Trees.{valid-kid, length-snoc}
 use Rattle.lists.specs.PickSequence.{isIn}
 use Rattle.lists.specs.Picks.{common, remainder}
-use Rattle.lists.specs.private.ByNumber.{candidates}
+use Rattle.lists.specs.ByNumber.{candidates}
 use Rattle.lists.proofs.Unpicked.{Un, un-nil, isIn-snoc}
 use Rattle.lists.proofs.Remainders.{remainder-left}
 use Rattle.lists.proofs.Candidates.{Cand, mem-candidates}

@@ -12,10 +12,10 @@ use Rattle.sets.specs.Sets.{bit, meet, lowest}
 use Rattle.sets.specs.Lists.{tabulate}
 use Rattle.table.specs.Pairs.{row}
 use Rattle.rules.specs.Machine.{Down, at}
-use Rattle.rules.specs.private.ByNumber.{Reached}
+use Rattle.rules.specs.ByNumber.{Reached}
 use Rattle.lists.specs.PickSequence.{isIn}
 use Rattle.lists.specs.Picks.{common}
-use Rattle.lists.specs.private.ByNumber.{candidates}
+use Rattle.lists.specs.ByNumber.{candidates}
 use Rattle.replay.specs.declared.Replayed.{Replayed}
 
 -- the first n rows of an array, at most 64, each with its 64 cases

@@ -10,7 +10,7 @@ use Prim.Native.Nat.{ℕ}
 use Rattle.rules.specs.Sequences.{factorial}
 use Rattle.rules.specs.Machine.{fresh}
 use Rattle.rules.specs.Calls.{Call, result, handed, end, movesUntil, isHandOut, isHandOutOrEnd, handouts, callBy}
-use Rattle.rules.specs.private.ByNumber.{calls}
+use Rattle.rules.specs.ByNumber.{calls}
 
 abbrev kids : List ℕ → List ℕ
 kids [] = 0 ∷ 1 ∷ []

@@ -18,12 +18,12 @@ use lib.Dec.{ltb}
 use lib.ListN.{length}
 use borrow.Author.Tests.{lt-ltb, le-ltb}
 use Rattle.rules.specs.Machine.{cutLast, Phase, Down, Handed, Back, Ended, State, Given, nothing, hands, ends, at, fresh, takeBack, down, back}
-use Rattle.rules.specs.private.ByNumber.{above}
+use Rattle.rules.specs.ByNumber.{above}
 use Rattle.rules.specs.Machine.{Move}
-use Rattle.rules.specs.private.ByNumber.{step, move}
+use Rattle.rules.specs.ByNumber.{step, move}
 use Rattle.rules.specs.Calls.{Reply, refused, spent, handed, end, Call, result, mostBudget, answered, handouts, movesUntil, isHandOut, isHandOutOrEnd}
 use Rattle.rules.specs.Calls.{carryBy, callBy}
-use Rattle.rules.specs.private.ByNumber.{proceed, carry, call, callsFrom, calls, stateAfter}
+use Rattle.rules.specs.ByNumber.{proceed, carry, call, callsFrom, calls, stateAfter}
 use Rattle.rules.specs.private.Fitting.{Fits}
 use Rattle.rules.proofs.Trees.{by-last, cut-snoc, length-snoc, Tree, leaves, kid-fits}
 use Rattle.rules.proofs.Progress.{rest, listed, move-rest, move-fits}

@@ -9,7 +9,7 @@ use lib.ListN.{length, length-map}
 use Rattle.rules.specs.Sequences.{All}
 use Rattle.rules.specs.Machine.{State, fresh}
 use Rattle.rules.specs.Calls.{Reply, refused, spent, handed, end, Call, mostBudget, handouts}
-use Rattle.rules.specs.private.ByNumber.{call, callsFrom, calls}
+use Rattle.rules.specs.ByNumber.{call, callsFrom, calls}
 use Rattle.rules.specs.private.Fitting.{Fits}
 use Rattle.rules.proofs.Trees.{Tree, leaves}
 use Rattle.rules.proofs.Calls.{Paid, cost, cost-pos, cost-lap, ahead, call-law, ahead-fresh, calls-complete}

@@ -11,9 +11,9 @@ use Prim.Native.Nat.{ℕ, zero, suc}
 use native.Mathlib.Nat.{sub-zero}
 use lib.Dec.{ltb}
 use Rattle.rules.specs.Machine.{Ended, State, Given, nothing, hands, ends, Move, at, fresh}
-use Rattle.rules.specs.private.ByNumber.{move, after}
+use Rattle.rules.specs.ByNumber.{move, after}
 use Rattle.rules.specs.Calls.{refused, end, Call, result, mostBudget, answered, handouts, proceedBy, carryBy, callBy, callsBy, stateBy}
-use Rattle.rules.specs.private.ByNumber.{proceed, carry, call, callsFrom}
+use Rattle.rules.specs.ByNumber.{proceed, carry, call, callsFrom}
 use Rattle.rules.specs.Keeping.{taken, moveKeeping, kept}
 use Rattle.rules.specs.private.Fitting.{Fits}
 use Rattle.rules.proofs.Trees.{Tree, leaves}

@@ -8,7 +8,7 @@ use native.Mathlib.Nat.{zero-add, suc-add}
 use native.Mathlib.Omega.{arith}
 use lib.ListN.{length}
 use Rattle.rules.specs.Machine.{cutLast, Phase, Down, Handed, Back, Ended, State, at, fresh, takeBack}
-use Rattle.rules.specs.private.ByNumber.{move, after, Reached}
+use Rattle.rules.specs.ByNumber.{move, after, Reached}
 use Rattle.rules.specs.private.Fitting.{Valid, Fits}
 use Rattle.rules.proofs.Sequences.{mem-split}
 use Rattle.rules.proofs.Trees.{by-last, cut-snoc, length-snoc, Tree, valid-up, valid-kid, valid-snoc, kid-fits, above-kid}

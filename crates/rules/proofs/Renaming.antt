@@ -15,7 +15,7 @@ use borrow.Author.Tests.{lt-ltb, le-ltb}
 use Rattle.rules.specs.Sequences.{All}
 use Rattle.rules.specs.Machine.{Phase, Down, Handed, Back, Ended, State, at, Given, nothing, hands, ends, Move, gives, cutLast, takeBack, down, back}
 use Rattle.rules.specs.Machine.{aboveIn, stepIn, moveIn, afterBy}
-use Rattle.rules.specs.private.ByNumber.{above, step, move}
+use Rattle.rules.specs.ByNumber.{above, step, move}
 use Rattle.rules.specs.Calls.{Reply, refused, spent, handed, end, Call, result, mostBudget, answered, handouts, movesUntil}
 use Rattle.rules.specs.Calls.{proceedBy, carryBy, callBy, callsBy, stateBy}
 use Rattle.rules.specs.Keeping.{taken, moveKeeping}

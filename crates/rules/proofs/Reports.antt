@@ -11,9 +11,9 @@ use Prim.Native.Nat.{ℕ, zero, suc, _-_, _≤_, _<_}
 use native.Mathlib.Decide.{ℕ-discrete, decLt, decLe}
 use native.Mathlib.Omega.{arith}
 use Rattle.rules.specs.Machine.{State, Given, nothing, hands, ends, Move, afterBy}
-use Rattle.rules.specs.private.ByNumber.{move}
+use Rattle.rules.specs.ByNumber.{move}
 use Rattle.rules.specs.Calls.{Reply, refused, spent, Call, result, mostBudget, proceedBy, carryBy, callBy, callsBy}
-use Rattle.rules.specs.private.ByNumber.{call, callsFrom}
+use Rattle.rules.specs.ByNumber.{call, callsFrom}
 use Rattle.rules.specs.private.Reports.{EachCall, Only18, says, QuietBy, lastBy, WholeBy, SpentBy, Quiet, Whole, Spent}
 use Rattle.rules.proofs.Calls.{above-by, within-by}
 

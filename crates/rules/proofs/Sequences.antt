@@ -13,7 +13,7 @@ use native.Mathlib.Omega.{arith}
 use lib.ListN.{length, length-append}
 use borrow.Author.Tests.{lt-ltb, le-ltb}
 use Rattle.rules.specs.Sequences.{All, Sorted, Before}
-use Rattle.rules.specs.private.ByNumber.{above}
+use Rattle.rules.specs.ByNumber.{above}
 
 -- a strictly ascending list of numbers
 abbrev pub Ascending : List ℕ → Type 0

@@ -6,7 +6,7 @@ use Prim.Native.Nat.{ℕ, zero, suc, _≤_, _<_}
 use native.Mathlib.Omega.{arith}
 use lib.ListN.{length}
 use Rattle.rules.specs.Machine.{cut, cutCons, cutLast}
-use Rattle.rules.specs.private.ByNumber.{above}
+use Rattle.rules.specs.ByNumber.{above}
 use Rattle.rules.specs.private.Fitting.{ValidFrom, Valid}
 use Rattle.rules.proofs.Sequences.{Ascending, above-at}
 

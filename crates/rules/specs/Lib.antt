@@ -3,4 +3,5 @@ pub mod Sequences
 pub mod Machine
 pub mod Calls
 pub mod Keeping
+pub mod ByNumber
 pub mod private

@@ -1,4 +1,3 @@
--- Definitions that no entry of a user mentions: the laws of this crate and of the crates above it do, and the contract of the inner crate `replay`.
-pub mod ByNumber
+-- Definitions that no entry of a user mentions: the laws of this crate and of the crates above it do.
 pub mod Reports
 pub mod Fitting

@@ -12,9 +12,9 @@ use Rattle.table.specs.Tables.{padded}
 use Rattle.table.proofs.Padding.{pad-getD}
 use Rattle.sets.specs.Lists.{allBelow}
 use Rattle.rules.specs.Machine.{State, Move, gives, nothing, hands, ends}
-use Rattle.rules.specs.private.ByNumber.{move}
+use Rattle.rules.specs.ByNumber.{move}
 use Rattle.rules.specs.Calls.{spent, Call, result, proceedBy, carryBy}
-use Rattle.lists.specs.private.ByNumber.{candidates}
+use Rattle.lists.specs.ByNumber.{candidates}
 use Rattle.lists.specs.OnTable.{chainOf}
 use Rattle.runs.specs.private.Working.{Sized, later, Ahead, ComesOut, stateOf, Holds, SteppedBy, Stepped, Advanced, apart, handsOver, moveBy}
 use Rattle.runs.specs.declared.Outcome.the-variants.{HandedOut, Spent, End}

@@ -19,7 +19,7 @@ use Rattle.rules.specs.Machine.{Phase, Down, Handed, Back, Ended, State, at}
 use Rattle.rules.specs.private.Fitting.{Valid, Fits}
 use Rattle.rules.proofs.Reach.{reachable}
 use Rattle.lists.specs.PickSequence.{isIn}
-use Rattle.lists.specs.private.ByNumber.{candidate, candidates}
+use Rattle.lists.specs.ByNumber.{candidate, candidates}
 use Rattle.lists.proofs.Candidates.{cand-of, of-cand, mem-candidates, no-candidate, none-candidate}
 use Rattle.lists.proofs.CandidateTree.{candidate-tree}
 use Rattle.search.specs.Finding.{candidateIn, First, within}

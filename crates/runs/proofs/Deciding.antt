@@ -17,7 +17,7 @@ use Rattle.rules.specs.private.Fitting.{ValidFrom, Fits}
 use Rattle.rules.proofs.Renaming.{renamed, renamedPhase}
 use Rattle.lists.specs.Arrangements.{IsArrangement, placeOf}
 use Rattle.lists.specs.Lists.{Side}
-use Rattle.lists.specs.private.ByNumber.{candidates}
+use Rattle.lists.specs.ByNumber.{candidates}
 use Rattle.lists.specs.OnTable.{ReachedOn}
 use Rattle.lists.specs.private.Arranging.{indexAt, prefer}
 use Rattle.lists.proofs.PlacedRuns.{Good, Placed, reached-placed, renamed-back}

@@ -137,7 +137,8 @@ module _ (side : Table → Side) (t : Table) (k : List ℕ) (omit : Bool) (ok : 
   left-value s h (b ∷ bs) [] c = absurd c
   left-value s h (b ∷ bs) (r ∷ rs) c =
       let next = kept-next b s h r (c .0) in
-      ap (λ (v : Value). left v rs) next ∙ left-value (made-by b s .next) (next-reached b s h) bs rs (subst (λ (v : Value). CallsBy (CalledAs omit side) v bs rs) next (c .1))
+      ap (λ (v : Value). left v rs) next ∙ left-value (made-by b s .next) (next-reached b s h) bs rs
+      (subst (λ (v : Value). CallsBy (CalledAs omit side) v bs rs) next (c .1))
 
   -- ---- what the rules give for a call is what `CalledEither` asks, and for a list of budgets what `CallsEither` asks: neither is empty talk
   called-made : (b : ℕ) (s : State) → ReachedOn here o s → CalledOf side (value s) b (tell (made-by b s))

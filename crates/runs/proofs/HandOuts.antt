@@ -17,10 +17,10 @@ use Rattle.rules.specs.Keeping.{taken}
 use Rattle.rules.specs.private.Fitting.{Fits}
 use Rattle.rules.proofs.Renaming.{renamedPhase}
 use Rattle.lists.specs.Arrangements.{IsArrangement, placeOf}
-use Rattle.lists.specs.private.ByNumber.{pickSeq}
+use Rattle.lists.specs.ByNumber.{pickSeq}
 use Rattle.lists.specs.Preferred.{candidatesBy, pickSeqBy}
 use Rattle.lists.specs.Lists.{Side}
-use Rattle.lists.specs.private.ByNumber.{candidates}
+use Rattle.lists.specs.ByNumber.{candidates}
 use Rattle.lists.specs.OnTable.{chainOf, handOut, moveOn, ReachedOn}
 use Rattle.lists.specs.private.Arranging.{indexAt, prefer}
 use Rattle.lists.proofs.Candidates.{IsLeaf}

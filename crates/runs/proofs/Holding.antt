@@ -22,7 +22,7 @@ use Rattle.rules.specs.private.Fitting.{Valid}
 use Rattle.rules.proofs.Trees.{by-last, kid-fits, valid-up, valid-kid, valid-snoc, length-snoc}
 use Rattle.lists.specs.PickSequence.{isIn}
 use Rattle.lists.specs.Picks.{common, remainder}
-use Rattle.lists.specs.private.ByNumber.{candidates}
+use Rattle.lists.specs.ByNumber.{candidates}
 use Rattle.lists.specs.OnTable.{chainOf}
 use Rattle.lists.proofs.Candidates.{Cand, mem-candidates}
 use Rattle.lists.proofs.CandidateTree.{candidate-tree}

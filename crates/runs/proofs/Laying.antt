@@ -13,7 +13,7 @@ use Rattle.table.specs.Pairs.{row}
 use Rattle.table.specs.Tables.{padded}
 use Rattle.rules.proofs.Trees.{valid-kid}
 use Rattle.lists.specs.Picks.{common}
-use Rattle.lists.specs.private.ByNumber.{candidates}
+use Rattle.lists.specs.ByNumber.{candidates}
 use Rattle.lists.specs.OnTable.{chainOf}
 use Rattle.lists.proofs.Candidates.{Cand, mem-candidates}
 use Rattle.lists.proofs.CandidateTree.{candidate-tree}

@@ -24,12 +24,12 @@ use Rattle.table.specs.Tables.{noRows, padded}
 use Rattle.table.proofs.Places.{row-past}
 use Rattle.table.proofs.Padding.{pad-length, pad-getD}
 use Rattle.rules.specs.Machine.{Phase, Down, Handed, Back, Ended, State, hands, Move, moveIn, ReachedBy}
-use Rattle.rules.specs.private.ByNumber.{move}
+use Rattle.rules.specs.ByNumber.{move}
 use Rattle.rules.specs.Calls.{Call, result, carryBy, mostBudget}
 use Rattle.rules.specs.Keeping.{moveKeeping}
 use Rattle.rules.proofs.Renaming.{renamed, renamedPhase, renamedCall, Below, Follows, any-out, carry-renamed, keeping-follows}
 use Rattle.lists.specs.Arrangements.{IsArrangement, placeOf, plain}
-use Rattle.lists.specs.private.ByNumber.{candidates}
+use Rattle.lists.specs.ByNumber.{candidates}
 use Rattle.lists.specs.Preferred.{candidatesBy}
 use Rattle.lists.specs.Lists.{Side}
 use Rattle.lists.specs.OnTable.{chainOf, moveOn}

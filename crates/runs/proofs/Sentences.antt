@@ -19,11 +19,11 @@ use Rattle.table.specs.Tables.{tableRows}
 use Rattle.rules.specs.Machine.{State, fresh}
 use Rattle.rules.specs.Calls.{refused, spent, end}
 use Rattle.rules.specs.Keeping.{kept as keptOf}
-use Rattle.rules.specs.private.ByNumber.{calls, stateAfter}
+use Rattle.rules.specs.ByNumber.{calls, stateAfter}
 use Rattle.lists.specs.Arrangements.{plain}
 use Rattle.lists.specs.Lists.{Side, gaugeSide, caseSide, PreferredList, GaugeList, CaseList}
 use Rattle.lists.specs.OnTable.{handOut, callOn, callsOn, leftOn}
-use Rattle.lists.specs.private.ByNumber.{candidates}
+use Rattle.lists.specs.ByNumber.{candidates}
 use Rattle.lists.proofs.Plain.{calls-plain, left-plain}
 use Rattle.lists.specs.Keeping.{callKeeping}
 use Rattle.preference.specs.Preferences.{preferredRefusal, plainNumbers}

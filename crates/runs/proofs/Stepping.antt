@@ -15,11 +15,11 @@ use Rattle.sets.proofs.Order.{zero-sub}
 use Rattle.table.specs.Pairs.{row}
 use Rattle.table.proofs.Places.{row-past}
 use Rattle.rules.specs.Machine.{Phase, Down, Handed, Back, Ended, State, at, Move, gives, ends, cutLast, takeBack, pick, down, back}
-use Rattle.rules.specs.private.ByNumber.{above, move}
+use Rattle.rules.specs.ByNumber.{above, move}
 use Rattle.rules.specs.private.Fitting.{Valid, Fits}
 use Rattle.rules.proofs.Trees.{cut-snoc}
 use Rattle.lists.specs.Picks.{common}
-use Rattle.lists.specs.private.ByNumber.{candidates}
+use Rattle.lists.specs.ByNumber.{candidates}
 use Rattle.lists.specs.OnTable.{chainOf}
 use Rattle.lists.proofs.Candidates.{Cand, cand-of}
 use Rattle.search.specs.Finding.{candidateIn, First, within}

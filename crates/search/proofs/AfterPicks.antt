@@ -18,10 +18,10 @@ use Rattle.sets.proofs.Tests.{and-l, and-r, and-i}
 use Rattle.sets.proofs.Order.{meet-comm, is-subset, subset-is, sub-refl, sub-zero, zero-sub}
 use Rattle.table.specs.Pairs.{row}
 use Rattle.table.proofs.Places.{row-past}
-use Rattle.rules.specs.private.ByNumber.{above}
+use Rattle.rules.specs.ByNumber.{above}
 use Rattle.lists.specs.PickSequence.{isIn}
 use Rattle.lists.specs.Picks.{common, remainder}
-use Rattle.lists.specs.private.ByNumber.{rulesOut, candidate, candidates}
+use Rattle.lists.specs.ByNumber.{rulesOut, candidate, candidates}
 use Rattle.lists.proofs.Unpicked.{isIn-snoc}
 use Rattle.lists.proofs.Remainders.{remainder-left, remainder-past, common-snoc}
 use Rattle.lists.proofs.Candidates.{cand-of}

@@ -52,25 +52,29 @@ returns c =
     let p = c .before .before in
     let g = call p in
     let h = p .before .before .enum-told .given .1 in
-    turned-handed (gaugeValue (start g .args .run)) (rows-length (start g)) (gaugeStep (g .run-gauges .result)) (called-of-both _ _ _ _ (g .run-gauges .ensures .1 .1 .0))
+    turned-handed (gaugeValue (start g .args .run)) (rows-length (start g)) (gaugeStep (g .run-gauges .result))
+    (called-of-both _ _ _ _ (g .run-gauges .ensures .1 .1 .0))
     (start g .args .out .now) (start g .args .at) (start g .pre) (chainRows (g .run-gauges .result .chain)) (answer g h) _ refl _ _ (p .put-chain .ensures)
 
 returns-2 : tie.Need-returns-2
 returns-2 c =
     let g = c .before .before .before .before .before in
-    turned-none (gaugeValue (start g .args .run)) (rows-length (start g)) (gaugeStep (g .run-gauges .result)) (called-of-both _ _ _ _ (g .run-gauges .ensures .1 .1 .0))
+    turned-none (gaugeValue (start g .args .run)) (rows-length (start g)) (gaugeStep (g .run-gauges .result))
+    (called-of-both _ _ _ _ (g .run-gauges .ensures .1 .1 .0))
     (start g .args .out .now) (start g .args .at) (start g .pre) spent refl (λ k s. refl) (answer g (c .enum-told2 .given .1)) _ refl
 
 returns-3 : tie.Need-returns-3
 returns-3 c =
     let g = c .before .before .before .before .before in
-    turned-none (gaugeValue (start g .args .run)) (rows-length (start g)) (gaugeStep (g .run-gauges .result)) (called-of-both _ _ _ _ (g .run-gauges .ensures .1 .1 .0))
+    turned-none (gaugeValue (start g .args .run)) (rows-length (start g)) (gaugeStep (g .run-gauges .result))
+    (called-of-both _ _ _ _ (g .run-gauges .ensures .1 .1 .0))
     (start g .args .out .now) (start g .args .at) (start g .pre) end refl (λ k s. refl) (answer g (c .enum-told3 .given .1)) _ refl
 
 returns-4 : tie.Need-returns-4
 returns-4 c =
     let g = c .before .before .before .before .before in
-    turned-refused (gaugeValue (start g .args .run)) (rows-length (start g)) (gaugeStep (g .run-gauges .result)) (called-of-both _ _ _ _ (g .run-gauges .ensures .1 .1 .0))
+    turned-refused (gaugeValue (start g .args .run)) (rows-length (start g)) (gaugeStep (g .run-gauges .result))
+    (called-of-both _ _ _ _ (g .run-gauges .ensures .1 .1 .0))
     (start g .args .out .now) (start g .args .at) (start g .pre) _ (answer g (c .enum-told4 .given .1)) _
 
 pub list-one-spec : {M : Type 1} → statement M

@@ -6,7 +6,7 @@ use Prim.Native.Nat.{ℕ}
 use Rattle.table.specs.declared.Table.{Table}
 use Rattle.table.specs.declared.Chain.{Chain}
 use Rattle.table.specs.Tables.{tableRows, chainRows, padded}
-use Rattle.lists.specs.private.ByNumber.{pickSeq}
+use Rattle.lists.specs.ByNumber.{pickSeq}
 use Rattle.lists.specs.Growing.{FirstContaining}
 
 -- the 64 rows are those of the first maximal chain of t, by number, that contains s

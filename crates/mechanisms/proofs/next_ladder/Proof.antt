@@ -31,15 +31,19 @@ next-ladder-spec =
     (λ c.
     let b = c .before .before in
     let g = call b in
-    hands-given (gaugeValue (g .before .args .run)) (gaugeStep (g .run-gauges .result)) (called-of-both _ _ _ _ (g .run-gauges .ensures .1 .1 .0)) _ (answer g (c .enum-told .given .1))
+    hands-given (gaugeValue (g .before .args .run)) (gaugeStep (g .run-gauges .result))
+    (called-of-both _ _ _ _ (g .run-gauges .ensures .1 .1 .0)) _ (answer g (c .enum-told .given .1))
     _ (b .board-of .ensures) _ refl)
     (λ c.
     let g = call (c .before .before) in
-    hands-spent (gaugeValue (g .before .args .run)) (gaugeStep (g .run-gauges .result)) (called-of-both _ _ _ _ (g .run-gauges .ensures .1 .1 .0)) (answer g (c .enum-told2 .given .1)) _ _)
+    hands-spent (gaugeValue (g .before .args .run)) (gaugeStep (g .run-gauges .result))
+    (called-of-both _ _ _ _ (g .run-gauges .ensures .1 .1 .0)) (answer g (c .enum-told2 .given .1)) _ _)
     (λ c.
     let g = call (c .before .before) in
-    hands-end (gaugeValue (g .before .args .run)) (gaugeStep (g .run-gauges .result)) (called-of-both _ _ _ _ (g .run-gauges .ensures .1 .1 .0)) (answer g (c .enum-told3 .given .1)) _ _)
+    hands-end (gaugeValue (g .before .args .run)) (gaugeStep (g .run-gauges .result))
+    (called-of-both _ _ _ _ (g .run-gauges .ensures .1 .1 .0)) (answer g (c .enum-told3 .given .1)) _ _)
     λ c.
     let g = call (c .before .before) in
-    hands-refused (gaugeValue (g .before .args .run)) (gaugeStep (g .run-gauges .result)) (called-of-both _ _ _ _ (g .run-gauges .ensures .1 .1 .0)) _ (answer g (c .enum-told4 .given .1))
+    hands-refused (gaugeValue (g .before .args .run)) (gaugeStep (g .run-gauges .result))
+    (called-of-both _ _ _ _ (g .run-gauges .ensures .1 .1 .0)) _ (answer g (c .enum-told4 .given .1))
     _ _)

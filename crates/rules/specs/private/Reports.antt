@@ -5,7 +5,7 @@ use mathlib.Core.Logic.{_≢_}
 use mathlib.Core.List.{List, [], _∷_}
 use Prim.Native.Nat.{ℕ, zero, suc, _-_, _≤_, _<_}
 use Rattle.rules.specs.Machine.{State, Given, nothing, hands, ends, Move, afterBy}
-use Rattle.rules.specs.private.ByNumber.{move}
+use Rattle.rules.specs.ByNumber.{move}
 use Rattle.rules.specs.Calls.{Reply, refused, spent, handed, end, Call, result, mostBudget}
 
 -- P holds of each call, with its budget and the state that it gets; x is the state that the first gets

@@ -13,13 +13,13 @@ use Rattle.sets.specs.Sets.{_⊆_, lowest}
 use Rattle.sets.specs.Lists.{allBelow}
 use Rattle.table.specs.Pairs.{row}
 use Rattle.rules.specs.Machine.{Phase, Down, Handed, Back, Ended, State, Move, gives, nothing, hands, ends, moveIn, ReachedBy}
-use Rattle.rules.specs.private.ByNumber.{move}
+use Rattle.rules.specs.ByNumber.{move}
 use Rattle.rules.specs.Calls.{spent, handed, end, Call, result, carryBy, mostBudget}
 use Rattle.rules.specs.Keeping.{moveKeeping}
 use Rattle.rules.specs.private.Fitting.{Valid, Fits}
 use Rattle.lists.specs.Lists.{Side}
 use Rattle.lists.specs.Arrangements.{placeOf}
-use Rattle.lists.specs.private.ByNumber.{candidates}
+use Rattle.lists.specs.ByNumber.{candidates}
 use Rattle.lists.specs.Preferred.{candidatesBy}
 use Rattle.lists.specs.OnTable.{chainOf}
 use Rattle.search.specs.Finding.{candidateIn, within}

@@ -42,7 +42,8 @@ made c = c .before .before
 
 called : (c : tie.After-taken) → CalledOf caseSide (oneMore (value (start (made c))) (start (made c) .args .c)) 0 (caseStep (c .before .run-cases .result))
 called c =
-    subst (λ (v : Value). CalledOf caseSide v 0 (caseStep (c .before .run-cases .result))) (made c .one-more .ensures) (called-of-both _ _ _ _ (c .before .run-cases .ensures .1 .1 .0))
+    subst (λ (v : Value). CalledOf caseSide v 0 (caseStep (c .before .run-cases .result))) (made c .one-more .ensures)
+    (called-of-both _ _ _ _ (c .before .run-cases .ensures .1 .1 .0))
 
 no-part-requires : tie.Need-no-part-requires
 no-part-requires c κs = search needs

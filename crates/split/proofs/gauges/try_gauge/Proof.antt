@@ -42,7 +42,8 @@ made c = c .before .before
 
 called : (c : tie.After-taken) → CalledOf gaugeSide (oneMore (value (start (made c))) (start (made c) .args .g)) 0 (gaugeStep (c .before .run-gauges .result))
 called c =
-    subst (λ (v : Value). CalledOf gaugeSide v 0 (gaugeStep (c .before .run-gauges .result))) (made c .one-more .ensures) (called-of-both _ _ _ _ (c .before .run-gauges .ensures .1 .1 .0))
+    subst (λ (v : Value). CalledOf gaugeSide v 0 (gaugeStep (c .before .run-gauges .result))) (made c .one-more .ensures)
+    (called-of-both _ _ _ _ (c .before .run-gauges .ensures .1 .1 .0))
 
 no-part-requires : tie.Need-no-part-requires
 no-part-requires c κs = search needs

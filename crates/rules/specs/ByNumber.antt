@@ -1,5 +1,6 @@
 -- Rules 1 to 5 where "lowest" and "above" go by the number itself, as in 01: the machine of Machine.antt and the calls of Calls.antt at that place. The
--- laws are proved of these, and hold by place for the machine on arranged rows. No promise of a user's entry mentions them.
+-- laws are proved of these, and hold by place for the machine on arranged rows. The inner crate `replay`
+-- promises by them, on arranged rows; no promise of a user's entry mentions them.
 use mathlib.Core.List.{List}
 use Prim.Native.Nat.{ℕ}
 use Rattle.rules.specs.Machine.{Phase, State, fresh, Given, Move, aboveIn, stepIn, afterBy, ReachedBy}
