@@ -2,67 +2,87 @@
 -- one, so that every entry takes it.
 --
 -- In order: reading (`reads-unique`, `reads-exists`), with slices no longer than their layouts (`reads-served`), and the table read (`reads-table`,
--- `reads-legal`); comments (`comment-unique`, `comment-exists`, `comment-served`); writing (`writes-unique`, `writes-exists`,
--- `writes-served`).
+-- `reads-legal`); the line that decides (`locates-unique`, `locates-exists`, `locates-served`); comments (`comment-unique`, `comment-exists`,
+-- `comment-served`); writing (`writes-unique`, `writes-exists`, `writes-served`).
 --
 -- Elsewhere: what holds of every entry, words/proofs/Answers and Back; what writing left is read back, RoundTrip.antt.
-use mathlib.Core.Path.{_≡_, refl, sym, ap, _∙_, subst}
+use mathlib.Core.Path.{_≡_, refl, sym, ap, _∙_}
+use mathlib.Core.Bool.{not}
 use mathlib.Core.Logic.{_⊎_}
 use mathlib.Core.List.{List, [], _∷_}
 use Prim.Native.Nat.{ℕ, _≤_, _<_}
 use native.Mathlib.Omega.{arith}
+use lib.Dec.{eqb}
 use lib.ListN.{length}
-use Rattle.refusals.specs.Answers.{Answer}
-use Rattle.table.specs.declared.Table.{Table}
 use Rattle.table.specs.Tables.{Legal}
-use Rattle.reader.specs.Reading.{readFile}
-use Rattle.reader.specs.Comments.{commentAt}
-use Rattle.reader.proofs.Yielded.{read-legal}
+use Rattle.reader.specs.Promises.{TableOfFile, LineOfFile}
+use Rattle.reader.specs.private.Reading.{readFile, commentAt}
+use Rattle.reader.specs.private.Stopping.{stopLine}
+use Rattle.reader.proofs.Promising.{
+  table-of-file,
+  table-of-file-unique,
+  line-of-file,
+  line-of-file-unique,
+  comment-of-file,
+  comment-of-file-unique,
+}
 use Rattle.writer.specs.Writing.{writeAnswer, bufferAfter}
 use Rattle.words.specs.Layouts.{tableAt, tableWords}
 use Rattle.words.specs.Serving.{left}
 use Rattle.words.proofs.Serving.{long, long-two}
 use Rattle.words.proofs.Answers.{short-dec, or-dec, gives-is, gives-exists, gives-unique}
-use Rattle.words.proofs.Back.{table-left}
-use Rattle.c_files.specs.Serving.{Reads, ShowsComment, WrittenTable, WritesTable}
+use Rattle.words.proofs.Back.{table-left, rows-size}
+use Rattle.round_trip.proofs.Written.{table-back}
+use Rattle.c_files.specs.Serving.{Reads, Locates, ShowsComment, WrittenTable, WritesTable}
 use Rattle.c_files.proofs.Serving.{writes-short}
 
 -- ---- reading
 module _ (file out : List ℕ) where
   pub reads-unique : (a b : List ℕ) (r q : ℕ) → Reads file out a r → Reads file out b q → (a ≡ b) × (r ≡ q)
-  reads-unique = gives-unique out (short-dec out 66) (λ x y p q. p ∙ sym q)
+  reads-unique = gives-unique out (short-dec out 66) (table-of-file-unique file)
 
   pub reads-exists : (out′ : List ℕ) × (r : ℕ) × Reads file out out′ r
-  reads-exists = gives-exists out (short-dec out 66) (readFile file) refl
+  reads-exists = gives-exists out (short-dec out 66) (readFile file) (table-of-file file (readFile file) refl)
 
   -- 66 words are enough
   pub reads-served : 66 ≤ length out → (out′ : List ℕ) (r : ℕ) → Reads file out out′ r
       → (r ≡ readFile file .refusal) × (out′ ≡ left (readFile file .refusal) (tableWords (readFile file .value)) out)
-  reads-served l = gives-is out (λ x y p q. p ∙ sym q) (long l) (readFile file) refl
+  reads-served l = gives-is out (table-of-file-unique file) (long l) (readFile file) (table-of-file file (readFile file) refl)
 
   -- the table in the words is that of the file
   module _ (out′ : List ℕ) (r : ℕ) (z : r ≡ 0) (g : Reads file out out′ r) where
-    pub reads-table : record { refusal = 0; value = tableAt 0 out′ } ≡ readFile file
-    reads-table =
-        table-left out out′ r z g (λ n. omega arith) (λ a p e.
-        subst (λ (x : Answer Table). length (x .value .rows) ≡ 64) (sym p)
-        (read-legal file (ap (λ (x : Answer Table). x .refusal) (sym p) ∙ e) .rows-length))
+    pub reads-table : TableOfFile file (record { refusal = 0; value = tableAt 0 out′ })
+    reads-table = table-left out out′ r z g (λ n. omega arith) (λ a p e. p .table e .rows-length)
 
     pub reads-legal : Legal (tableAt 0 out′)
-    reads-legal =
-        subst (λ (x : Answer Table). Legal (x .value)) (sym reads-table) (read-legal file (ap (λ (x : Answer Table). x .refusal) (sym reads-table)))
+    reads-legal = reads-table .table refl
+
+-- ---- the line that decides
+module _ (file : List ℕ) (either : ℕ) (out : List ℕ) where
+  pub locates-unique : (a b : List ℕ) (r q : ℕ) → Locates file either out a r → Locates file either out b q → (a ≡ b) × (r ≡ q)
+  locates-unique = gives-unique out (short-dec out 1) (line-of-file-unique (not (eqb either 0)) file)
+
+  pub locates-exists : (out′ : List ℕ) × (r : ℕ) × Locates file either out out′ r
+  locates-exists =
+      let n = stopLine (not (eqb either 0)) file in
+      gives-exists out (short-dec out 1) n (line-of-file (not (eqb either 0)) file n refl)
+
+  -- 1 word is enough, and no file is refused: the word is the line that decides
+  pub locates-served : 1 ≤ length out → (out′ : List ℕ) (r : ℕ) → Locates file either out out′ r → (n : ℕ) → LineOfFile (not (eqb either 0)) file n
+      → (r ≡ 0) × (out′ ≡ left 0 (n ∷ []) out)
+  locates-served l out′ r g n x = gives-is out (line-of-file-unique (not (eqb either 0)) file) (long l) n x out′ r g
 
 -- ---- comments
 module _ (file : List ℕ) (k : ℕ) (out : List ℕ) where
   pub comment-unique : (a b : List ℕ) (r q : ℕ) → ShowsComment file k out a r → ShowsComment file k out b q → (a ≡ b) × (r ≡ q)
-  comment-unique = gives-unique out (short-dec out 2) (λ x y p q. p ∙ sym q)
+  comment-unique = gives-unique out (short-dec out 2) (comment-of-file-unique file k)
 
   pub comment-exists : (out′ : List ℕ) × (r : ℕ) × ShowsComment file k out out′ r
-  comment-exists = gives-exists out (short-dec out 2) (commentAt file k) refl
+  comment-exists = gives-exists out (short-dec out 2) (commentAt file k) (comment-of-file file k (commentAt file k) refl)
 
   pub comment-served : 2 ≤ length out → (out′ : List ℕ) (r : ℕ) → ShowsComment file k out out′ r
       → (r ≡ commentAt file k .refusal) × (out′ ≡ left (commentAt file k .refusal) (commentAt file k .value .start ∷ (commentAt file k .value .len ∷ [])) out)
-  comment-served l = gives-is out (λ x y p q. p ∙ sym q) (long l) (commentAt file k) refl
+  comment-served l = gives-is out (comment-of-file-unique file k) (long l) (commentAt file k) (comment-of-file file k (commentAt file k) refl)
 
 -- ---- writing
 module _ (t bytes len : List ℕ) where
@@ -101,7 +121,15 @@ module _ (t bytes len : List ℕ) where
         bufferAfter (tableAt 0 t) bytes,
         left (writeAnswer (tableAt 0 t) (length bytes) .refusal) (writeAnswer (tableAt 0 t) (length bytes) .value ∷ []) len,
         writeAnswer (tableAt 0 t) (length bytes) .refusal,
-        record { short = λ y. absurd (s y); served = λ _. record { number = refl; file = refl; size = refl } },
+        record {
+          short = λ y. absurd (s y);
+          served = λ _. record {
+            number = refl;
+            file = refl;
+            size = refl;
+            back = λ z. table-back (tableAt 0 t) bytes _ (rows-size 2 t) z refl;
+          };
+        },
       )
 
   -- 66 words and 1 are enough

@@ -2,8 +2,8 @@
 -- length, and touches no byte behind"; "A refusal yields its number and nothing else").
 --
 -- In order: what a writer leaves, of any file and behind any checks (`room-number`, `room-filled`, `room-sized`, `room-kept`); of a table's file the number
--- (`writes-100`, `written-number`), the bytes and the length where it is 0 (`written-file`, `written-size`), and all as it was where it is not
--- (`written-kept`).
+-- (`writes-100`, `written-number`), the bytes and the length where it is 0 (`written-file`, `written-size`), which read back (`written-back`), and all as
+-- it was where it is not (`written-kept`).
 --
 -- Elsewhere: reading and comments, which leave one slice, words/proofs/Sentences; that what was written reads back, RoundTrip.antt.
 use mathlib.Core.Path.{_≡_, ap, _∙_, sym}
@@ -11,13 +11,14 @@ use mathlib.Core.Bool.{Bool, cond}
 use mathlib.Core.Logic.{_⊎_}
 use mathlib.Core.List.{List, [], _∷_, _++_}
 use Prim.Native.Nat.{ℕ, _≤_, _<_}
-use lib.ListN.{length, drop}
+use lib.ListN.{length, take, drop}
 use lib.Seq.{sets as stored}
 use borrow.Author.Tests.{eq-eqb, ne-eqb}
 use Rattle.table.specs.declared.Table.{Table}
 use Rattle.table.specs.Tables.{tableRefusal}
-use Rattle.writer.specs.Writing.{writeFile, roomRefusal, roomAnswer, roomBuffer}
+use Rattle.writer.specs.Writing.{writeFile, writeAnswer, roomRefusal, roomAnswer, roomBuffer}
 use Rattle.writer.proofs.Files.{too-short, long-enough}
+use Rattle.round_trip.specs.Back.{TableBack}
 use Rattle.words.specs.Serving.{left}
 use Rattle.words.proofs.Serving.{left-refused}
 use Rattle.words.proofs.Answers.{left-zero}
@@ -68,6 +69,10 @@ module _ (t : Table) (bytes len bytes′ len′ : List ℕ) (r : ℕ) where
 
   pub written-size : WrittenTable t bytes len bytes′ len′ r → r ≡ 0 → len′ ≡ stored len 0 (length (writeFile t) ∷ [])
   written-size w z = room-sized (tableRefusal t) (writeFile t) bytes r (w .number) len len′ (w .size) z
+
+  -- "A written table reads back as itself"
+  pub written-back : WrittenTable t bytes len bytes′ len′ r → r ≡ 0 → TableBack t (take (writeAnswer t (length bytes) .value) bytes′)
+  written-back w z = w .back z
 
   pub written-kept : WrittenTable t bytes len bytes′ len′ r → ¬ (r ≡ 0) → (bytes′ ≡ bytes) × (len′ ≡ len)
   written-kept w z = (

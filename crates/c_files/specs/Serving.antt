@@ -2,15 +2,18 @@
 --
 -- Elsewhere: the layouts, words/specs/Layouts; the number returned and what a slice of words is left with, words/specs/Serving.
 use mathlib.Core.Path.{_≡_}
+use mathlib.Core.Bool.{not}
 use mathlib.Core.Logic.{_⊎_}
 use mathlib.Core.List.{List, [], _∷_}
 use Prim.Native.Nat.{ℕ, _<_}
-use lib.ListN.{length}
+use lib.Dec.{eqb}
+use lib.ListN.{length, take}
 use Rattle.refusals.specs.Answers.{Answer}
 use Rattle.table.specs.declared.Table.{Table}
-use Rattle.reader.specs.Reading.{readFile}
-use Rattle.reader.specs.Comments.{Part, commentAt}
+use Rattle.reader.specs.Comments.{Part}
+use Rattle.reader.specs.Promises.{TableOfFile, LineOfFile, CommentOfFile}
 use Rattle.writer.specs.Writing.{writeAnswer, bufferAfter}
+use Rattle.round_trip.specs.Back.{TableBack}
 use Rattle.words.specs.Layouts.{tableAt, tableWords}
 use Rattle.words.specs.Serving.{left, Gives}
 
@@ -18,9 +21,20 @@ use Rattle.words.specs.Serving.{left, Gives}
 abbrev pub Reads : List ℕ → List ℕ → List ℕ → ℕ → Type 0
 Reads file out out′ r =
     Gives (length out < 66)
-    (λ (a : Answer Table). a ≡ readFile file)
+    (TableOfFile file)
     (λ (a : Answer Table). a .refusal)
     (λ (a : Answer Table). tableWords (a .value))
+    out
+    out′
+    r
+
+-- the number of the line that decides, for the reader of files of pairs where `either` is 0, else for the one that takes either kind; no file is refused
+abbrev pub Locates : List ℕ → ℕ → List ℕ → List ℕ → ℕ → Type 0
+Locates file either out out′ r =
+    Gives (length out < 1)
+    (LineOfFile (not (eqb either 0)) file)
+    (λ (n : ℕ). 0)
+    (λ (n : ℕ). n ∷ [])
     out
     out′
     r
@@ -29,7 +43,7 @@ Reads file out out′ r =
 abbrev pub ShowsComment : List ℕ → ℕ → List ℕ → List ℕ → ℕ → Type 0
 ShowsComment file k out out′ r =
     Gives (length out < 2)
-    (λ (a : Answer Part). a ≡ commentAt file k)
+    (CommentOfFile file k)
     (λ (a : Answer Part). a .refusal)
     (λ (a : Answer Part). a .value .start ∷ (a .value .len ∷ []))
     out
@@ -37,11 +51,12 @@ ShowsComment file k out out′ r =
     r
 
 -- the file of a table at the front of the bytes, and its length; 16 where they are too few. The bytes are left as the writer leaves them, as they
--- were where it refuses
+-- were where it refuses; what is written reads back as the table
 pub record WrittenTable (t : Table) (bytes len bytes′ len′ : List ℕ) (r : ℕ) : Type 0 where
   pub number : r ≡ writeAnswer t (length bytes) .refusal
   pub file : bytes′ ≡ bufferAfter t bytes
   pub size : len′ ≡ left r (writeAnswer t (length bytes) .value ∷ []) len
+  pub back : r ≡ 0 → TableBack t (take (writeAnswer t (length bytes) .value) bytes′)
 
 pub record WritesTable (t bytes len bytes′ len′ : List ℕ) (r : ℕ) : Type 0 where
   pub short : (length t < 66) ⊎ (length len < 1) → (r ≡ 100) × (bytes′ ≡ bytes) × (len′ ≡ len)

@@ -1,6 +1,6 @@
-// Reading and writing files of pairs and looking up comments, on lent words and bytes: what the C library's entries of these names do. Any slices are
-// taken: a slice of words shorter than its layout is refused with 100 before anything else, and a refusal leaves all lent memory as it was. No
-// function has a `requires`.
+// Reading and writing files of pairs, finding the line that decides and looking up comments, on lent words and bytes: what the C library's entries of these
+// names do. Any slices are taken: a slice of words shorter than its layout is refused with 100 before anything else, and a refusal leaves all lent memory
+// as it was. No function has a `requires`.
 use reader;
 use reader::Found;
 use refusals;
@@ -10,12 +10,12 @@ use writer::Written;
 ghost use mathlib.Core.Path.{_≡_};
 ghost use Rattle.reader.specs.Comments.{found as foundAs};
 ghost use Rattle.writer.specs.Writing.{written as writtenAs};
-ghost use Rattle.c_files.specs.Serving.{Reads, ShowsComment, WritesTable};
+ghost use Rattle.c_files.specs.Serving.{Reads, Locates, ShowsComment, WritesTable};
 
 // What is returned where a lent slice is shorter than its layout.
 const SHORT: u64 = 100;
 
-// The words of a table, of a comment's place, and of a length.
+// The words of a table, of a comment's place, and of a length or a line's number.
 const TABLE: usize = 66;
 
 const SPAN: usize = 2;
@@ -37,6 +37,19 @@ pub fn read(file: &[u8], table: &mut [u64]) -> u64
     }
     let t = made.table;
     words::put_table(table, 0, t);
+    0
+}
+
+// Puts into `line` the number of the line that decides, from 1, for the reader of files of pairs where `either` is 0, else for the one with a cutoff, which
+// takes either kind: one past the last line's where the end of the file decides, 0 where the file is accepted or longer than 65,536.
+pub fn locate(file: &[u8], either: u64, line: &mut [u64]) -> u64
+    ensures { λ r. ⌜ Locates (now (file .entry)) either (now (line .entry)) (now (line .exit)) r ⌝ }
+{
+    if line.len() < LENGTH {
+        return SHORT;
+    }
+    let n = reader::locate(file, either != 0);
+    words::put_word(line, 0, n);
     0
 }
 

@@ -13,9 +13,14 @@ use lib.ListN.{length}
 use Rattle.recorded.specs.Equality.{ComparedAs}
 use Rattle.recorded.specs.declared.Compared.{Compared}
 use Rattle.recorded.proofs.Equal.{compared-unique}
-use Rattle.reader.specs.Reading.{readTest}
+use Rattle.reader.specs.private.Reading.{readTest}
+use Rattle.reader.proofs.Promising.{test-of-file}
 use Rattle.writer.specs.TestFiles.{testAnswer, testBuffer}
-use Rattle.words.specs.Layouts.{tableWords}
+use Rattle.words.specs.Layouts.{wordAt, tableWords}
+use Rattle.words.proofs.Back.{rows-size}
+use Rattle.round_trip.proofs.Written.{test-back}
+use Rattle.c_tests.proofs.Readings.{beside-length}
+use Rattle.c_tests.proofs.Serving.{leaves-read}
 use Rattle.words.specs.Serving.{left}
 use Rattle.words.proofs.Answers.{short-dec, or-dec, gives-exists, gives-unique}
 use Rattle.c_tests.specs.Layouts.{testAt, testWords}
@@ -43,10 +48,10 @@ module _ (file : List ℕ) (cutoff : ℕ) (w : List ℕ) (v : List ℤ) (t : Lis
       )
         where
           x : LeavesTest (readTest file cutoff) w v t a b c r
-          x = g .served s
+          x = leaves-read file cutoff w v t (g .served s)
 
           y : LeavesTest (readTest file cutoff) w v t d e f q
-          y = h .served s
+          y = leaves-read file cutoff w v t (h .served s)
 
           same : r ≡ q
           same = x .number ∙ sym (y .number)
@@ -61,7 +66,14 @@ module _ (file : List ℕ) (cutoff : ℕ) (w : List ℕ) (v : List ℤ) (t : Lis
         leftReadings (readTest file cutoff .refusal) (readTest file cutoff .value .test .readings) v,
         left (readTest file cutoff .refusal) (tableWords (readTest file cutoff .value .table)) t,
         readTest file cutoff .refusal,
-        record { short = λ y. absurd (s y); served = λ _. record { number = refl; test = refl; readings = refl; table = refl } },
+        record {
+          short = λ y. absurd (s y);
+          served = λ _. record {
+            answer = readTest file cutoff;
+            promised = test-of-file file cutoff (readTest file cutoff) refl;
+            leaves = record { number = refl; test = refl; readings = refl; table = refl };
+          };
+        },
       )
 
 -- ---- writing
@@ -98,7 +110,15 @@ module _ (w : List ℕ) (v : List ℤ) (bytes len : List ℕ) where
         testBuffer (testAt w v) bytes,
         left (testAnswer (testAt w v) (length bytes) .refusal) (testAnswer (testAt w v) (length bytes) .value ∷ []) len,
         testAnswer (testAt w v) (length bytes) .refusal,
-        record { short = λ y. absurd (s y); served = λ _. record { number = refl; file = refl; size = refl } },
+        record {
+          short = λ y. absurd (s y);
+          served = λ _. record {
+            number = refl;
+            file = refl;
+            size = refl;
+            back = λ z. test-back (testAt w v) bytes _ (rows-size 3 w) (beside-length (wordAt w 0) v) z refl;
+          };
+        },
       )
 
 -- ---- comparing

@@ -1,14 +1,15 @@
 -- The entries one after another: what a call of the reader leaves in the slices is what the writer and the comparison take, the test that the file holds
--- (`read-back`, `read-passes`), and its table at the cutoff stands beside it (`read-table`); and both refuse a word that is no kind with 10, or else 11
--- (`no-kind-written`, `no-kind-compared`).
-use mathlib.Core.Path.{_≡_, ap, sym, _∙_}
+-- (`read-back`, `read-passes`), and its table at the cutoff stands beside it (`read-table`); what the writer left reads back as the test
+-- (`write-test-back`); and both refuse a word that is no kind with 10, or else 11 (`no-kind-written`, `no-kind-compared`).
+use mathlib.Core.Path.{_≡_, refl, ap, sym, _∙_, subst}
 use mathlib.Core.Bool.{true, false}
 use mathlib.Core.Logic.{_⊎_, inl, inr}
 use mathlib.Core.List.{List}
 use Prim.Native.Nat.{ℕ, _<_, _≤_}
 use native.Mathlib.Omega.{arith}
 use lib.IntN.{ℤ}
-use lib.ListN.{length}
+use lib.ListN.{length, take}
+use lib.Seq.{getD-set-same}
 use borrow.Author.Tests.{eq-eqb, ne-eqb}
 use Rattle.refusals.specs.Answers.{verdict}
 use Rattle.recorded.specs.Tests.{LegalTest, testRefusal, tableOf, cutoffFirst}
@@ -16,16 +17,19 @@ use Rattle.recorded.specs.Equality.{twoRefusal, ComparedAs}
 use Rattle.recorded.specs.declared.Test.{Test}
 use Rattle.recorded.specs.declared.Compared.{Compared}
 use Rattle.recorded.proofs.Legality.{legal-test}
-use Rattle.reader.specs.Reading.{readRecorded, readTest}
+use Rattle.reader.specs.private.Reading.{readRecorded, readTest}
 use Rattle.reader.proofs.Answered.{read-test-legal}
 use Rattle.writer.specs.Writing.{roomRefusal}
+use Rattle.writer.specs.TestFiles.{testAnswer}
+use Rattle.round_trip.specs.Back.{TestBack}
 use Rattle.words.specs.Layouts.{wordAt, tableAt, tableWords}
 use Rattle.words.specs.Serving.{left}
 use Rattle.words.proofs.Answers.{left-zero}
 use Rattle.words.proofs.Back.{table-back}
 use Rattle.c_tests.specs.Layouts.{isKind, testAt, testWords}
-use Rattle.c_tests.specs.Serving.{ShortTest, leftReadings, LeavesTest, ReadsTest, WrittenTest}
+use Rattle.c_tests.specs.Serving.{ShortTest, leftReadings, LeavesTest, ReadsTest, WrittenTest, WritesTest}
 use Rattle.c_tests.proofs.Reading.{test-back, no-kind-refused}
+use Rattle.c_tests.proofs.Serving.{leaves-read}
 
 not-short : {n m : ℕ} → ¬ (m < n) → n ≤ m
 not-short {n} {m} h = omega arith
@@ -42,7 +46,7 @@ module _ (file : List ℕ) (cutoff : ℕ) (w : List ℕ) (v : List ℤ) (t w′ 
   long s = omega (arith, given .short s .0)
 
   leaves : LeavesTest (readTest file cutoff) w v t w′ v′ t′ r
-  leaves = given .served long
+  leaves = leaves-read file cutoff w v t (given .served long)
 
   legal : LegalTest (readTest file cutoff .value .test)
   legal = read-test-legal file cutoff (sym (leaves .number) ∙ e) .0
@@ -65,6 +69,23 @@ module _ (file : List ℕ) (cutoff : ℕ) (w : List ℕ) (v : List ℤ) (t w′ 
 
   pub read-passes : testRefusal (testAt w′ v′) ≡ 0
   read-passes = ap testRefusal read-back ∙ legal-test (readTest file cutoff .value .test) legal
+
+-- ---- a call of the writer that returned 0: "what is written reads back with the same kind, shape, entries and readings"
+module _ (w : List ℕ) (v : List ℤ) (bytes len bytes′ len′ : List ℕ) (h : WritesTest w v bytes len bytes′ len′ 0) where
+  write-long : ¬ (ShortTest w v ⊎ (length len < 1))
+  write-long s = omega (arith, h .short s .0)
+
+  written : WrittenTest (testAt w v) bytes len bytes′ len′ 0
+  written = h .served write-long
+
+  size-is : wordAt len′ 0 ≡ testAnswer (testAt w v) (length bytes) .value
+  size-is = ap (λ (x : List ℕ). wordAt x 0) (written .size) ∙ getD-set-same len 0 (testAnswer (testAt w v) (length bytes) .value) 0 some
+    where
+      some : 0 < length len
+      some = let k : ¬ (length len < 1) = λ l. write-long (inr l) in omega arith
+
+  pub write-test-back : TestBack (testAt w v) (take (wordAt len′ 0) bytes′)
+  write-test-back = subst (λ (n : ℕ). TestBack (testAt w v) (take n bytes′)) (sym size-is) (written .back refl)
 
 -- ---- a word that is no kind: where the checks of its test refuse, theirs is the number
 ten-or-eleven : (n r : ℕ) → (n ≡ 10) ⊎ (n ≡ 11) → (¬ (n ≡ 0) → r ≡ n) → (r ≡ 10) ⊎ (r ≡ 11)

@@ -12,7 +12,8 @@ use lib.IntN.{ℤ, pos}
 use lib.ListN.{length, getD, set, take, replicate, length-set, length-append, length-replicate}
 use lib.Seq.{sets as stored, ext-getD, getD-set-same, getD-set-other, getD-take, length-take-le, length-sets, take-all, take-at}
 use Rattle.recorded.specs.Tests.{reading, noReadings}
-use Rattle.c_tests.specs.Layouts.{readingsAt}
+use mathlib.Core.Bool.{Bool, true, false, cond}
+use Rattle.c_tests.specs.Layouts.{isKind, readingsAt, strayReading, readingsBeside}
 use Rattle.c_tests.specs.private.Putting.{PutReadings}
 
 -- ---- the first 4,096
@@ -80,3 +81,11 @@ put-all {l} {vs} i p h = record { values = p .values ∙ ap (stored l 0) (take-a
 
 pub put-length : {l vs m : List ℤ} → PutReadings l vs m → length m ≡ length l
 put-length {l} {vs} p = ap length (p .values) ∙ length-sets l 0 vs
+
+-- the readings beside any word are 4,096
+pub beside-length : (x : ℕ) (v : List ℤ) → length (readingsBeside x v) ≡ 4096
+beside-length x v = go (isKind x)
+  where
+    go : (t : Bool) → length (cond t (readingsAt v) strayReading) ≡ 4096
+    go true = readings-length v
+    go false = length-set noReadings 0 (pos 1) ∙ length-replicate 4096 (pos 0)

@@ -3,7 +3,8 @@
 --
 -- In order: reading, with slices too short (`reads-100`) or not (`reads-served`): the number (`leaves-number`), the test, its readings and its table over the
 -- front of the slices where it is 0 (`leaves-front`), and every slice as it was where it is not (`leaves-kept`); writing (`writes-100`, `writes-served`): the
--- number (`written-number`), the bytes and the length where it is 0 (`written-file`, `written-size`), and all as it was where it is not (`written-kept`).
+-- number (`written-number`), the bytes and the length where it is 0 (`written-file`, `written-size`), which reads back (`written-back`), and all as it
+-- was where it is not (`written-kept`).
 --
 -- Elsewhere: what the slices read as after reading, Joined.antt; comparing, which leaves one slice, words/proofs/Sentences; what a writer leaves, of any file,
 -- c_files/proofs/Sentences.
@@ -12,14 +13,15 @@ use mathlib.Core.Logic.{_⊎_}
 use mathlib.Core.List.{List, [], _∷_, _++_}
 use Prim.Native.Nat.{ℕ, _≤_, _<_}
 use lib.IntN.{ℤ}
-use lib.ListN.{length, drop}
+use lib.ListN.{length, take, drop}
 use lib.Seq.{sets as stored}
 use Rattle.refusals.specs.Answers.{Answer}
 use Rattle.recorded.specs.Tests.{testRefusal}
 use Rattle.recorded.specs.declared.Test.{Test}
-use Rattle.reader.specs.Reading.{TestAndTable, readTest}
+use Rattle.reader.specs.Promises.{TestAndTable, TestOfFile}
 use Rattle.writer.specs.Writing.{roomAnswer}
-use Rattle.writer.specs.TestFiles.{testFile}
+use Rattle.writer.specs.TestFiles.{testFile, testAnswer}
+use Rattle.round_trip.specs.Back.{TestBack}
 use Rattle.words.specs.Layouts.{tableWords}
 use Rattle.words.proofs.Serving.{left-refused, long, long-two}
 use Rattle.words.proofs.Answers.{left-zero}
@@ -35,8 +37,9 @@ reads-100 g h = g .short h
 
 -- 67 words, 4,096 readings and 66 words are enough
 pub reads-served : {file : List ℕ} {cutoff : ℕ} {w : List ℕ} {v : List ℤ} {t w′ : List ℕ} {v′ : List ℤ} {t′ : List ℕ} {r : ℕ}
-    → ReadsTest file cutoff w v t w′ v′ t′ r → 67 ≤ length w → 4096 ≤ length v → 66 ≤ length t → LeavesTest (readTest file cutoff) w v t w′ v′ t′ r
-reads-served g lw lv lt = g .served (neither (long-two lw lv) (long lt))
+    → ReadsTest file cutoff w v t w′ v′ t′ r → 67 ≤ length w → 4096 ≤ length v → 66 ≤ length t
+    → (a : Answer TestAndTable) × TestOfFile file cutoff a × LeavesTest a w v t w′ v′ t′ r
+reads-served g lw lv lt = let s = g .served (neither (long-two lw lv) (long lt)) in (s .answer, s .promised, s .leaves)
 
 readings-zero : (r : ℕ) (vs v : List ℤ) → r ≡ 0 → leftReadings r vs v ≡ stored v 0 vs
 readings-zero r vs v z = rw z
@@ -79,6 +82,10 @@ module _ (t : Test) (bytes len bytes′ len′ : List ℕ) (r : ℕ) where
 
   pub written-size : WrittenTest t bytes len bytes′ len′ r → r ≡ 0 → len′ ≡ stored len 0 (length (testFile t) ∷ [])
   written-size w z = room-sized (testRefusal t) (testFile t) bytes r (w .number) len len′ (w .size) z
+
+  -- "what is written reads back with the same kind, shape, entries and readings"
+  pub written-back : WrittenTest t bytes len bytes′ len′ r → r ≡ 0 → TestBack t (take (testAnswer t (length bytes) .value) bytes′)
+  written-back w z = w .back z
 
   pub written-kept : WrittenTest t bytes len bytes′ len′ r → ¬ (r ≡ 0) → (bytes′ ≡ bytes) × (len′ ≡ len)
   written-kept w z = (

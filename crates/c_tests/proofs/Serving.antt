@@ -7,34 +7,47 @@ use Prim.Native.Nat.{ℕ, _<_, _≤_}
 use native.Mathlib.Omega.{arith}
 use lib.Dec.{ltb}
 use lib.IntN.{ℤ}
-use lib.ListN.{length}
+use lib.ListN.{length, take}
 use lib.Seq.{sets as stored}
 use borrow.Author.Tests.{ne-eqb, lt-ltb, ltb-true}
 use Rattle.refusals.specs.Answers.{Answer}
 use Rattle.recorded.specs.Equality.{ComparedAs}
 use Rattle.recorded.specs.declared.Test.{Test}
 use Rattle.recorded.specs.declared.Compared.{Compared}
-use Rattle.reader.specs.Reading.{TestAndTable, readTest}
+use Rattle.reader.specs.Promises.{TestAndTable, TestOfFile}
+use Rattle.reader.specs.private.Reading.{readTest}
+use Rattle.reader.proofs.Promising.{test-is-read}
 use Rattle.writer.specs.TestFiles.{testAnswer, testBuffer}
 use Rattle.words.specs.Layouts.{tableWords, Put}
 use Rattle.words.proofs.Serving.{left-refused}
+use Rattle.words.proofs.Back.{rows-size}
+use Rattle.words.specs.Layouts.{wordAt}
+use Rattle.round_trip.specs.Back.{TestBack}
+use Rattle.round_trip.proofs.Written.{test-back}
+use Rattle.c_tests.proofs.Readings.{beside-length}
 use Rattle.c_tests.specs.Layouts.{testAt, testWords}
 use Rattle.c_tests.specs.private.Putting.{PutReadings}
-use Rattle.c_tests.specs.Serving.{ShortTest, leftReadings, LeavesTest, ReadsTest, WritesTest}
+use Rattle.c_tests.specs.Serving.{ShortTest, leftReadings, LeavesTest, ServesTest, ReadsTest, WritesTest}
 
 pub readings-refused : (n : ℕ) (vs v : List ℤ) → ¬ (n ≡ 0) → leftReadings n vs v ≡ v
 readings-refused n vs v h = rw (ne-eqb n 0 h)
 
 -- ---- the reader: it answered a, and n is the answer's number
 module _ (file : List ℕ) (cutoff : ℕ) (w : List ℕ) (v : List ℤ) (t : List ℕ) where
+  -- what is left is what the file reads as
+  pub leaves-read : {w′ : List ℕ} {v′ : List ℤ} {t′ : List ℕ} {r : ℕ} → ServesTest file cutoff w v t w′ v′ t′ r
+      → LeavesTest (readTest file cutoff) w v t w′ v′ t′ r
+  leaves-read {w′} {v′} {t′} {r} s =
+      subst (λ (x : Answer TestAndTable). LeavesTest x w v t w′ v′ t′ r) (test-is-read file cutoff (s .answer) (s .promised)) (s .leaves)
+
   pub reads-short : ShortTest w v ⊎ (length t < 66) → ReadsTest file cutoff w v t w v t 100
   reads-short h = record { short = λ _. (refl, refl, refl, refl); served = λ n. absurd (n h) }
 
-  module _ (long : ¬ (ShortTest w v ⊎ (length t < 66))) (a : Answer TestAndTable) (d : a ≡ readTest file cutoff) (n : ℕ) (f : n ≡ a .refusal) where
+  module _ (long : ¬ (ShortTest w v ⊎ (length t < 66))) (a : Answer TestAndTable) (d : TestOfFile file cutoff a) (n : ℕ) (f : n ≡ a .refusal) where
     reads : (w′ : List ℕ) (v′ : List ℤ) (t′ : List ℕ) (r : ℕ) → LeavesTest a w v t w′ v′ t′ r → ReadsTest file cutoff w v t w′ v′ t′ r
     reads w′ v′ t′ r l = record {
       short = λ s. absurd (long s);
-      served = λ _. subst (λ (x : Answer TestAndTable). LeavesTest x w v t w′ v′ t′ r) d l;
+      served = λ _. record { answer = a; promised = d; leaves = l };
     }
 
     pub reads-refused : ¬ (n ≡ 0) → ReadsTest file cutoff w v t w v t n
@@ -67,10 +80,18 @@ module _ (w : List ℕ) (v : List ℤ) (t : Test) (e : t ≡ testAt w v) (bytes 
   number-is : n ≡ testAnswer (testAt w v) (length bytes) .refusal
   number-is = f ∙ ap (λ (x : Answer ℕ). x .refusal) answer-is
 
+  reads-back : n ≡ 0 → TestBack (testAt w v) (take (testAnswer (testAt w v) (length bytes) .value) bytes′)
+  reads-back z = test-back (testAt w v) bytes bytes′ (rows-size 3 w) (beside-length (wordAt w 0) v) (sym number-is ∙ z) file-is
+
   pub writes-refused : ¬ (n ≡ 0) → WritesTest w v bytes len bytes′ len n
   writes-refused h = record {
     short = λ s. absurd (long s);
-    served = λ _. record { number = number-is; file = file-is; size = sym (left-refused n (testAnswer (testAt w v) (length bytes) .value ∷ []) len h) };
+    served = λ _. record {
+      number = number-is;
+      file = file-is;
+      size = sym (left-refused n (testAnswer (testAt w v) (length bytes) .value ∷ []) len h);
+      back = reads-back;
+    };
   }
 
   pub writes-done : (len′ : List ℕ) (x : ℕ) → n ≡ 0 → x ≡ a .value → Put len 0 (x ∷ []) len′ → WritesTest w v bytes len bytes′ len′ 0
@@ -80,6 +101,7 @@ module _ (w : List ℕ) (v : List ℤ) (t : Test) (e : t ≡ testAt w v) (bytes 
       number = sym h ∙ number-is;
       file = file-is;
       size = p .words ∙ ap (λ (y : ℕ). stored len 0 (y ∷ [])) (g ∙ ap (λ (z : Answer ℕ). z .value) answer-is);
+      back = λ _. reads-back h;
     };
   }
 

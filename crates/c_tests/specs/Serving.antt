@@ -9,14 +9,15 @@ use mathlib.Core.List.{List, [], _∷_}
 use Prim.Native.Nat.{ℕ, _<_}
 use lib.Dec.{eqb}
 use lib.IntN.{ℤ}
-use lib.ListN.{length}
+use lib.ListN.{length, take}
 use lib.Seq.{sets as stored}
 use Rattle.refusals.specs.Answers.{Answer, verdict}
 use Rattle.recorded.specs.Equality.{ComparedAs}
 use Rattle.recorded.specs.declared.Test.{Test}
 use Rattle.recorded.specs.declared.Compared.{Compared}
-use Rattle.reader.specs.Reading.{TestAndTable, readTest}
+use Rattle.reader.specs.Promises.{TestAndTable, TestOfFile}
 use Rattle.writer.specs.TestFiles.{testAnswer, testBuffer}
+use Rattle.round_trip.specs.Back.{TestBack}
 use Rattle.words.specs.Layouts.{tableWords}
 use Rattle.words.specs.Serving.{left, Gives}
 use Rattle.c_tests.specs.Layouts.{testAt, testWords}
@@ -36,16 +37,23 @@ pub record LeavesTest (a : Answer TestAndTable) (w : List ℕ) (v : List ℤ) (t
   pub readings : v′ ≡ leftReadings r (a .value .test .readings) v
   pub table : t′ ≡ left r (tableWords (a .value .table)) t
 
+-- an answer that the reader's promise allows, left so
+pub record ServesTest (file : List ℕ) (cutoff : ℕ) (w : List ℕ) (v : List ℤ) (t w′ : List ℕ) (v′ : List ℤ) (t′ : List ℕ) (r : ℕ) : Type 0 where
+  pub answer : Answer TestAndTable
+  pub promised : TestOfFile file cutoff answer
+  pub leaves : LeavesTest answer w v t w′ v′ t′ r
+
 pub record ReadsTest (file : List ℕ) (cutoff : ℕ) (w : List ℕ) (v : List ℤ) (t w′ : List ℕ) (v′ : List ℤ) (t′ : List ℕ) (r : ℕ) : Type 0 where
   pub short : ShortTest w v ⊎ (length t < 66) → (r ≡ 100) × (w′ ≡ w) × (v′ ≡ v) × (t′ ≡ t)
-  pub served : ¬ (ShortTest w v ⊎ (length t < 66)) → LeavesTest (readTest file cutoff) w v t w′ v′ t′ r
+  pub served : ¬ (ShortTest w v ⊎ (length t < 66)) → ServesTest file cutoff w v t w′ v′ t′ r
 
 -- ---- the file of a test at the front of the bytes, and its length; 16 where they are too few. The bytes are left as the writer leaves them, as they
--- were where it refuses
+-- were where it refuses; what is written reads back with the same kind, shape, entries and readings
 pub record WrittenTest (t : Test) (bytes len bytes′ len′ : List ℕ) (r : ℕ) : Type 0 where
   pub number : r ≡ testAnswer t (length bytes) .refusal
   pub file : bytes′ ≡ testBuffer t bytes
   pub size : len′ ≡ left r (testAnswer t (length bytes) .value ∷ []) len
+  pub back : r ≡ 0 → TestBack t (take (testAnswer t (length bytes) .value) bytes′)
 
 pub record WritesTest (w : List ℕ) (v : List ℤ) (bytes len bytes′ len′ : List ℕ) (r : ℕ) : Type 0 where
   pub short : ShortTest w v ⊎ (length len < 1) → (r ≡ 100) × (bytes′ ≡ bytes) × (len′ ≡ len)

@@ -1,8 +1,9 @@
 -- The first line. In order: a line of a kind is its banner but for capitals in the words behind the opening (`kind-only`, `kind-mixed`), and
--- no line is of two kinds; what is read as a first line (`first-mixed`, `first-only`), and that a banner that is written is
--- (`banner-reads`). Then the answers of `is_of_kind` and of `first_line`, one law for each of their returns.
+-- no line is of two kinds; a first line is read exactly when it is a banner in 01's words (`first-mixed`, `first-only`, `first-none`), and a banner
+-- that is written is (`banner-reads`). Then the answers of `is_of_kind` and of `first_line`, one law for each of their returns.
 use Prim.Native.Nat.{ℕ, _<_}
 use mathlib.Core.Path.{_≡_, refl, sym, ap, ap₂, _∙_}
+use mathlib.Core.Logic.{_↔_}
 use mathlib.Core.List.{List, [], _∷_, _++_, map}
 use mathlib.Core.Bool.{Bool, true, false, cond, _&&_}
 use native.Mathlib.Omega.{arith}
@@ -14,7 +15,8 @@ use Rattle.text.proofs.Comparing.{same-lengths}
 use Rattle.table.proofs.Legality.{both}
 use Rattle.recorded.specs.declared.Kind.{Kind}
 use Rattle.recorded.specs.declared.Kind.the-variants.{Pattern, Integer}
-use Rattle.kinds.specs.Banner.{opening, pattern, integer, wordsOf, isOfKind, firstLine, bannerOf}
+use Rattle.kinds.specs.Banner.{opening, pattern, integer, wordsOf, takes, IsBanner, isOfKind, firstLine, bannerOf}
+use Rattle.kinds.specs.declared.FirstLine.{FirstLine}
 use Rattle.kinds.specs.declared.FirstLine.the-variants.{Banner, Other}
 
 -- texts that compare as the same are the same
@@ -64,11 +66,6 @@ kinds-apart l e = go (isOfKind pattern l) refl
         behind words p = same-is (map small (drop 14 l)) words (both (sameBytes (take 14 l) opening) (sameBytes (map small (drop 14 l)) words) p .1)
 
 -- ---- the first line
--- whether files of a kind are taken: those of pairs always, integer files where they are asked for
-abbrev pub takes : Bool → Kind → Bool
-takes integers Pattern = true
-takes integers Integer = integers
-
 -- an integer file's first line is no banner to a reader that does not take it, and a first line that is no integer banner is the same to both
 pub integer-refused : (l : List ℕ) → isOfKind integer l ≡ true → firstLine false l ≡ Other
 integer-refused l e = rw (kinds-apart l e)
@@ -76,23 +73,37 @@ integer-refused l e = rw (kinds-apart l e)
 pub first-same : (l : List ℕ) → isOfKind integer l ≡ false → firstLine true l ≡ firstLine false l
 first-same l e = rw e
 
-pub first-mixed : (integers : Bool) (kind : Kind) (l : List ℕ) → takes integers kind ≡ true → Mixed (wordsOf kind) l → firstLine integers l ≡ Banner kind
-first-mixed integers Pattern l t m = rw (kind-mixed pattern l m)
-first-mixed integers Integer l t m =
-    let e = kind-mixed integer l m in
-    rw (kinds-apart l e, t, e)
+pub first-mixed : (integers : Bool) (kind : Kind) (l : List ℕ) → IsBanner integers kind l → firstLine integers l ≡ Banner kind
+first-mixed integers Pattern l m = rw (kind-mixed pattern l (record { rest = m .rest; whole = m .whole; letters = m .letters }))
+first-mixed integers Integer l m =
+    let e = kind-mixed integer l (record { rest = m .rest; whole = m .whole; letters = m .letters }) in
+    rw (kinds-apart l e, m .taken, e)
 
-pub first-only : (integers : Bool) (kind : Kind) (l : List ℕ) → firstLine integers l ≡ Banner kind → (takes integers kind ≡ true) × Mixed (wordsOf kind) l
+pub first-only : (integers : Bool) (kind : Kind) (l : List ℕ) → firstLine integers l ≡ Banner kind → IsBanner integers kind l
 first-only integers kind l e = go (isOfKind pattern l) refl integers (isOfKind integer l) refl kind e
   where
+    is : (i : Bool) (k : Kind) → takes i k ≡ true → Mixed (wordsOf k) l → IsBanner i k l
+    is i k t m = record { taken = t; rest = m .rest; whole = m .whole; letters = m .letters }
+
     go : (t : Bool) → isOfKind pattern l ≡ t → (i u : Bool) → isOfKind integer l ≡ u → (k : Kind)
-        → cond t (Banner Pattern) (cond (i && u) (Banner Integer) Other) ≡ Banner k → (takes i k ≡ true) × Mixed (wordsOf k) l
-    go true p i u q Pattern d = (refl, kind-only pattern l p)
+        → cond t (Banner Pattern) (cond (i && u) (Banner Integer) Other) ≡ Banner k → IsBanner i k l
+    go true p i u q Pattern d = is i Pattern refl (kind-only pattern l p)
     go true p i u q Integer d = let z : _≡_ {A = ℕ} 0 1 = cc in absurd (omega arith)
-    go false p true true q Integer d = (refl, kind-only integer l q)
+    go false p true true q Integer d = is true Integer refl (kind-only integer l q)
     go false p true true q Pattern d = let z : _≡_ {A = ℕ} 0 1 = cc in absurd (omega arith)
     go false p true false q k d = let z : _≡_ {A = ℕ} 0 1 = cc in absurd (omega arith)
     go false p false u q k d = let z : _≡_ {A = ℕ} 0 1 = cc in absurd (omega arith)
+
+-- any other first line is the banner of no kind that is taken
+pub first-none : (integers : Bool) (l : List ℕ) → (firstLine integers l ≡ Other) ↔ ((kind : Kind) → ¬ IsBanner integers kind l)
+first-none integers l = (
+  λ e kind m. let d : Banner kind ≡ Other = sym (first-mixed integers kind l m) ∙ e in let z : _≡_ {A = ℕ} 0 1 = cc in absurd (omega arith),
+  λ n. go n (firstLine integers l) refl,
+)
+  where
+    go : ((kind : Kind) → ¬ IsBanner integers kind l) → (x : FirstLine) → firstLine integers l ≡ x → firstLine integers l ≡ Other
+    go n (Banner kind) p = absurd (n kind (first-only integers kind l p))
+    go n Other p = p
 
 -- what is written is read
 written : (kind : Kind) → map small (wordsOf kind) ≡ wordsOf kind
@@ -101,7 +112,7 @@ written Pattern = refl
 written Integer = refl
 
 pub banner-reads : (integers : Bool) (kind : Kind) → takes integers kind ≡ true → firstLine integers (bannerOf kind) ≡ Banner kind
-banner-reads integers kind t = first-mixed integers kind (bannerOf kind) t (record { rest = wordsOf kind; whole = refl; letters = written kind })
+banner-reads integers kind t = first-mixed integers kind (bannerOf kind) (record { taken = t; rest = wordsOf kind; whole = refl; letters = written kind })
 
 -- ---- the answers of the code
 pub opening-short : (words l : List ℕ) → length l < 14 → false ≡ isOfKind words l

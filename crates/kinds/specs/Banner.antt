@@ -1,13 +1,14 @@
 -- The first line of a file (01, "The file"): "Banner, lower case, single spaces: %%MatrixMarket matrix coordinate pattern general". It is the
--- fourteen bytes `%%MatrixMarket` and then the words of a kind of file, each with a space ahead of it. What is read (`firstLine`) may have
+-- fourteen bytes `%%MatrixMarket` and then the words of a kind of file, each with a space ahead of it. What is read (`IsBanner`) may have
 -- capitals in the words (02, R-1: "accept any mix of capitals in the four words after `%%MatrixMarket`, which itself keeps its spelling.
--- The writer goes on in lower case"); what is written (`banner`) has none. That a line is read exactly when it is the banner but for capitals
--- in the words is `kind-only` and `kind-mixed` in proofs/Opening.antt. 02, R-5: "Accept the banner `coordinate integer general`, with case as
+-- The writer goes on in lower case"); what is written (`banner`) has none. That the first line is read exactly when it is a banner in
+-- this sense is `first-only` and `first-mixed` in proofs/Opening.antt. 02, R-5: "Accept the banner `coordinate integer general`, with case as
 -- in R-1"; "the old one, and pattern files, go on as before". A further kind of file is a further text of words.
 use Prim.Native.Nat.{ℕ}
+use mathlib.Core.Path.{_≡_}
 use mathlib.Core.List.{List, [], _∷_, _++_, map}
 use mathlib.Core.Option.{Option, some, none}
-use mathlib.Core.Bool.{Bool, cond, _&&_}
+use mathlib.Core.Bool.{Bool, true, cond, _&&_}
 use lib.ListN.{take, drop}
 use Rattle.text.specs.Bytes.{sameBytes, small}
 use Rattle.refusals.specs.Answers.{Answer, refused}
@@ -41,6 +42,20 @@ integer =
 abbrev pub wordsOf : Kind → List ℕ
 wordsOf Pattern = pattern
 wordsOf Integer = integer
+
+-- the kinds of file that a reader takes: files of pairs always, integer files where it is asked for them ("The entry with a cutoff takes either banner ..;
+-- the old one .. go on as before")
+abbrev pub takes : Bool → Kind → Bool
+takes integers Pattern = true
+takes integers Integer = integers
+
+-- a first line that is the banner of a kind that the reader takes, in words: `%%MatrixMarket`, which "keeps its spelling", and behind it a text that is
+-- the words of the kind in small letters
+pub record IsBanner (integers : Bool) (kind : Kind) (l : List ℕ) : Type 0 where
+  pub taken : takes integers kind ≡ true
+  pub rest : List ℕ
+  pub whole : l ≡ opening ++ rest
+  pub letters : map small rest ≡ wordsOf kind
 
 -- a line of a kind with these words: its first fourteen bytes are the opening, and what stands behind them is, in small letters, the words
 abbrev pub isOfKind : List ℕ → List ℕ → Bool

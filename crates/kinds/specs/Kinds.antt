@@ -1,6 +1,7 @@
 -- The kinds of line behind the first (01, "The file"; 02, R-5): comment lines, the lines ahead of the entries, the entry lines. The first
 -- failing test of a line decides, in the order of 01's table of refusals; a refusal stands here by its name, and `number` of the crate
 -- `refusals` gives 01's number. The first line is in Banner.antt. What an entry line has by the kind of file stands in `fieldsBy` alone.
+-- The same lines in 01's words, each kind by itself, are in OneLine.antt.
 use Prim.Native.Nat.{ℕ}
 use mathlib.Core.List.{List, [], _∷_}
 use mathlib.Core.Bool.{Bool, false, cond, _&&_}

@@ -21,7 +21,7 @@ ghost use Rattle.table.specs.Tables.{tableRows, chainRows};
 ghost use Rattle.samples.specs.Samples.{SampleClaims};
 ghost use Rattle.orders.specs.Adding.{OrderClaims};
 ghost use Rattle.c_runs.specs.Serving.{Starts, Runs};
-ghost use Rattle.c_files.specs.Serving.{Reads, ShowsComment, WritesTable};
+ghost use Rattle.c_files.specs.Serving.{Reads, Locates, ShowsComment, WritesTable};
 ghost use Rattle.c_chains.specs.Serving.{Judges, Grows, Conflicts, Decides, ClaimsConflicts};
 ghost use Rattle.c_counts.specs.Serving.{CountsWords, Samples};
 ghost use Rattle.c_reasons.specs.Serving.{Explains, ClaimsReasons};
@@ -69,6 +69,15 @@ pub extern "C" fn rg_read(file: &[u8], table: &mut [u64]) -> u64
     ensures { λ r. ⌜ Reads (now (file .entry)) (now (table .entry)) (now (table .exit)) r ⌝ }
 {
     c_files::read(file, table)
+}
+
+// The number of the line that decides, of a file of pairs where `either` is 0, else of a file of either kind, into `line`; 0 where the file is accepted or
+// longer than 65,536.
+#[no_mangle]
+pub extern "C" fn rg_locate(file: &[u8], either: u64, line: &mut [u64]) -> u64
+    ensures { λ r. ⌜ Locates (now (file .entry)) either (now (line .entry)) (now (line .exit)) r ⌝ }
+{
+    c_files::locate(file, either, line)
 }
 
 // Where comment line `k` of a file starts, and its length, into `span`.

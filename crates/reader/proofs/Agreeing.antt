@@ -19,11 +19,12 @@ use Rattle.recorded.specs.declared.Kind.the-variants.{Pattern, Integer}
 use Rattle.recorded.specs.declared.Test.{Test}
 use Rattle.recorded.proofs.Reaching.{pattern-table}
 use Rattle.text.specs.Lines.{Line, lines}
-use Rattle.kinds.specs.Banner.{pattern, integer, isOfKind, firstLine}
+use Rattle.kinds.specs.Banner.{pattern, integer, takes, isOfKind, firstLine}
 use Rattle.kinds.specs.declared.FirstLine.{FirstLine}
 use Rattle.kinds.specs.declared.FirstLine.the-variants.{Banner, Other}
-use Rattle.kinds.proofs.Opening.{takes, kinds-apart, integer-refused, first-same}
-use Rattle.reader.specs.Reading.{refusedFile, readHead, readLines, readRecorded, pairsOf, readFile, TestAndTable, blankBoth, readTest}
+use Rattle.kinds.proofs.Opening.{kinds-apart, integer-refused, first-same}
+use Rattle.reader.specs.private.Reading.{refusedFile, readHead, readLines, readRecorded, pairsOf, readFile, readTest}
+use Rattle.reader.specs.Promises.{TestAndTable, blankBoth}
 use Rattle.reader.proofs.Yielded.{recorded-sound}
 use Rattle.reader.proofs.Answered.{both}
 

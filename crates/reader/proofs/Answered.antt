@@ -18,7 +18,8 @@ use Rattle.recorded.specs.Tests.{LegalTest, testRefusal, tableOf, cutoffFirst, 
 use Rattle.recorded.specs.declared.Test.{Test}
 use Rattle.recorded.proofs.Legality.{legal-test}
 use Rattle.recorded.proofs.Reaching.{table-legal}
-use Rattle.reader.specs.Reading.{readRecorded, TestAndTable, blankBoth, refusedBoth, recording, readTest}
+use Rattle.reader.specs.private.Reading.{readRecorded, readTest}
+use Rattle.reader.specs.Promises.{TestAndTable, blankBoth, recording, refusedBoth}
 use Rattle.reader.specs.declared.Gathered.{Gathered}
 use Rattle.reader.specs.declared.Recording.{Recording}
 use Rattle.reader.specs.private.Gathering.{gathered}

@@ -24,7 +24,7 @@ use Rattle.recorded.specs.Tests.{reading, noReadings}
 use Rattle.recorded.specs.declared.Kind.{Kind}
 use Rattle.recorded.specs.declared.Kind.the-variants.{Pattern, Integer}
 use Rattle.kinds.proofs.KindOf.{Bounded, Taken}
-use Rattle.reader.specs.Reading.{withCase, addPair, addReading}
+use Rattle.reader.specs.private.Reading.{withCase, addPair, addReading}
 
 pub record Held (kind : Kind) (gs : Gauge) (cs : Case) (rows : List ℕ) (vs : List ℤ) : Type 0 where
   pub size : length rows ≡ 64
@@ -35,7 +35,7 @@ pub record Held (kind : Kind) (gs : Gauge) (cs : Case) (rows : List ℕ) (vs : L
   pub small : (p : ℕ) → natAbs (reading vs p) ≤ 1000000
 
 -- nothing gathered
-no-row : (n i : ℕ) → row (replicate n 0) i ≡ 0
+pub no-row : (n i : ℕ) → row (replicate n 0) i ≡ 0
 no-row zero i = refl
 no-row (suc n) zero = refl
 no-row (suc n) (suc i) = no-row n i
@@ -61,12 +61,12 @@ with-lt : (cs : Case) (r : ℕ) (c : Case) → 1 ≤ c .0 → c .0 ≤ cs .0 →
 unfolding join
 with-lt cs r c l h k = or-lt (cs .0) r (2 ^ (c .0 - 1)) k (pow-lt (omega arith))
 
-with-own : (r : ℕ) (c : Case) → T (bit (withCase r c) (c .0 - 1))
+pub with-own : (r : ℕ) (c : Case) → T (bit (withCase r c) (c .0 - 1))
 with-own r c =
     let k = c .0 - 1 in
     subst T (sym (bit-join r (2 ^ k) k)) (or-r (bit r k) (bit (2 ^ k) k) (subst T (sym (bit-power k k ∙ eq-eqb k k refl)) tt))
 
-with-kept : (r : ℕ) (c : Case) (k : ℕ) → T (bit r k) → T (bit (withCase r c) k)
+pub with-kept : (r : ℕ) (c : Case) (k : ℕ) → T (bit r k) → T (bit (withCase r c) k)
 with-kept r c k h = subst T (sym (bit-join r (2 ^ (c .0 - 1)) k)) (or-l (bit r k) (bit (2 ^ (c .0 - 1)) k) h)
 
 -- only an integer file has a reading that is not zero

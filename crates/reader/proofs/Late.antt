@@ -24,7 +24,7 @@ use Rattle.entries.specs.Values.{numberFrom, numberOf}
 use Rattle.entries.specs.Words.{atBreak, grow, words, entryOf, entryFields}
 use Rattle.entries.specs.declared.EntryFields.the-variants.{Other as otherFields}
 use Rattle.kinds.specs.Kinds.{isComment, tooLong, pairFields, fieldsBy, entryOf as lineOf, entryLine}
-use Rattle.reader.specs.Reading.{refusedFile, hasPair, addPair, addReading, readEntries}
+use Rattle.reader.specs.private.Reading.{refusedFile, hasPair, addPair, addReading, readEntries}
 use Rattle.kinds.specs.declared.EntryLine.{EntryLine}
 use Rattle.kinds.specs.declared.EntryLine.the-variants.{Entry, Skip as skipEntry, Bad as badEntry}
 
@@ -72,7 +72,7 @@ comment-bad kind gs cs l e = go (tooLong l)
     go false = (PairFields, ap (lineOf gs cs) (comment-fields kind l e))
 
 -- a line that is an entry or blank is no comment
-not-comment : (kind : Kind) (gs : Gauge) (cs : Case) (l : List ℕ) (k : EntryLine) → entryLine kind gs cs l ≡ k → ((x : Refusal) → k ≡ badEntry x → ⊥)
+pub not-comment : (kind : Kind) (gs : Gauge) (cs : Case) (l : List ℕ) (k : EntryLine) → entryLine kind gs cs l ≡ k → ((x : Refusal) → k ≡ badEntry x → ⊥)
     → isComment l ≡ false
 not-comment kind gs cs l k p n = go (isComment l) refl
   where

@@ -12,6 +12,7 @@ use lib.Seq.{take-nil}
 use borrow.Author.Tests.{ne-eqb, eq-eqb, lt-ltb, le-ltb}
 use mathlib.Core.Logic.{⊎-elim}
 use native.Mathlib.Nat.{eq-zero-or-pos}
+use native.Mathlib.Numerals.{add-one}
 use Rattle.table.specs.Pairs.{row}
 use Rattle.table.specs.Tables.{noRows}
 use Rattle.refusals.specs.Answers.{Answer}
@@ -26,7 +27,8 @@ use Rattle.text.specs.Lines.{lines, spanAt}
 use Rattle.text.proofs.LineAt.{lines-at}
 use Rattle.kinds.specs.Banner.{firstLine, firstSays}
 use Rattle.kinds.specs.Kinds.{headLine, headSays, entryLine, entrySays}
-use Rattle.reader.specs.Reading.{accepted, refusedFile, withCase, hasPair, readEntries, readHead, readLines, readRecorded}
+use Rattle.reader.specs.private.Reading.{accepted, refusedFile, withCase, hasPair, readEntries, readHead, readLines, readRecorded}
+use Rattle.reader.specs.private.Stopping.{stopEntries, stopHead, stopLines, stopLine}
 use Rattle.kinds.proofs.KindOf.{Bounded, entry-taken, size-range}
 use Rattle.kinds.proofs.Saying.{first-is, head-is, entry-is}
 use Rattle.text.specs.declared.Span.{Span}
@@ -48,21 +50,44 @@ module _ (f : List ℕ) (at : ℕ) (kind : Kind) (gs : Gauge) (cs : Case) (left 
   unfolding readEntries lines
   entries-fewer z = rw (ne-eqb left 0 z) at (rw (drop-of-length-le f h) at q)
 
+-- and the line at which it stops; B is what the loop started with
+module _ (f : List ℕ) (at : ℕ) (kind : Kind) (gs : Gauge) (cs : Case) (left : ℕ) (rows : List ℕ) (k B : ℕ)
+    (q : stopEntries kind gs cs left rows k (lines (drop at f)) ≡ B) (h : length f ≤ at) where
+  pub done-line : left ≡ 0 → 0 ≡ B
+  unfolding stopEntries lines
+  done-line z = rw (eq-eqb left 0 z) at (rw (drop-of-length-le f h) at q)
+
+  pub fewer-line : (left ≡ 0 → ⊥) → k ≡ B
+  unfolding stopEntries lines
+  fewer-line z = rw (ne-eqb left 0 z) at (rw (drop-of-length-le f h) at q)
+
 -- a turn of the loop over the entry lines: the line s at the place at is judged as e
 pub record EntryTurn (f : List ℕ) (at : ℕ) (s : Span) (kind : Kind) (gs : Gauge) (cs : Case) (left : ℕ) (rows : List ℕ) (vs : List ℤ) (e : EntryLine)
-    (A : Answer Test) : Type 0 where
+    (A : Answer Test) (k B : ℕ) : Type 0 where
   pub here : at < length f
   pub span : s ≡ spanAt f at
   pub judged : entrySays e ≡ entrySays (entryLine kind gs cs (take (s .end - at) (drop at f)))
   pub goal : readEntries kind gs cs left rows vs (lines (drop at f)) ≡ A
+  pub stop : stopEntries kind gs cs left rows k (lines (drop at f)) ≡ B
 
 module _ {f : List ℕ} {at : ℕ} {s : Span} {kind : Kind} {gs : Gauge} {cs : Case} {left : ℕ} {rows : List ℕ} {vs : List ℤ} {e : EntryLine} {A : Answer Test}
-    (T : EntryTurn f at s kind gs cs left rows vs e A) where
+    {k B : ℕ} (T : EntryTurn f at s kind gs cs left rows vs e A k B) where
   told : e ≡ entryLine kind gs cs (take (s .end - at) (drop at f))
   told = entry-is kind gs cs (take (s .end - at) (drop at f)) e (T .judged)
 
   one-line : (size : ℕ) × (readEntries kind gs cs left rows vs (record { text = take (s .end - at) (drop at f); size = size } ∷ lines (drop (s .next) f)) ≡ A)
   one-line = let w = lines-at f at s (T .span) (T .here) in (w .0, rw (w .1) at (T .goal))
+
+  one-stop : (size : ℕ) × (stopEntries kind gs cs left rows k (record { text = take (s .end - at) (drop at f); size = size } ∷ lines (drop (s .next) f)) ≡ B)
+  one-stop = let w = lines-at f at s (T .span) (T .here) in (w .0, rw (w .1) at (T .stop))
+
+  pub skip-line : e ≡ skipEntry → stopEntries kind gs cs left rows (k + 1) (lines (drop (s .next) f)) ≡ B
+  unfolding stopEntries
+  skip-line x = rw add-one (rw (sym told ∙ x, stopEntries) at (one-stop .1))
+
+  pub bad-line : {x : Refusal} → e ≡ badEntry x → k ≡ B
+  unfolding stopEntries
+  bad-line x = rw (sym told ∙ x, stopEntries) at (one-stop .1)
 
   pub turn-skip : e ≡ skipEntry → readEntries kind gs cs left rows vs (lines (drop (s .next) f)) ≡ A
   unfolding readEntries
@@ -85,6 +110,19 @@ module _ {f : List ℕ} {at : ℕ} {s : Span} {kind : Kind} {gs : Gauge} {cs : C
       unfolding readEntries
       turn-more y z = rw (eq-eqb left 0 z) at (rw (sym d ∙ y) at (rw (sym told ∙ x, readEntries) at (one-line .1)))
 
+      pub repeated-line : t ≡ true → k ≡ B
+      unfolding stopEntries
+      repeated-line y = rw (sym d ∙ y) at (rw (sym told ∙ x, stopEntries) at (one-stop .1))
+
+      pub more-line : t ≡ false → left ≡ 0 → k ≡ B
+      unfolding stopEntries
+      more-line y z = rw (eq-eqb left 0 z) at (rw (sym d ∙ y) at (rw (sym told ∙ x, stopEntries) at (one-stop .1)))
+
+      pub taken-line : t ≡ false → (left ≡ 0 → ⊥) → (r : ℕ) → r ≡ withCase (row rows (g .0 - 1)) c
+          → stopEntries kind gs cs (left - 1) (set rows (g .0 - 1) r) (k + 1) (lines (drop (s .next) f)) ≡ B
+      unfolding stopEntries
+      taken-line y n r w = rw (w, add-one) (rw (ne-eqb left 0 n) at (rw (sym d ∙ y) at (rw (sym told ∙ x, stopEntries) at (one-stop .1))))
+
       -- r is the row with the case, and z what the code handed on of the reading
       pub turn-entry : t ≡ false → (left ≡ 0 → ⊥) → (r : ℕ) → r ≡ withCase (row rows (g .0 - 1)) c → (z : ℤ) → z ≡ v
           → readEntries kind gs cs (left - 1) (set rows (g .0 - 1) r) (set vs ((g .0 - 1) * 64 + (c .0 - 1)) z) (lines (drop (s .next) f)) ≡ A
@@ -96,19 +134,35 @@ pub head-absent : (f : List ℕ) (at : ℕ) (kind : Kind) (A : Answer Test) → 
 unfolding readHead lines
 head-absent f at kind A q h = rw (drop-of-length-le f h) at q
 
+pub absent-line : (f : List ℕ) (at : ℕ) (kind : Kind) (k B : ℕ) → stopHead kind k (lines (drop at f)) ≡ B → length f ≤ at → k ≡ B
+unfolding stopHead lines
+absent-line f at kind k B q h = rw (drop-of-length-le f h) at q
+
 -- a turn of the loop over the lines ahead of the entries
-pub record HeadTurn (f : List ℕ) (at : ℕ) (s : Span) (kind : Kind) (e : HeadLine) (A : Answer Test) : Type 0 where
+pub record HeadTurn (f : List ℕ) (at : ℕ) (s : Span) (kind : Kind) (e : HeadLine) (A : Answer Test) (k B : ℕ) : Type 0 where
   pub here : at < length f
   pub span : s ≡ spanAt f at
   pub judged : headSays e ≡ headSays (headLine (take (s .end - at) (drop at f)))
   pub goal : readHead kind (lines (drop at f)) ≡ A
+  pub stop : stopHead kind k (lines (drop at f)) ≡ B
 
-module _ {f : List ℕ} {at : ℕ} {s : Span} {kind : Kind} {e : HeadLine} {A : Answer Test} (T : HeadTurn f at s kind e A) where
+module _ {f : List ℕ} {at : ℕ} {s : Span} {kind : Kind} {e : HeadLine} {A : Answer Test} {k B : ℕ} (T : HeadTurn f at s kind e A k B) where
   told-head : e ≡ headLine (take (s .end - at) (drop at f))
   told-head = head-is (take (s .end - at) (drop at f)) e (T .judged)
 
   one-head : (size : ℕ) × (readHead kind (record { text = take (s .end - at) (drop at f); size = size } ∷ lines (drop (s .next) f)) ≡ A)
   one-head = let w = lines-at f at s (T .span) (T .here) in (w .0, rw (w .1) at (T .goal))
+
+  one-ahead : (size : ℕ) × (stopHead kind k (record { text = take (s .end - at) (drop at f); size = size } ∷ lines (drop (s .next) f)) ≡ B)
+  one-ahead = let w = lines-at f at s (T .span) (T .here) in (w .0, rw (w .1) at (T .stop))
+
+  pub skipped-line : e ≡ skipHead → stopHead kind (k + 1) (lines (drop (s .next) f)) ≡ B
+  unfolding stopHead
+  skipped-line x = rw add-one (rw (sym told-head ∙ x, stopHead) at (one-ahead .1))
+
+  pub head-bad-line : {x : Refusal} → e ≡ badHead x → k ≡ B
+  unfolding stopHead
+  head-bad-line x = rw (sym told-head ∙ x, stopHead) at (one-ahead .1)
 
   pub head-skip : e ≡ skipHead → readHead kind (lines (drop (s .next) f)) ≡ A
   unfolding readHead
@@ -122,6 +176,10 @@ module _ {f : List ℕ} {at : ℕ} {s : Span} {kind : Kind} {e : HeadLine} {A : 
     pub head-range : Bounded (record { 0 = 64 }) (record { 0 = 64 }) g c
     head-range = size-range (take (s .end - at) (drop at f)) g c n (sym x ∙ told-head)
 
+    pub size-line : stopEntries kind g c n noRows (k + 1) (lines (drop (s .next) f)) ≡ B
+    unfolding stopHead
+    size-line = rw add-one (rw (sym told-head ∙ x, stopHead) at (one-ahead .1))
+
     pub head-size : readEntries kind g c n noRows noReadings (lines (drop (s .next) f)) ≡ A
     unfolding readHead
     head-size = rw (sym told-head ∙ x, readHead) at (one-head .1)
@@ -130,6 +188,10 @@ module _ {f : List ℕ} {at : ℕ} {s : Span} {kind : Kind} {e : HeadLine} {A : 
 pub file-long : (integers : Bool) (f : List ℕ) → 65536 < length f → refusedFile FileTooLong ≡ readRecorded integers f
 unfolding readRecorded
 file-long integers f h = sym (rw (lt-ltb 65536 (length f) h, readRecorded))
+
+pub long-line : (integers : Bool) (f : List ℕ) → 65536 < length f → 0 ≡ stopLine integers f
+unfolding stopLine
+long-line integers f h = sym (rw (lt-ltb 65536 (length f) h, stopLine))
 
 -- an empty line is no banner
 empty-other : (integers : Bool) → firstLine integers [] ≡ Other
@@ -171,3 +233,23 @@ module _ (integers : Bool) (f : List ℕ) (h : length f ≤ 65536) (s : Span) (e
 
   pub file-head : {kind : Kind} → b ≡ Banner kind → readHead kind (lines (drop (s .next) f)) ≡ readRecorded integers f
   file-head x = sym (file-lines ∙ first-line (not-empty x) ∙ rw x)
+
+  stop-lines : stopLine integers f ≡ stopLines integers (lines f)
+  unfolding stopLine
+  stop-lines = rw (le-ltb 65536 (length f) h, stopLine)
+
+  no-stop : length f ≡ 0 → stopLines integers (lines f) ≡ 1
+  unfolding stopLines lines
+  no-stop z =
+      let n : f ≡ [] = drop-of-length-le f {i = 0} (omega arith) in
+      rw n
+
+  first-stop : 0 < length f → stopLines integers (lines f) ≡ elim b [ Banner kind ↦ stopHead kind 2 (lines (drop (s .next) f)) | Other ↦ 1 ]
+  unfolding stopLines
+  first-stop z = rw (lines-at f 0 s e z .1) (rw (← told-first, stopLines))
+
+  pub other-line : b ≡ Other → 1 ≡ stopLine integers f
+  other-line x = sym (stop-lines ∙ ⊎-elim no-stop (λ z. first-stop z ∙ rw x) (eq-zero-or-pos (length f)))
+
+  pub head-from : {kind : Kind} → b ≡ Banner kind → stopHead kind 2 (lines (drop (s .next) f)) ≡ stopLine integers f
+  head-from x = sym (stop-lines ∙ first-stop (not-empty x) ∙ rw x)

@@ -23,8 +23,8 @@ use Rattle.text.specs.Lines.{Line, lines, spanAt, atCRLF, extend}
 use Rattle.text.proofs.LineAt.{inside, lines-at}
 use Rattle.refusals.proofs.Answering.{number-pos, number-injective}
 use Rattle.kinds.specs.Kinds.{isComment}
-use Rattle.reader.specs.Reading.{readRecorded}
-use Rattle.reader.specs.Comments.{Part, Shows, noPart, found, noComment, commentFrom, commentLines, commentAt}
+use Rattle.reader.specs.private.Reading.{readRecorded, commentAt}
+use Rattle.reader.specs.Comments.{Part, Shows, noPart, found, noComment, commentFrom, commentLines}
 use Rattle.reader.specs.declared.Found.{Found}
 use Rattle.reader.specs.declared.Found.the-variants.{At, Refused as FoundRefused}
 use Rattle.text.specs.declared.Span.{Span}
@@ -202,11 +202,8 @@ comment-some f k x = go (eqb (readRecorded true f .refusal) 0) refl (lines f) x
 
 -- ---- the part that is shown, by the answer of `comment_at`
 module _ (f : List ℕ) (k : ℕ) (x : Found) (p : found x ≡ commentAt f k) where
-  pub part-is : {start len : ℕ} → x ≡ At start len → record { start = start; len = len } ≡ commentAt f k .value
+  part-is : {start len : ℕ} → x ≡ At start len → record { start = start; len = len } ≡ commentAt f k .value
   part-is e = ap (λ (a : Answer Part). a .value) (ap found (sym e) ∙ p)
-
-  pub part-none : {why : Refusal} → x ≡ FoundRefused why → noPart ≡ commentAt f k .value
-  part-none e = ap (λ (a : Answer Part). a .value) (ap found (sym e) ∙ p)
 
   pub part-inside : {start len : ℕ} → x ≡ At start len → start + len ≤ length f
   part-inside {start} {len} e =

@@ -20,7 +20,7 @@ use Rattle.recorded.specs.Tests.{listed, LegalTest, noReadings, blankTest}
 use Rattle.recorded.specs.declared.Kind.{Kind}
 use Rattle.recorded.specs.declared.Test.{Test}
 use Rattle.text.specs.Lines.{Line, lines}
-use Rattle.kinds.specs.Banner.{firstLine}
+use Rattle.kinds.specs.Banner.{takes, firstLine}
 use Rattle.kinds.specs.Kinds.{headLine, entryLine}
 use Rattle.kinds.specs.declared.FirstLine.{FirstLine}
 use Rattle.kinds.specs.declared.FirstLine.the-variants.{Banner, Other}
@@ -29,9 +29,21 @@ use Rattle.kinds.specs.declared.HeadLine.the-variants.{Size, Skip as skipHead, 
 use Rattle.kinds.specs.declared.EntryLine.{EntryLine}
 use Rattle.kinds.specs.declared.EntryLine.the-variants.{Entry, Skip as skipEntry, Bad as badEntry}
 use Rattle.kinds.proofs.KindOf.{Bounded, entry-taken, size-range}
-use Rattle.kinds.proofs.Opening.{takes, first-only}
+use Rattle.kinds.proofs.Opening.{first-only}
 use Rattle.refusals.proofs.Answering.{number-pos}
-use Rattle.reader.specs.Reading.{accepted, refusedFile, hasPair, addPair, addReading, readEntries, readHead, readLines, readRecorded, pairsOf, readFile}
+use Rattle.reader.specs.private.Reading.{
+  accepted,
+  refusedFile,
+  hasPair,
+  addPair,
+  addReading,
+  readEntries,
+  readHead,
+  readLines,
+  readRecorded,
+  pairsOf,
+  readFile,
+}
 use Rattle.reader.proofs.Held.{Held, held-none, held-more}
 use Rattle.reader.proofs.LineLoops.{file-long}
 
@@ -120,7 +132,7 @@ lines-sound integers (l ∷ ls) = go (firstLine integers (l .text)) refl
   where
     go : (b : FirstLine) → firstLine integers (l .text) ≡ b
         → Sound (Taking integers) (elim b [ Banner kind ↦ readHead kind ls | Other ↦ refusedFile NotTheBanner ])
-    go (Banner kind) p = head-sound kind (Taking integers) (first-only integers kind (l .text) p .0) ls
+    go (Banner kind) p = head-sound kind (Taking integers) (first-only integers kind (l .text) p .taken) ls
     go Other p = refusal-sound (Taking integers) NotTheBanner
 
 pub recorded-sound : (integers : Bool) (f : List ℕ) → Sound (Taking integers) (readRecorded integers f)

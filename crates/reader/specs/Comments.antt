@@ -1,7 +1,6 @@
--- Comment lines (01, "The file"): "Comment line k (from 1) is shown as a part of the caller's file, without its end, for a file that the
--- reader accepts; any other file gets the reader's refusal." 02, R-5: "Comment lookup takes either kind", so it is the reader of either
--- kind, without a cutoff. The banner is no comment, and an accepted file has no `%` line behind its size line (refusal 6; `late-comment` in
--- proofs/Late.antt), so the comment lines are the `%` lines behind the first line.
+-- Comment lines (01, "The file"): "Comment line k (from 1) is shown as a part of the caller's file, without its end": parts of a file, what it is to show
+-- one, and where the k-th `%` line behind the first stands. The banner is no comment, and an accepted file has no `%` line behind its size line (refusal 6;
+-- `late-comment` in proofs/Late.antt), so these are the comment lines. What comment lookup promises is `CommentOfFile` in Promises.antt.
 use Prim.Native.Nat.{ℕ, _+_, _-_}
 use mathlib.Core.Path.{_≡_}
 use mathlib.Core.List.{List, [], _∷_}
@@ -11,9 +10,8 @@ use lib.Dec.{ltb, eqb}
 use denote.Ref.{RefT, ptr, now}
 use Rattle.refusals.specs.Answers.{Answer, refused}
 use Rattle.refusals.specs.declared.Refusal.the-variants.{NoSuchComment}
-use Rattle.text.specs.Lines.{Line, lines}
+use Rattle.text.specs.Lines.{Line}
 use Rattle.kinds.specs.Kinds.{isComment}
-use Rattle.reader.specs.Reading.{readRecorded}
 use Rattle.reader.specs.declared.Found.{Found}
 use Rattle.reader.specs.declared.Found.the-variants.{At, Refused}
 
@@ -57,8 +55,3 @@ commentFrom k at (l ∷ ls) =
 abbrev pub commentLines : ℕ → List Line → Answer Part
 commentLines k [] = noComment
 commentLines k (l ∷ ls) = commentFrom k (l .size) ls
-
--- "Comment lookup, after the file"
-unfoldable pub commentAt : List ℕ → ℕ → Answer Part
-commentAt file k =
-    cond (eqb (readRecorded true file .refusal) 0) (commentLines k (lines file)) (record { refusal = readRecorded true file .refusal; value = noPart })

@@ -1,17 +1,18 @@
-// Reads a Matrix Market file that is lent as bytes, and looks up its comment lines (01, "The file"; 02, R-5; refusals 1 to 9, 17, 20 and
-// 21): a file of pairs to its table, or a file of either kind to the recorded test and its table at a cutoff. The first failing line
-// decides; what one line says is in `kinds`, and one loop goes through the lines of either kind. No public function has a `requires`, and
-// none changes lent memory. The time is linear in the file.
+// Reads a Matrix Market file that is lent as bytes, tells which line decides, and looks up comment lines (01, "The file"; 02, R-5; refusals 1 to 9, 17, 20 and
+// 21): a file of pairs to its table, or a file of either kind to the recorded test and its table at a cutoff. The first failing line decides; what one
+// line says is in `kinds`, and one loop goes through the lines of either kind. No public function has a `requires`, and none changes lent memory. The time
+// is linear in the file. What is promised is said by the lines of the file, in specs/Promises.antt; the private steps go by specs/private.
 ghost use mathlib.Core.Path.{_≡_};
-ghost use Prim.Native.Nat.{_≤_};
+ghost use Prim.Native.Nat.{_≤_, _+_};
 ghost use lib.ListN.{length, drop};
 ghost use Rattle.table.specs.Tables.{noRows, made};
 ghost use Rattle.recorded.specs.Tests.{noReadings, blankTest};
 ghost use Rattle.text.specs.Lines.{lines};
-ghost use Rattle.reader.specs.Reading.{accepted, refusedFile, withCase, readEntries, readHead, readRecorded};
-ghost use Rattle.reader.specs.Reading.{readFile, readTest, recording, refusedBoth};
-ghost use Rattle.reader.specs.Comments.{Shows, found, commentFrom, commentAt};
-ghost use Rattle.reader.specs.private.Gathering.{gathered};
+ghost use Rattle.reader.specs.private.Reading.{accepted, refusedFile, withCase, readEntries, readHead, readRecorded};
+ghost use Rattle.reader.specs.Promises.{TableOfFile, TestOfFile, recording, refusedBoth, LineOfFile, CommentOfFile, ShownComment};
+ghost use Rattle.reader.specs.Comments.{found, commentFrom};
+ghost use Rattle.reader.specs.private.Gathering.{Gathers};
+ghost use Rattle.reader.specs.private.Stopping.{stopEntries, stopHead, stopLine};
 use kinds::EntryLine;
 use kinds::FirstLine;
 use kinds::HeadLine;
@@ -43,15 +44,16 @@ pub enum Found {
     Refused(Refusal),
 }
 
-// A test, or a refusal with the blank test.
+// A test, or a refusal with the blank test, and the number of the line that failed.
 struct Gathered {
     pub verdict: Verdict,
     pub test: Test,
+    pub line: u64,
 }
 
 // The table that a file of pairs holds, or its refusal with the blank table. An integer file is refused with 2.
 pub fn read(file: &[u8]) -> Made
-    ensures { λ r. ⌜ made r ≡ readFile (now (file .entry)) ⌝ }
+    ensures { λ r. ⌜ TableOfFile (now (file .entry)) (made r) ⌝ }
 {
     let answer = read_recorded(file, false);
     let verdict = answer.verdict;
@@ -70,7 +72,7 @@ pub fn read(file: &[u8]) -> Made
 
 // The test that a file of either kind holds, with its table at a cutoff; 21, or the file's refusal, with both blank.
 pub fn read_test(file: &[u8], cutoff: u64) -> Recording
-    ensures { λ r. ⌜ recording r ≡ readTest (now (file .entry)) cutoff ⌝ }
+    ensures { λ r. ⌜ TestOfFile (now (file .entry)) cutoff (recording r) ⌝ }
 {
     if !table::in_range(cutoff, MOST_CUTOFF) {
         return refuse_both(Refusal::CutoffRange);
@@ -90,9 +92,18 @@ pub fn read_test(file: &[u8], cutoff: u64) -> Recording
     }
 }
 
+// The number of the line that decides, from 1, for the reader with a cutoff, which takes integer files too, or for 01's; one past the last line's where the
+// end of the file decides; 0 where the file is accepted, or longer than 65,536. It takes as long as reading does.
+pub fn locate(file: &[u8], integers: bool) -> u64
+    ensures { λ r. ⌜ LineOfFile integers (now (file .entry)) r ⌝ }
+{
+    let answer = read_recorded(file, integers);
+    answer.line
+}
+
 // The `k`-th comment line of a file, from 1, without its end; the empty part where `comment_at` refuses. No comment is empty.
 pub fn comment(file: &[u8], k: u64) -> &[u8]
-    ensures { λ r. ⌜ Shows (file .entry) r (commentAt (now (file .entry)) k .value) ⌝ }
+    ensures { λ r. ⌜ ShownComment (file .entry) k r ⌝ }
 {
     let place = comment_at(file, k);
     let Found::At { start, len } = place else {
@@ -103,7 +114,7 @@ pub fn comment(file: &[u8], k: u64) -> &[u8]
 
 // Where the `k`-th comment line of a file stands, or the refusal of the reader of either kind, or 17.
 pub fn comment_at(file: &[u8], k: u64) -> Found
-    ensures { λ r. ⌜ found r ≡ commentAt (now (file .entry)) k ⌝ }
+    ensures { λ r. ⌜ CommentOfFile (now (file .entry)) k (found r) ⌝ }
 {
     let answer = read_recorded(file, true);
     let verdict = answer.verdict;
@@ -118,10 +129,10 @@ pub fn comment_at(file: &[u8], k: u64) -> Found
 
 // A file whose first line is the banner of a file of pairs or, where `integers` says so, of an integer file.
 fn read_recorded(file: &[u8], integers: bool) -> Gathered
-    ensures { λ r. ⌜ gathered r ≡ readRecorded integers (now (file .entry)) ⌝ }
+    ensures { λ r. ⌜ Gathers (readRecorded integers (now (file .entry))) (stopLine integers (now (file .entry))) r ⌝ }
 {
     if MOST_FILE < file.len() {
-        return refuse(Refusal::FileTooLong);
+        return refuse(Refusal::FileTooLong, 0);
     }
     let start = 0;
     let span = text::line_at(file, start);
@@ -129,17 +140,18 @@ fn read_recorded(file: &[u8], integers: bool) -> Gathered
     let next = span.next;
     let first = kinds::first_line(&file[start..end], integers);
     let FirstLine::Banner(kind) = first else {
-        return refuse(Refusal::NotTheBanner);
+        return refuse(Refusal::NotTheBanner, 1);
     };
-    read_head(file, next, kind)
+    read_head(file, next, kind, 2)
 }
 
-// The lines from a place on, of which the size line is still to come.
-fn read_head(file: &[u8], from: usize, kind: Kind) -> Gathered
-    requires { ⌜ from ≤ length (now file) ⌝ }
-    ensures { λ r. ⌜ gathered r ≡ readHead kind (lines (drop from (now (file .entry)))) ⌝ }
+// The lines from a place on, of which the size line is still to come; `number` is the number of the line there.
+fn read_head(file: &[u8], from: usize, kind: Kind, number: u64) -> Gathered
+    requires { ⌜ (from ≤ length (now file)) × (length (now file) ≤ 65536) × (number ≤ from + 2) ⌝ }
+    ensures { λ r. ⌜ Gathers (readHead kind (lines (drop from (now (file .entry))))) (stopHead kind number (lines (drop from (now (file .entry))))) r ⌝ }
 {
     let mut at = from;
+    let mut line = number;
     while at < file.len() {
         let span = text::line_at(file, at);
         let end = span.end;
@@ -147,20 +159,22 @@ fn read_head(file: &[u8], from: usize, kind: Kind) -> Gathered
         let head = kinds::head_line(&file[at..end]);
         match head {
             HeadLine::Skip => {
+                line += 1;
                 at = next;
             }
             HeadLine::Bad(why) => {
-                return refuse(why);
+                return refuse(why, line);
             }
             HeadLine::Size(gauges, cases, count) => {
-                return read_entries(file, next, kind, gauges, cases, count);
+                return read_entries(file, next, kind, gauges, cases, count, line + 1);
             }
         }
     }
-    refuse(Refusal::SizeFields)
+    refuse(Refusal::SizeFields, line)
 }
 
-// The entry lines from a place on, `count` in number, where `gauges` is the last gauge and `cases` the last case.
+// The entry lines from a place on, `count` in number, where `gauges` is the last gauge and `cases` the last case; `number` is the number of the
+// line there.
 fn read_entries(
     file: &[u8],
     from: usize,
@@ -168,14 +182,19 @@ fn read_entries(
     gauges: Gauge,
     cases: Case,
     count: u64,
+    number: u64,
 ) -> Gathered
-    requires { ⌜ (from ≤ length (now file)) × (gauges .0 ≤ 64) × (cases .0 ≤ 64) ⌝ }
-    ensures { λ r. ⌜ gathered r ≡ readEntries kind gauges cases count noRows noReadings (lines (drop from (now (file .entry)))) ⌝ }
+    requires { ⌜ (from ≤ length (now file)) × (gauges .0 ≤ 64) × (cases .0 ≤ 64) × (length (now file) ≤ 65536) × (number ≤ from + 2) ⌝ }
+    ensures { λ r. ⌜
+        Gathers (readEntries kind gauges cases count noRows noReadings (lines (drop from (now (file .entry)))))
+        (stopEntries kind gauges cases count noRows number (lines (drop from (now (file .entry))))) r
+        ⌝ }
 {
     let mut rows = [0u64; 64];
     let mut values = [0i32; 4096];
     let mut left = count;
     let mut at = from;
+    let mut line = number;
     while at < file.len() {
         let span = text::line_at(file, at);
         let end = span.end;
@@ -183,31 +202,33 @@ fn read_entries(
         let entry = kinds::entry_line(&file[at..end], kind, gauges, cases);
         match entry {
             EntryLine::Skip => {
+                line += 1;
                 at = next;
             }
             EntryLine::Bad(why) => {
-                return refuse(why);
+                return refuse(why, line);
             }
             EntryLine::Entry(g, c, v) => {
                 let i = (g.0 - 1) as usize;
                 let k = (c.0 - 1) as usize;
                 let row = rows[i];
                 if sets::has(row, c.0 - 1) {
-                    return refuse(Refusal::PairRepeated);
+                    return refuse(Refusal::PairRepeated, line);
                 }
                 if left == 0 {
-                    return refuse(Refusal::PairCount);
+                    return refuse(Refusal::PairCount, line);
                 }
                 rows[i] = with_case(row, c);
                 let p = i * 64 + k;
                 values[p] = v;
                 left -= 1;
+                line += 1;
                 at = next;
             }
         }
     }
     if left != 0 {
-        return refuse(Refusal::PairCount);
+        return refuse(Refusal::PairCount, line);
     }
     accept(kind, gauges, cases, rows, values)
 }
@@ -222,7 +243,7 @@ fn with_case(row: u64, c: Case) -> u64
 
 // A test that was read, with its last gauge and its last case.
 fn accept(kind: Kind, gauges: Gauge, cases: Case, rows: [u64; 64], values: [i32; 4096]) -> Gathered
-    ensures { λ r. ⌜ gathered r ≡ accepted (record { kind = kind; gauges = gauges .0; cases = cases .0; entries = rows; readings = values }) ⌝ }
+    ensures { λ r. ⌜ Gathers (accepted (record { kind = kind; gauges = gauges .0; cases = cases .0; entries = rows; readings = values })) 0 r ⌝ }
 {
     let test = Test {
         kind: kind,
@@ -234,16 +255,18 @@ fn accept(kind: Kind, gauges: Gauge, cases: Case, rows: [u64; 64], values: [i32;
     Gathered {
         verdict: Verdict::Accepted,
         test: test,
+        line: 0,
     }
 }
 
-// A refusal, with the blank test.
-fn refuse(why: Refusal) -> Gathered
-    ensures { λ r. ⌜ gathered r ≡ refusedFile why ⌝ }
+// A refusal, with the blank test and the line that failed.
+fn refuse(why: Refusal, line: u64) -> Gathered
+    ensures { λ r. ⌜ Gathers (refusedFile why) line r ⌝ }
 {
     Gathered {
         verdict: Verdict::Refused(why),
         test: blank(),
+        line: line,
     }
 }
 

@@ -10,7 +10,7 @@ use Rattle.recorded.specs.Tests.{LegalTest}
 use Rattle.recorded.specs.Equality.{EqualTests}
 use Rattle.recorded.specs.declared.Test.{Test}
 use Rattle.recorded.proofs.Equal.{same-equal, equal-same}
-use Rattle.reader.specs.Reading.{readRecorded}
+use Rattle.reader.specs.private.Reading.{readRecorded}
 use Rattle.reader.proofs.Yielded.{recorded-sound}
 use Rattle.writer.specs.TestFiles.{testFile}
 use Rattle.round_trip.proofs.RoundTrip.{test-round-trip}

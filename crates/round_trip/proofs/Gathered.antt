@@ -16,7 +16,7 @@ use Rattle.sets.specs.Sets.{bit}
 use Rattle.sets.proofs.Digits.{bit-zero, bit-suc}
 use Rattle.recorded.specs.Tests.{reading, noReadings}
 use Rattle.table.specs.Pairs.{row}
-use Rattle.reader.specs.Reading.{addReading}
+use Rattle.reader.specs.private.Reading.{addReading}
 use Rattle.writer.specs.Writing.{gaugeOf, GaugeCase, rowPairs, pairsFrom}
 use Rattle.writer.specs.TestFiles.{valueAt}
 use Rattle.writer.proofs.PairLines.{by-low}

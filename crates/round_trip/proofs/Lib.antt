@@ -3,3 +3,4 @@ pub mod ReadBack
 pub mod Gathered
 pub mod RoundTrip
 pub mod EqualFiles
+pub mod Written

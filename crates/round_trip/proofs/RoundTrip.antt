@@ -36,7 +36,7 @@ use Rattle.kinds.specs.Banner.{bannerOf, firstLine}
 use Rattle.kinds.specs.Kinds.{headLine}
 use Rattle.kinds.specs.declared.FirstLine.the-variants.{Banner}
 use Rattle.kinds.specs.declared.HeadLine.the-variants.{Size}
-use Rattle.reader.specs.Reading.{accepted, addPair, readEntries, readHead, readLines, readRecorded, pairsOf, readFile, readTest}
+use Rattle.reader.specs.private.Reading.{accepted, addPair, readEntries, readHead, readLines, readRecorded, pairsOf, readFile, readTest}
 use Rattle.writer.specs.Writing.{digits, gaugeOf, caseOf, GaugeCase, rowPairs, pairsFrom, pairs, linesOf, sizeText, writeFile, roomRefusal}
 use Rattle.writer.specs.TestFiles.{entryText, testFile}
 use Rattle.writer.proofs.Sizes.{count-bound, test-length}
@@ -320,7 +320,7 @@ round-trip t ok =
     ∙ ap pairsOf (read-back (asTest t) (pairs-legal t ok) false not-integer)
 
 -- ---- whatever a writer takes
-checks-passed : (r n m : ℕ) → cond (eqb r 0) (cond (ltb n m) 16 0) r ≡ 0 → r ≡ 0
+pub checks-passed : (r n m : ℕ) → cond (eqb r 0) (cond (ltb n m) 16 0) r ≡ 0 → r ≡ 0
 checks-passed zero n m e = refl
 checks-passed (suc r) n m e = rw (ne-eqb (suc r) 0 (λ z. omega arith)) at e
 

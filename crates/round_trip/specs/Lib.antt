@@ -1,1 +1,2 @@
--- The round trip speaks of the definitions of `reader` and `writer` alone; it has none of its own.
+-- What a user reads of the round trip; the proofs are in proofs/.
+pub mod Back

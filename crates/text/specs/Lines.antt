@@ -1,5 +1,6 @@
 -- The lines of a file (01, "The file"): "A line ends with LF, or CR LF, or the file's end." A file is the list of its bytes; LF is 10 and
--- CR is 13. A CR that no LF follows is a byte of the line like any other.
+-- CR is 13. A CR that no LF follows is a byte of the line like any other. Texts.antt says the same of the
+-- file and its lines as a whole, without going through its bytes.
 use Prim.Native.Nat.{ℕ, suc, _+_}
 use mathlib.Core.List.{List, [], _∷_}
 use mathlib.Core.Bool.{Bool, true, false, _&&_}

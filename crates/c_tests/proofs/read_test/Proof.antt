@@ -1,6 +1,6 @@
 -- `c_tests::read_test` meets its contract: the reader's answer, put part by part.
 use mathlib.Core.Logic.{inl, inr}
-use Rattle.reader.specs.Reading.{recording}
+use Rattle.reader.specs.Promises.{recording}
 use Rattle.words.proofs.Serving.{long, long-two}
 use Rattle.c_tests.proofs.Serving.{reads-short, reads-refused, reads-done, neither}
 use borrow.Author.Needs.{needs}

@@ -3,6 +3,7 @@ use mathlib.Core.Path.{_∙_}
 use native.Mathlib.Omega.{arith}
 use Rattle.text.proofs.LineAt.{inside}
 use Rattle.reader.proofs.Lookup.{find-start, lookup-refused, lookup-found}
+use Rattle.reader.proofs.Promising.{comment-of-file}
 use borrow.Author.Needs.{needs}
 use Rattle.reader.proofs.comment_at.Statement.{statement}
 use Rattle.reader.proofs.comment_at.Tie as tie
@@ -27,15 +28,20 @@ find-comment-requires c κs =
 returns : tie.Need-returns
 returns c =
     let l = c .before .before .before in
-    lookup-refused (l .before .before .before .args .file .now) _ _ (l .before .read-recorded .ensures) (c .before .verdict .given .1)
+    let s = l .before .before .before in
+    comment-of-file (s .args .file .now) (s .args .k) _
+    (lookup-refused (s .args .file .now) (s .args .k) (l .before .read-recorded .result) (l .before .read-recorded .ensures .answer)
+    (c .before .verdict .given .1))
 
 returns-2 : tie.Need-returns-2
 returns-2 c =
     let l = c .before .before .before in
-    let file = l .before .before .before .args .file .now in
-    c .find-comment .ensures
-    ∙ find-start file _ (l .line-at .ensures) _
-    ∙ lookup-found file _ _ (l .before .read-recorded .ensures) (c .before .enum-told .given .1)
+    let s = l .before .before .before in
+    comment-of-file (s .args .file .now) (s .args .k) _
+    (c .find-comment .ensures
+    ∙ find-start (s .args .file .now) _ (l .line-at .ensures) (s .args .k)
+    ∙ lookup-found (s .args .file .now) (s .args .k) (l .before .read-recorded .result) (l .before .read-recorded .ensures .answer)
+    (c .before .enum-told .given .1))
 
 pub comment-at-spec : {M : Type 1} → statement M
 comment-at-spec =

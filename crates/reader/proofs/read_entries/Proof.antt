@@ -1,6 +1,6 @@
 -- `reader::read_entries` meets its contract: what is still to be read, from the entries so far, is what the first entry line started with. In
 -- the answers `h` is the test for a repeated entry, `k` where the entry was taken apart, `l` the loop's end.
-use Prim.Native.Nat.{_≤_, _-_}
+use Prim.Native.Nat.{_≤_, _+_, _-_}
 use mathlib.Core.Path.{_≡_, _∙_}
 use borrow.Author.Needs.{needs, sfits-of}
 use mir.Facts.{toZ-ofZ}
@@ -8,22 +8,26 @@ use native.Mathlib.Omega.{arith}
 use lib.ListN.{length, drop}
 use Rattle.text.specs.Lines.{lines}
 use Rattle.recorded.specs.Tests.{noReadings}
-use Rattle.reader.specs.Reading.{readEntries}
+use Rattle.reader.specs.private.Reading.{readEntries}
+use Rattle.reader.specs.private.Stopping.{stopEntries}
 use Rattle.table.specs.Tables.{noRows}
 use Rattle.kinds.proofs.KindOf.{Bounded}
 use Rattle.text.proofs.LineAt.{Inside, inside}
 use Rattle.reader.proofs.LineLoops.{EntryTurn, entries-done, entries-fewer, turn-skip, turn-bad, turn-range}
 use Rattle.reader.proofs.LineLoops.{turn-repeated, turn-more, turn-entry}
+use Rattle.reader.proofs.LineLoops.{done-line, fewer-line, skip-line, bad-line, repeated-line, more-line, taken-line}
 use Rattle.reader.proofs.read_entries.Statement.{statement}
 use Rattle.reader.proofs.read_entries.Tie as tie
 
 abbrev Inv-loop : tie.InvT-loop
-Inv-loop file from kind gauges cases count rows₀ values₀ left₀ at₀ rows values left at =
+Inv-loop file from kind gauges cases count number rows₀ values₀ left₀ at₀ line₀ rows values left at line =
     (at ≤ length file)
     × (readEntries kind gauges cases left rows values (lines (drop at file)) ≡ readEntries kind gauges cases count noRows noReadings (lines (drop from file)))
+    × (stopEntries kind gauges cases left rows line (lines (drop at file)) ≡ stopEntries kind gauges cases count noRows number (lines (drop from file)))
+    × (line ≤ at + 2)
 
 abbrev μ-loop : tie.MeasureT-loop
-μ-loop file from kind gauges cases count rows₀ values₀ left₀ at₀ rows values left at = length file - at
+μ-loop file from kind gauges cases count number rows₀ values₀ left₀ at₀ line₀ rows values left at line = length file - at
 
 -- the line of a turn, and what the turn starts with
 bounds : (c : tie.After-line-at Inv-loop μ-loop)
@@ -47,11 +51,15 @@ turn : (c : tie.After-entry-line Inv-loop μ-loop)
     (round c .loop .rows) (round c .loop .values) (c .entry-line .result)
     (readEntries (start c .args .kind) (start c .args .gauges) (start c .args .cases) (start c .args .count) noRows noReadings
     (lines (drop (start c .args .from) (start c .args .file .now))))
+    (round c .loop .line)
+    (stopEntries (start c .args .kind) (start c .args .gauges) (start c .args .cases) (start c .args .count) noRows (start c .args .number)
+    (lines (drop (start c .args .from) (start c .args .file .now))))
 turn c = record {
   here = at-line c .before .loop-test .taken;
   span = at-line c .line-at .ensures;
   judged = c .entry-line .ensures;
   goal = round c .loop .inv .1;
+  stop = round c .loop .inv .2;
 }
 
 range : (c : tie.After-entry2 Inv-loop μ-loop)
@@ -83,13 +91,22 @@ entry-line-requires c κs = search needs
 enum-told : tie.Need-enum-told Inv-loop μ-loop
 enum-told c = search needs
 
+add-line : tie.Need-add-line Inv-loop μ-loop
+add-line c = omega arith
+
 loop-less : tie.Need-loop-less Inv-loop μ-loop
 loop-less c =
     let l = at-line (c .before .before) in
     omega (arith, bounds l .moves (l .before .loop-test .taken), bounds l)
 
 loop-again : tie.Need-loop-again Inv-loop μ-loop
-loop-again c = (bounds (c .before .before .before .before) .fits, turn-skip (turn (c .before .before)) (c .enum-told .given .1))
+loop-again c =
+    let l = at-line (c .before .before) in (
+      bounds (c .before .before .before .before) .fits,
+      turn-skip (turn (c .before .before)) (c .enum-told .given .1),
+      skip-line (turn (c .before .before)) (c .enum-told .given .1),
+      omega (arith, bounds l .moves (l .before .loop-test .taken), bounds l),
+    )
 
 enum-known-entry : tie.Need-enum-known-entry Inv-loop μ-loop
 enum-known-entry c = search needs
@@ -98,7 +115,10 @@ refuse-requires : tie.Need-refuse-requires Inv-loop μ-loop
 refuse-requires c κs = search needs
 
 returns : tie.Need-returns Inv-loop μ-loop
-returns c = c .refuse .ensures ∙ turn-bad (turn (c .before .before .before .before)) (c .before .before .entry .given .1)
+returns c =
+    let t = turn (c .before .before .before .before) in
+    let x = c .before .before .entry .given .1 in
+    record { answer = c .refuse .ensures .answer ∙ turn-bad t x; line = c .refuse .ensures .line ∙ bad-line t x }
 
 enum-known-entry-2 : tie.Need-enum-known-entry-2 Inv-loop μ-loop
 enum-known-entry-2 c = search needs
@@ -128,7 +148,11 @@ returns-2 : tie.Need-returns-2 Inv-loop μ-loop
 returns-2 c =
     let h = c .before .before in
     let k = taken h in
-    c .refuse2 .ensures ∙ turn-repeated (turn (k .before .before)) (k .entry2 .given .1) (h .has .ensures) (c .before .if1 .taken)
+    let t = turn (k .before .before) in
+    record {
+      answer = c .refuse2 .ensures .answer ∙ turn-repeated t (k .entry2 .given .1) (h .has .ensures) (c .before .if1 .taken);
+      line = c .refuse2 .ensures .line ∙ repeated-line t (k .entry2 .given .1) (h .has .ensures) (c .before .if1 .taken);
+    }
 
 refuse-requires-3 : tie.Need-refuse-requires-3 Inv-loop μ-loop
 refuse-requires-3 c κs = search needs
@@ -137,7 +161,11 @@ returns-3 : tie.Need-returns-3 Inv-loop μ-loop
 returns-3 c =
     let h = c .before .before .before in
     let k = taken h in
-    c .refuse3 .ensures ∙ turn-more (turn (k .before .before)) (k .entry2 .given .1) (h .has .ensures) (c .before .before .if1 .left) (c .before .if2 .taken)
+    let t = turn (k .before .before) in
+    record {
+      answer = c .refuse3 .ensures .answer ∙ turn-more t (k .entry2 .given .1) (h .has .ensures) (c .before .before .if1 .left) (c .before .if2 .taken);
+      line = c .refuse3 .ensures .line ∙ more-line t (k .entry2 .given .1) (h .has .ensures) (c .before .before .if1 .left) (c .before .if2 .taken);
+    }
 
 with-case-requires : tie.Need-with-case-requires Inv-loop μ-loop
 with-case-requires c κs = omega (arith, range (taken (c .before .before)))
@@ -163,6 +191,9 @@ array-set-from-values c = omega (arith, range (taken (c .before .before .before)
 sub-left : tie.Need-sub-left Inv-loop μ-loop
 sub-left c = search needs
 
+add-line-2 : tie.Need-add-line-2 Inv-loop μ-loop
+add-line-2 c = omega arith
+
 loop-less-2 : tie.Need-loop-less-2 Inv-loop μ-loop
 loop-less-2 c =
     let l = at-line (taken (c .before .before .before) .before .before) in
@@ -171,10 +202,14 @@ loop-less-2 c =
 loop-again-2 : tie.Need-loop-again-2 Inv-loop μ-loop
 loop-again-2 c =
     let h = c .before .before .before in
-    let k = taken h in (
+    let k = taken h in
+    let l = at-line (k .before .before) in (
       bounds (k .before .before .before .before) .fits,
       turn-entry (turn (k .before .before)) (k .entry2 .given .1) (h .has .ensures) (c .before .before .if1 .left) (c .before .if2 .left)
           _ (c .with-case .ensures) _ (toZ-ofZ (sfits-of (h .before .before .before .before .known-told2 .given .1 .1 .0 .1))),
+      taken-line (turn (k .before .before)) (k .entry2 .given .1) (h .has .ensures) (c .before .before .if1 .left) (c .before .if2 .left)
+          _ (c .with-case .ensures),
+      omega (arith, bounds l .moves (l .before .loop-test .taken), bounds l),
     )
 
 refuse-requires-4 : tie.Need-refuse-requires-4 Inv-loop μ-loop
@@ -183,8 +218,11 @@ refuse-requires-4 c κs = search needs
 returns-4 : tie.Need-returns-4 Inv-loop μ-loop
 returns-4 c =
     let l = c .before .before in
-    c .refuse4 .ensures
-    ∙ entries-fewer (l .before .before .before .args .file .now) _ _ _ _ _ _ _ _ (l .before .loop .inv .1) (l .loop-test .left) (c .before .if3 .taken)
+    let f = l .before .before .before .args .file .now in
+    record {
+      answer = c .refuse4 .ensures .answer ∙ entries-fewer f _ _ _ _ _ _ _ _ (l .before .loop .inv .1) (l .loop-test .left) (c .before .if3 .taken);
+      line = c .refuse4 .ensures .line ∙ fewer-line f _ _ _ _ _ _ _ _ (l .before .loop .inv .2) (l .loop-test .left) (c .before .if3 .taken);
+    }
 
 accept-requires : tie.Need-accept-requires Inv-loop μ-loop
 accept-requires c κs = search needs
@@ -192,8 +230,11 @@ accept-requires c κs = search needs
 returns-5 : tie.Need-returns-5 Inv-loop μ-loop
 returns-5 c =
     let l = c .before .before in
-    c .accept .ensures
-    ∙ entries-done (l .before .before .before .args .file .now) _ _ _ _ _ _ _ _ (l .before .loop .inv .1) (l .loop-test .left) (c .before .if3 .left)
+    let f = l .before .before .before .args .file .now in
+    record {
+      answer = c .accept .ensures .answer ∙ entries-done f _ _ _ _ _ _ _ _ (l .before .loop .inv .1) (l .loop-test .left) (c .before .if3 .left);
+      line = c .accept .ensures .line ∙ done-line f _ _ _ _ _ _ _ _ (l .before .loop .inv .2) (l .loop-test .left) (c .before .if3 .left);
+    }
 
 pub read-entries-spec : {M : Type 1} → statement M
 read-entries-spec =
@@ -208,6 +249,7 @@ read-entries-spec =
     part-entry-line-end
     entry-line-requires
     enum-told
+    add-line
     loop-less
     loop-again
     enum-known-entry
@@ -232,6 +274,7 @@ read-entries-spec =
     mul-values
     array-set-from-values
     sub-left
+    add-line-2
     loop-less-2
     loop-again-2
     refuse-requires-4

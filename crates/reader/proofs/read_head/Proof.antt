@@ -1,21 +1,27 @@
 -- `reader::read_head` meets its contract: what is still to be read is what the first line behind the banner started with.
-use Prim.Native.Nat.{_≤_, _-_}
+use Prim.Native.Nat.{_≤_, _+_, _-_}
 use mathlib.Core.Path.{_≡_, _∙_}
 use borrow.Author.Needs.{needs}
 use native.Mathlib.Omega.{arith}
 use lib.ListN.{length, drop}
 use Rattle.text.specs.Lines.{lines}
-use Rattle.reader.specs.Reading.{readHead}
+use Rattle.reader.specs.private.Reading.{readHead}
+use Rattle.reader.specs.private.Stopping.{stopHead}
 use Rattle.text.proofs.LineAt.{Inside, inside}
 use Rattle.reader.proofs.LineLoops.{HeadTurn, head-absent, head-skip, head-bad, head-range, head-size}
+use Rattle.reader.proofs.LineLoops.{absent-line, skipped-line, head-bad-line, size-line}
 use Rattle.reader.proofs.read_head.Statement.{statement}
 use Rattle.reader.proofs.read_head.Tie as tie
 
 abbrev Inv-loop : tie.InvT-loop
-Inv-loop file from kind at₀ at = (at ≤ length file) × (readHead kind (lines (drop at file)) ≡ readHead kind (lines (drop from file)))
+Inv-loop file from kind number at₀ line₀ at line =
+    (at ≤ length file)
+    × (readHead kind (lines (drop at file)) ≡ readHead kind (lines (drop from file)))
+    × (stopHead kind line (lines (drop at file)) ≡ stopHead kind number (lines (drop from file)))
+    × (line ≤ at + 2)
 
 abbrev μ-loop : tie.MeasureT-loop
-μ-loop file from kind at₀ at = length file - at
+μ-loop file from kind number at₀ line₀ at line = length file - at
 
 -- the line of a turn, and what the turn starts with
 bounds : (c : tie.After-line-at Inv-loop μ-loop)
@@ -36,11 +42,14 @@ start c = round c .before .before
 turn : (c : tie.After-head-line Inv-loop μ-loop)
     → HeadTurn (start c .args .file .now) (round c .loop .at) (at-line c .line-at .result) (start c .args .kind) (c .head-line .result)
     (readHead (start c .args .kind) (lines (drop (start c .args .from) (start c .args .file .now))))
+    (round c .loop .line)
+    (stopHead (start c .args .kind) (start c .args .number) (lines (drop (start c .args .from) (start c .args .file .now))))
 turn c = record {
   here = at-line c .before .loop-test .taken;
   span = at-line c .line-at .ensures;
   judged = c .head-line .ensures;
   goal = round c .loop .inv .1;
+  stop = round c .loop .inv .2;
 }
 
 loop-holds : tie.Need-loop-holds Inv-loop μ-loop
@@ -64,13 +73,22 @@ head-line-requires c κs = search needs
 enum-told : tie.Need-enum-told Inv-loop μ-loop
 enum-told c = search needs
 
+add-line : tie.Need-add-line Inv-loop μ-loop
+add-line c = omega arith
+
 loop-less : tie.Need-loop-less Inv-loop μ-loop
 loop-less c =
     let l = at-line (c .before .before) in
     omega (arith, bounds l .moves (l .before .loop-test .taken), bounds l)
 
 loop-again : tie.Need-loop-again Inv-loop μ-loop
-loop-again c = (bounds (c .before .before .before .before) .fits, head-skip (turn (c .before .before)) (c .enum-told .given .1))
+loop-again c =
+    let l = at-line (c .before .before) in (
+      bounds (c .before .before .before .before) .fits,
+      head-skip (turn (c .before .before)) (c .enum-told .given .1),
+      skipped-line (turn (c .before .before)) (c .enum-told .given .1),
+      omega (arith, bounds l .moves (l .before .loop-test .taken), bounds l),
+    )
 
 enum-known-head : tie.Need-enum-known-head Inv-loop μ-loop
 enum-known-head c = search needs
@@ -79,25 +97,43 @@ refuse-requires : tie.Need-refuse-requires Inv-loop μ-loop
 refuse-requires c κs = search needs
 
 returns : tie.Need-returns Inv-loop μ-loop
-returns c = c .refuse .ensures ∙ head-bad (turn (c .before .before .before .before)) (c .before .before .head .given .1)
+returns c =
+    let t = turn (c .before .before .before .before) in
+    let x = c .before .before .head .given .1 in
+    record { answer = c .refuse .ensures .answer ∙ head-bad t x; line = c .refuse .ensures .line ∙ head-bad-line t x }
 
 enum-known-head-2 : tie.Need-enum-known-head-2 Inv-loop μ-loop
 enum-known-head-2 c = search needs
+
+add-read-entries : tie.Need-add-read-entries Inv-loop μ-loop
+add-read-entries c = omega arith
 
 read-entries-requires : tie.Need-read-entries-requires Inv-loop μ-loop
 read-entries-requires c κs =
     let k = c .before .before .before in
     let r = head-range (turn k) (c .before .head2 .given .1) in
-    (bounds (at-line k) .fits, r .gauge-high, r .case-high)
+    let l = at-line k in (
+      bounds l .fits,
+      r .gauge-high,
+      r .case-high,
+      omega arith,
+      omega (arith, bounds l .moves (l .before .loop-test .taken), bounds l),
+    )
 
 returns-2 : tie.Need-returns-2 Inv-loop μ-loop
-returns-2 c = c .read-entries .ensures ∙ head-size (turn (c .before .before .before .before)) (c .before .before .head2 .given .1)
+returns-2 c =
+    let t = turn (c .before .before .before .before) in
+    let x = c .before .before .head2 .given .1 in
+    record { answer = c .read-entries .ensures .answer ∙ head-size t x; line = c .read-entries .ensures .line ∙ size-line t x }
 
 refuse-requires-2 : tie.Need-refuse-requires-2 Inv-loop μ-loop
 refuse-requires-2 c κs = search needs
 
 returns-3 : tie.Need-returns-3 Inv-loop μ-loop
-returns-3 c = c .refuse2 .ensures ∙ head-absent _ _ _ _ (c .before .before .loop .inv .1) (c .before .loop-test .left)
+returns-3 c = record {
+  answer = c .refuse2 .ensures .answer ∙ head-absent _ _ _ _ (c .before .before .loop .inv .1) (c .before .loop-test .left);
+  line = c .refuse2 .ensures .line ∙ absent-line _ _ _ _ _ (c .before .before .loop .inv .2) (c .before .loop-test .left);
+}
 
 pub read-head-spec : {M : Type 1} → statement M
 read-head-spec =
@@ -112,12 +148,14 @@ read-head-spec =
     part-head-line-end
     head-line-requires
     enum-told
+    add-line
     loop-less
     loop-again
     enum-known-head
     refuse-requires
     returns
     enum-known-head-2
+    add-read-entries
     read-entries-requires
     returns-2
     refuse-requires-2

@@ -3,7 +3,7 @@
 use mathlib.Core.Path.{_∙_}
 use native.Mathlib.Omega.{arith}
 use Rattle.text.proofs.LineAt.{Inside, inside}
-use Rattle.reader.proofs.LineLoops.{file-long, file-other, file-head}
+use Rattle.reader.proofs.LineLoops.{file-long, file-other, file-head, long-line, other-line, head-from}
 use borrow.Author.Needs.{needs}
 use Rattle.reader.proofs.read_recorded.Statement.{statement}
 use Rattle.reader.proofs.read_recorded.Tie as tie
@@ -17,7 +17,10 @@ refuse-requires c κs = search needs
 returns : tie.Need-returns
 returns c =
     let s = c .before .before .before in
-    c .refuse .ensures ∙ file-long (s .args .integers) (s .args .file .now) (omega arith)
+    record {
+      answer = c .refuse .ensures .answer ∙ file-long (s .args .integers) (s .args .file .now) (omega arith);
+      line = c .refuse .ensures .line ∙ long-line (s .args .integers) (s .args .file .now) (omega arith);
+    }
 
 line-at-requires : tie.Need-line-at-requires
 line-at-requires c κs = search needs
@@ -48,12 +51,19 @@ returns-2 c =
     let b = c .before .before .before in
     let l = b .before .before in
     let s = l .before .before .before in
-    c .refuse2 .ensures
-    ∙ file-other (s .args .integers) (s .args .file .now) (l .before .if1 .left) _ (l .line-at .ensures) _ (b .first-line .ensures)
-    (c .before .enum-told .given .1)
+    record {
+      answer =
+          c .refuse2 .ensures .answer
+          ∙ file-other (s .args .integers) (s .args .file .now) (l .before .if1 .left) _ (l .line-at .ensures) _ (b .first-line .ensures)
+          (c .before .enum-told .given .1);
+      line =
+          c .refuse2 .ensures .line
+          ∙ other-line (s .args .integers) (s .args .file .now) (l .before .if1 .left) _ (l .line-at .ensures) _ (b .first-line .ensures)
+          (c .before .enum-told .given .1);
+    }
 
 read-head-requires : tie.Need-read-head-requires
-read-head-requires c κs = bounds (c .before .before .before .before .before) .fits
+read-head-requires c κs = (bounds (c .before .before .before .before .before) .fits, omega arith, omega arith)
 
 returns-3 : tie.Need-returns-3
 returns-3 c =
@@ -61,8 +71,14 @@ returns-3 c =
     let b = k .before .before in
     let l = b .before .before in
     let s = l .before .before .before in
-    c .read-head .ensures
-    ∙ file-head (s .args .integers) (s .args .file .now) (l .before .if1 .left) _ (l .line-at .ensures) _ (b .first-line .ensures) (k .first .given .1)
+    record {
+      answer =
+          c .read-head .ensures .answer
+          ∙ file-head (s .args .integers) (s .args .file .now) (l .before .if1 .left) _ (l .line-at .ensures) _ (b .first-line .ensures) (k .first .given .1);
+      line =
+          c .read-head .ensures .line
+          ∙ head-from (s .args .integers) (s .args .file .now) (l .before .if1 .left) _ (l .line-at .ensures) _ (b .first-line .ensures) (k .first .given .1);
+    }
 
 pub read-recorded-spec : {M : Type 1} → statement M
 read-recorded-spec =

@@ -3,6 +3,7 @@
 use mathlib.Core.Path.{_∙_}
 use borrow.Author.Tests.{not-true, not-false}
 use Rattle.reader.proofs.Answered.{cutoff-refused, file-refused, file-given}
+use Rattle.reader.proofs.Promising.{test-of-file}
 use borrow.Author.Needs.{needs}
 use Rattle.reader.proofs.read_test.Statement.{statement}
 use Rattle.reader.proofs.read_test.Tie as tie
@@ -17,7 +18,8 @@ returns : tie.Need-returns
 returns c =
     let i = c .before .before in
     let s = i .before .before in
-    c .refuse-both .ensures ∙ cutoff-refused (s .args .file .now) (s .args .cutoff) _ (i .in-range .ensures) (not-true _ (c .before .if1 .taken))
+    test-of-file (s .args .file .now) (s .args .cutoff) _
+    (c .refuse-both .ensures ∙ cutoff-refused (s .args .file .now) (s .args .cutoff) _ (i .in-range .ensures) (not-true _ (c .before .if1 .taken)))
 
 read-recorded-requires : tie.Need-read-recorded-requires
 read-recorded-requires c κs = search needs
@@ -34,9 +36,11 @@ returns-2 c =
     let a = v .before .before .before in
     let i = a .before .before in
     let s = i .before .before in
-    c .refuse-both2 .ensures
-    ∙ file-refused (s .args .file .now) (s .args .cutoff) _ (i .in-range .ensures) (not-false _ (a .before .if1 .left)) _ (a .read-recorded .ensures)
-    (v .verdict .given .1)
+    test-of-file (s .args .file .now) (s .args .cutoff) _
+    (c .refuse-both2 .ensures
+    ∙ file-refused (s .args .file .now) (s .args .cutoff) _ (i .in-range .ensures) (not-false _ (a .before .if1 .left)) (a .read-recorded .result)
+    (a .read-recorded .ensures .answer)
+    (v .verdict .given .1))
 
 enum-told : tie.Need-enum-told
 enum-told c = search needs
@@ -50,8 +54,10 @@ returns-3 c =
     let a = v .before .before .before in
     let i = a .before .before in
     let s = i .before .before in
-    file-given (s .args .file .now) (s .args .cutoff) _ (i .in-range .ensures) (not-false _ (a .before .if1 .left)) _ (a .read-recorded .ensures)
-    (v .enum-told .given .1) (c .before .table-at .result) (c .before .table-at .ensures .0)
+    test-of-file (s .args .file .now) (s .args .cutoff) _
+    (file-given (s .args .file .now) (s .args .cutoff) _ (i .in-range .ensures) (not-false _ (a .before .if1 .left)) (a .read-recorded .result)
+    (a .read-recorded .ensures .answer)
+    (v .enum-told .given .1) (c .before .table-at .result) (c .before .table-at .ensures .0))
 
 pub read-test-spec : {M : Type 1} → statement M
 read-test-spec =

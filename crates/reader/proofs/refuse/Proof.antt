@@ -1,5 +1,5 @@
 -- `reader::refuse` meets its contract: the test is the blank one.
-use mathlib.Core.Path.{ap}
+use mathlib.Core.Path.{refl, ap}
 use Rattle.refusals.specs.Answers.{refused}
 use borrow.Author.Needs.{needs}
 use Rattle.reader.proofs.refuse.Statement.{statement}
@@ -9,7 +9,7 @@ blank-requires : tie.Need-blank-requires
 blank-requires c κs = search needs
 
 returns : tie.Need-returns
-returns c = ap (refused (c .before .args .why)) (c .blank .ensures)
+returns c = record { answer = ap (refused (c .before .args .why)) (c .blank .ensures); line = refl }
 
 pub refuse-spec : {M : Type 1} → statement M
 refuse-spec = tie.close (tie.spec blank-requires returns)

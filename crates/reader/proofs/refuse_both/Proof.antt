@@ -4,7 +4,7 @@ use Rattle.refusals.specs.Answers.{refused}
 use Rattle.table.specs.Tables.{blankTable}
 use Rattle.table.specs.declared.Table.{Table}
 use Rattle.recorded.specs.declared.Test.{Test}
-use Rattle.reader.specs.Reading.{TestAndTable}
+use Rattle.reader.specs.Promises.{TestAndTable}
 use borrow.Author.Needs.{needs}
 use Rattle.reader.proofs.refuse_both.Statement.{statement}
 use Rattle.reader.proofs.refuse_both.Tie as tie

@@ -1,8 +1,9 @@
--- What reading a file gives (01, "The file" and the refusals 1 to 9, in the order of its table; 02, R-5). The file is read line by line from
--- the top, and the first failing line decides. One definition, `readRecorded`, reads either kind of file to a test: entries, and in an
--- integer file their readings. Two readers stand on it. 01's, `readFile`, takes files of pairs alone and gives their table. The one with a
--- cutoff, `readTest`, takes either banner "and gives the test and its table". What one line says is in crate `kinds`; the legal test and
--- its table at a cutoff are in crate `recorded`.
+-- What reading a file gives, told as the code tells it: line by line from the top, with what is gathered, until a line fails or the file ends (01, "The file"
+-- and the refusals 1 to 9, in the order of its table; 02, R-5). One definition, `readRecorded`, reads either kind of file to a test: entries, and in an
+-- integer file their readings. 01's reader, `readFile`, the one with a cutoff, `readTest`, and comment lookup, `commentAt`, stand on it.
+--
+-- No public promise mentions it: what the readers promise, by the lines of the file alone, is in Promises.antt, and what is read here is the one answer that
+-- meets it (`table-of-file`, `test-of-file`, `comment-of-file` and their `-unique` in proofs/Promising.antt). What one line says is in crate `kinds`.
 use Prim.Native.Nat.{ℕ, _+_, _-_, _*_, _^_}
 use mathlib.Core.List.{List, [], _∷_}
 use mathlib.Core.Bool.{Bool, true, false, cond}
@@ -11,8 +12,8 @@ use lib.ListN.{length, set}
 use lib.Dec.{ltb, eqb}
 use Rattle.sets.specs.Sets.{bit, join}
 use Rattle.table.specs.Pairs.{row}
-use Rattle.table.specs.Tables.{noRows, blankTable}
-use Rattle.refusals.specs.Answers.{Answer, answer, refused, verdict}
+use Rattle.table.specs.Tables.{noRows}
+use Rattle.refusals.specs.Answers.{Answer, answer, refused}
 use Rattle.table.specs.declared.Gauge.{Gauge}
 use Rattle.table.specs.declared.Case.{Case}
 use Rattle.table.specs.declared.Table.{Table}
@@ -27,7 +28,8 @@ use Rattle.kinds.specs.Kinds.{headLine, entryLine}
 use Rattle.kinds.specs.declared.FirstLine.the-variants.{Banner, Other}
 use Rattle.kinds.specs.declared.HeadLine.the-variants.{Size, Skip as skipHead, Bad as badHead}
 use Rattle.kinds.specs.declared.EntryLine.the-variants.{Entry, Skip as skipEntry, Bad as badEntry}
-use Rattle.reader.specs.declared.Recording.{Recording}
+use Rattle.reader.specs.Promises.{TestAndTable, blankBoth}
+use Rattle.reader.specs.Comments.{Part, noPart, commentLines}
 
 -- ---- a file of either kind
 -- a test that is accepted, and a refusal with its blank test
@@ -99,23 +101,13 @@ unfoldable pub readFile : List ℕ → Answer Table
 readFile file = pairsOf (readRecorded false file)
 
 -- the reader with a cutoff: "21: cutoff out of range, before all else", then the refusals of the file
-pub record TestAndTable : Type 0 where
-  pub test : Test
-  pub table : Table
-
-abbrev pub blankBoth : TestAndTable
-blankBoth = record { test = blankTest; table = blankTable }
-
--- how the code's answer reads
-abbrev pub recording : Recording → Answer TestAndTable
-recording r = record { refusal = verdict (r .verdict); value = record { test = r .test; table = r .table } }
-
--- a refusal of the reader with a cutoff, and its answer
-abbrev pub refusedBoth : Refusal → Answer TestAndTable
-refusedBoth why = refused why blankBoth
-
 unfoldable pub readTest : List ℕ → ℕ → Answer TestAndTable
 readTest file cutoff =
     answer (cutoffFirst cutoff (readRecorded true file .refusal))
     (record { test = readRecorded true file .value; table = tableOf (readRecorded true file .value) cutoff })
     blankBoth
+
+-- ---- comment lookup, after the file
+unfoldable pub commentAt : List ℕ → ℕ → Answer Part
+commentAt file k =
+    cond (eqb (readRecorded true file .refusal) 0) (commentLines k (lines file)) (record { refusal = readRecorded true file .refusal; value = noPart })

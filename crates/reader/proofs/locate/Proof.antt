@@ -1,0 +1,14 @@
+-- `reader::locate` meets its contract: reading stops at the first failing line.
+use Rattle.reader.proofs.Promising.{line-of-file}
+use borrow.Author.Needs.{needs}
+use Rattle.reader.proofs.locate.Statement.{statement}
+use Rattle.reader.proofs.locate.Tie as tie
+
+read-recorded-requires : tie.Need-read-recorded-requires
+read-recorded-requires c κs = search needs
+
+returns : tie.Need-returns
+returns c = line-of-file _ _ _ (c .read-recorded .ensures .line)
+
+pub locate-spec : {M : Type 1} → statement M
+locate-spec = tie.close (tie.spec read-recorded-requires returns)
