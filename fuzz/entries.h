@@ -29,6 +29,7 @@ typedef struct {
     static uint64_t plain_call_##name(const Input *in, void *const *p) { return plain_##name(__VA_ARGS__); }
 
 ENTRY(read, B(0), W(1))
+ENTRY(locate, B(0), N(0), W(1))
 ENTRY(comment, B(0), N(0), W(1))
 ENTRY(write, W(0), B(1), W(2))
 ENTRY(sample, N(0), N(1), N(2), N(3), W(0))
@@ -59,6 +60,7 @@ ENTRY(equal, W(0), R(1), W(2), R(3), W(4))
 /* Every entry, with the refusals that it has beside 100. */
 #define EACH_ENTRY(X) \
     X(read, 1, 2, 3, 4, 5, 6, 7, 8, 9) \
+    X(locate, 0) \
     X(comment, 1, 2, 3, 4, 5, 6, 7, 8, 9, 17, 20) \
     X(write, 10, 11, 16) \
     X(sample, 10, 28) \

@@ -59,6 +59,12 @@ static void for_read(Input *in) {
     lend_out(in, RG_TABLE_WORDS);
 }
 
+static void for_locate(Input *in) {
+    lend_file(in, chance(2));
+    in->number[0] = chance(10) ? any() : (uint64_t)below(2);
+    lend_out(in, RG_ONE_WORDS);
+}
+
 static void for_comment(Input *in) {
     lend_file(in, chance(2));
     in->number[0] = make_number(2);

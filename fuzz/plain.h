@@ -12,6 +12,7 @@
 /* The prototypes are the header's own, so that a definition with other types does not compile. */
 #define rg_read plain_read
 #define rg_read_test plain_read_test
+#define rg_locate plain_locate
 #define rg_comment plain_comment
 #define rg_write plain_write
 #define rg_write_test plain_write_test
@@ -41,6 +42,7 @@
 #include "../include/ragymolev.h"
 #undef rg_read
 #undef rg_read_test
+#undef rg_locate
 #undef rg_comment
 #undef rg_write
 #undef rg_write_test

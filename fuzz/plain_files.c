@@ -15,6 +15,7 @@ typedef struct {
     bool sized;
     uint64_t due, found;
     uint64_t comments, wanted;
+    uint64_t line;
     Line comment;
 } Reading;
 
@@ -124,18 +125,21 @@ static uint64_t later_line(Reading *r, const uint8_t *file, Line line) {
     return r->sized ? entry_line(r, text, line.length) : size_line(r, text, line.length);
 }
 
-/* Reads a file; `wanted` of the reading is set by the caller. */
+/* Reads a file; `wanted` of the reading is set by the caller. `line` is left at the number of the line that was looked at last, one higher at the end. */
 static uint64_t read_file(Reading *r, const uint8_t *file, size_t n, bool integer_too) {
     if (n > 65536) return 1;
+    r->line = 1;
     if (n == 0) return 2;
     Line line = line_at(file, n, 0);
     r->test.kind = is_banner(file, line.length, "pattern") ? RG_PATTERN : RG_INTEGER;
     if (r->test.kind == RG_INTEGER && !(integer_too && is_banner(file, line.length, "integer"))) return 2;
     while (line.next < n) {
         line = line_at(file, n, line.next);
+        r->line++;
         uint64_t why = later_line(r, file, line);
         if (why) return why;
     }
+    r->line++;
     if (!r->sized) return 4;
     return r->found < r->due ? 9 : 0;
 }
@@ -176,6 +180,14 @@ uint64_t plain_read_test(const uint8_t *file, size_t file_n, uint64_t cutoff, ui
     }
     free(r);
     return why;
+}
+
+uint64_t plain_locate(const uint8_t *file, size_t file_n, uint64_t either, uint64_t *line, size_t line_n) {
+    if (line_n < 1) return 100;
+    Reading *r = calloc(1, sizeof *r);
+    line[0] = read_file(r, file, file_n, either != 0) ? r->line : 0;
+    free(r);
+    return 0;
 }
 
 uint64_t plain_comment(const uint8_t *file, size_t file_n, uint64_t k, uint64_t *span, size_t span_n) {

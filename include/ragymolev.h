@@ -182,6 +182,12 @@ extern "C" {
  * Refused: 100; 1; 2; of each line from the top 3, then 4, 5 or 6, 7, 8, 9; at the end of the file 4 or 9. */
 uint64_t rg_read(const uint8_t *file, size_t file_length, uint64_t *table, size_t table_length);
 
+/* Finds the line that decides: the first failing one, for which rg_read, or rg_read_test with any cutoff, refuses the file.
+ * Reads file, either: 0 as rg_read reads it, else as rg_read_test does. Writes line: ONE, the number of the line, from 1; one past the last where the end
+ * of the file decides; 0 where the file is accepted or longer than 65,536 bytes.
+ * Refused: 100. */
+uint64_t rg_locate(const uint8_t *file, size_t file_length, uint64_t either, uint64_t *line, size_t line_length);
+
 /* Finds comment line k, from 1, of a file of either kind. It is never empty.
  * Reads file, k. Writes span: SPAN, the bytes of the comment within file, without the end of the line.
  * Refused: 100; as rg_read, with 20 between 7 and 8; 17. */

@@ -29,6 +29,7 @@ static const char file[] = "%%MatrixMarket matrix coordinate pattern general\n%n
 #define FILE_LENT (const uint8_t *)file, sizeof file - 1
 
 static uint64_t at_read(const size_t *n) { return rg_read(FILE_LENT, made, n[0]); }
+static uint64_t at_locate(const size_t *n) { return rg_locate(FILE_LENT, 0, one, n[0]); }
 static uint64_t at_comment(const size_t *n) { return rg_comment(FILE_LENT, 1, span, n[0]); }
 static uint64_t at_write(const size_t *n) { return rg_write(table, n[0], bytes, BYTES, one, n[1]); }
 static uint64_t at_sample(const size_t *n) { return rg_sample(3, 3, 1, 128, made, n[0]); }
@@ -65,6 +66,7 @@ typedef struct {
 
 static const Entry entries[] = {
     {"rg_read", at_read, {RG_TABLE_WORDS}},
+    {"rg_locate", at_locate, {RG_ONE_WORDS}},
     {"rg_comment", at_comment, {RG_SPAN_WORDS}},
     {"rg_write", at_write, {RG_TABLE_WORDS, RG_ONE_WORDS}},
     {"rg_sample", at_sample, {RG_TABLE_WORDS}},

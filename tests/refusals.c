@@ -1,4 +1,5 @@
-/* Every refusal of include/ragymolev.h, brought about once: the constant is the number that the library returns, and nothing lent has changed. */
+/* Every refusal of include/ragymolev.h, brought about once: the constant is the number that the library returns, and nothing lent has changed. Those of a file
+ * once more with the line that decides. */
 #include "check.h"
 
 #define BANNER "%%MatrixMarket matrix coordinate pattern general\n"
@@ -13,6 +14,35 @@ static uint64_t quiet(uint64_t why) { return memcmp(out, before, sizeof out) ? 9
 static uint64_t of_file(const char *text) { return quiet(rg_read((const uint8_t *)text, strlen(text), out, RG_TABLE_WORDS)); }
 
 static uint64_t of_comment(const char *text) { return quiet(rg_comment((const uint8_t *)text, strlen(text), 1, out, RG_SPAN_WORDS)); }
+
+/* The line that decides, for the reader of files of pairs, or of either kind. */
+static uint64_t line_of(const char *text, uint64_t either) {
+    uint64_t line[RG_ONE_WORDS];
+    return rg_locate((const uint8_t *)text, strlen(text), either, line, RG_ONE_WORDS) ? 999 : line[0];
+}
+
+/* Each refusal of a file at its line, from 1; the end of the file is one line past the last. */
+static void lines(void) {
+    static char text[2000];
+    uint64_t line[RG_ONE_WORDS] = {7};
+    memset(bytes, '\n', sizeof bytes);
+    CHECK(rg_locate(bytes, sizeof bytes, 0, line, RG_ONE_WORDS) == RG_ACCEPTED && line[0] == 0);
+    CHECK(rg_locate(bytes, sizeof bytes, 1, line, 0) == RG_SHORT && line[0] == 0);
+    CHECK(line_of("", 0) == 1 && line_of("%%MatrixMarket", 1) == 1);
+    CHECK(line_of(INTEGER "1 1 0\n", 0) == 1 && line_of(INTEGER "1 1 0\n", 1) == 0 && line_of(INTEGER "1 1 0\n", UINT64_MAX) == 0);
+    strcpy(text, BANNER "%\n%");
+    memset(text + strlen(text), 'x', 1024);
+    CHECK(line_of(text, 0) == 3);
+    CHECK(line_of(BANNER, 0) == 2 && line_of(BANNER "%\r\n \t\n\n", 1) == 5);
+    CHECK(line_of(BANNER "1 1\n1 1 0\n", 0) == 2);
+    CHECK(line_of(BANNER "%\n65 1 0\n", 0) == 3);
+    CHECK(line_of(BANNER "1 1 1\n\n1\n", 0) == 4);
+    CHECK(line_of(BANNER "1 1 1\n0 1", 0) == 3);
+    CHECK(line_of(BANNER "1 1 2\n1 1\n1 1\n", 0) == 4);
+    CHECK(line_of(BANNER "1 2 1\n1 1\n1 2\n", 0) == 4 && line_of(BANNER "1 1 1\n", 0) == 3);
+    CHECK(line_of(INTEGER "1 1 1\n1 1 1000001\n", 1) == 3);
+    CHECK(line_of(BANNER "1 1 1\n1 1\n", 0) == 0);
+}
 
 static void files(void) {
     static char text[2000];
@@ -112,6 +142,7 @@ int main(void) {
     memset(out, 0xa5, sizeof out);
     memcpy(before, out, sizeof out);
     files();
+    lines();
     recorded();
     tables();
     runs();

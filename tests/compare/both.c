@@ -125,6 +125,13 @@ uint64_t ask_read(const uint8_t *file, size_t n) {
     return both(E_read);
 }
 
+uint64_t ask_locate(const uint8_t *file, size_t n, uint64_t either) {
+    begin(either, 0, 0, 0);
+    bytes(file, n);
+    out(RG_ONE_WORDS);
+    return both(E_locate);
+}
+
 uint64_t ask_comment(const uint8_t *file, size_t n, uint64_t k) {
     begin(k, 0, 0, 0);
     bytes(file, n);

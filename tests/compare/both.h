@@ -30,6 +30,7 @@ void samples(void);
 enum { JUDGE_CHAIN, JUDGE_LADDER };
 enum { RIVALS, DECIDES };
 uint64_t ask_read(const uint8_t *file, size_t n);
+uint64_t ask_locate(const uint8_t *file, size_t n, uint64_t either);
 uint64_t ask_comment(const uint8_t *file, size_t n, uint64_t k);
 uint64_t ask_write(const uint64_t *table, size_t room);
 uint64_t ask_sample(uint64_t gauges, uint64_t cases, uint64_t start, uint64_t density);

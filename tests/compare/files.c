@@ -1,7 +1,7 @@
-/* Files by their text. The cases of crates/test_files/stdin are put to both readers and to the comment lookup, of the library and of the plain entries. Those
- * of tests/compare/files.txt, which read with a cutoff or write a table, stand with what 01 and 02 ask for, in the line below each, and are held to that too.
- * The heads of the two files say how a case is written. Last, every two faults that a file can have, each in both orders.
- * In order: files and tables from their text, what reading and writing came to, the cases, the faults. */
+/* Files by their text. The cases of crates/test_files/stdin are put to both readers, to the search for the line that decides and to the comment lookup, of
+ * the library and of the plain entries. Those of tests/compare/files.txt, which read with a cutoff or write a table, stand with what 01 and 02 ask for, in
+ * the line below each, and are held to that too. The heads of the two files say how a case is written. Last, every two faults that a file can have, each in
+ * both orders. In order: files and tables from their text, what reading and writing came to, the cases, the faults. */
 #include "both.h"
 #include <inttypes.h>
 #include <stdio.h>
@@ -159,6 +159,9 @@ static void wrote(char verb, const uint64_t *table, size_t room, const char *lab
 static void every_reader(size_t n, uint64_t number) {
     static const uint64_t cutoffs[] = {1, 7, 1000000, 0, 1000001};
     ask_read(file, n);
+    ask_locate(file, n, 0);
+    ask_locate(file, n, 1);
+    ask_locate(file, n, number);
     for (uint64_t k = 0; k <= 3; k++) ask_comment(file, n, k);
     ask_comment(file, n, number);
     ask_comment(file, n, UINT64_MAX);
@@ -233,6 +236,8 @@ static void two_faults(void) {
                     snprintf(text, sizeof text, "%s%s%s\\n%s\\n%s\\n", banners[kind], note, sizes[s], faults[a], faults[b]);
                     size_t n = build(text);
                     ask_read(file, n);
+                    ask_locate(file, n, 0);
+                    ask_locate(file, n - 1, 1);
                     ask_comment(file, n, (uint64_t)(b % 2 + 1));
                     ask_read_test(file, n, (uint64_t)(b % 5 ? b : 0));
                     ask_read_test(file, n - 1, 7);
