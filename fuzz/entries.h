@@ -39,6 +39,8 @@ ENTRY(start_gauges, W(0), W(1), N(0), W(2))
 ENTRY(start_cases, W(0), W(1), N(0), W(2))
 ENTRY(run_gauges, W(0), N(0), W(1))
 ENTRY(run_cases, W(0), N(0), W(1))
+ENTRY(list_gauges, W(0), N(0), W(1))
+ENTRY(list_cases, W(0), N(0), W(1))
 ENTRY(explain_gauge, W(0), N(0), N(1), W(1))
 ENTRY(explain_case, W(0), N(0), N(1), W(1))
 ENTRY(candidates_gauges, W(0), W(1))
@@ -70,6 +72,8 @@ ENTRY(equal, W(0), R(1), W(2), R(3), W(4))
     X(start_cases, 10, 11, 27) \
     X(run_gauges, 10, 11, 15, 18, 27) \
     X(run_cases, 10, 11, 15, 18, 27) \
+    X(list_gauges, 10, 11, 15, 18, 27) \
+    X(list_cases, 10, 11, 15, 18, 27) \
     X(explain_gauge, 10, 11, 15, 19, 22, 27) \
     X(explain_case, 10, 11, 15, 19, 22, 27) \
     X(candidates_gauges, 10, 11, 15, 27) \

@@ -145,6 +145,19 @@ static void for_run_gauges(Input *in) { for_run(in, RG_SIDE_GAUGES); }
 
 static void for_run_cases(Input *in) { for_run(in, RG_SIDE_CASES); }
 
+/* Room for none to nine ladders, and some words that are too few for one more. */
+static void for_list(Input *in, int which) {
+    make_run(run, chance(20) ? 3 - which : which, chance(4));
+    size_t gauges = (size_t)run[RG_RUN_TABLE + RG_TABLE_GAUGES];
+    lend_run(in);
+    in->number[0] = make_budget(chance(2) ? 12 : 90);
+    lend(in, 8, RG_BATCH_WORDS, RG_BATCH_WORDS + (size_t)below(10) * gauges + (size_t)below((int)gauges), NULL, 0);
+}
+
+static void for_list_gauges(Input *in) { for_list(in, RG_SIDE_GAUGES); }
+
+static void for_list_cases(Input *in) { for_list(in, RG_SIDE_CASES); }
+
 /* Mostly one of these pairs, else any numbers, at times far outside the table. */
 static void name_pair(Input *in, const Set *pairs) {
     int n = size_of(pairs), wanted = n ? below(n) : 0;

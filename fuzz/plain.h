@@ -23,6 +23,8 @@
 #define rg_start_cases plain_start_cases
 #define rg_run_gauges plain_run_gauges
 #define rg_run_cases plain_run_cases
+#define rg_list_gauges plain_list_gauges
+#define rg_list_cases plain_list_cases
 #define rg_explain_gauge plain_explain_gauge
 #define rg_explain_case plain_explain_case
 #define rg_candidates_gauges plain_candidates_gauges
@@ -53,6 +55,8 @@
 #undef rg_start_cases
 #undef rg_run_gauges
 #undef rg_run_cases
+#undef rg_list_gauges
+#undef rg_list_cases
 #undef rg_explain_gauge
 #undef rg_explain_case
 #undef rg_candidates_gauges

@@ -207,6 +207,39 @@ uint64_t plain_run_cases(uint64_t *run, size_t run_n, uint64_t budget, uint64_t 
     return call(RG_SIDE_CASES, run, run_n, budget, step, step_n);
 }
 
+/* As many hand-outs as the words from 3 on have room for, the budget being for all of them. */
+static uint64_t batch(int which, uint64_t *run, size_t run_n, uint64_t budget, uint64_t *out, size_t out_n) {
+    Side side;
+    State state;
+    uint64_t outcome = RG_HANDED_OUT, ladders = 0, made = 0, moves;
+    if (run_n < 199 || out_n < 3) return 100;
+    uint64_t why = run_refusal(run, which, &side, &state), gauges = run[RG_RUN_TABLE + RG_TABLE_GAUGES];
+    if (why) return why;
+    if (budget > 1000000) return 18;
+    Set table = table_set(run + RG_RUN_TABLE);
+    while (3 + (ladders + 1) * gauges <= out_n) {
+        outcome = carry(which, &side, &state, budget - made, run[RG_RUN_OMIT], &table, &moves);
+        made += moves;
+        if (outcome != RG_HANDED_OUT) break;
+        Set mine = handed_out(&side, &state);
+        Set ladder = by_gauges(which, &mine);
+        memcpy(out + 3 + ladders++ * gauges, ladder.rows, gauges * sizeof *out);
+    }
+    out[RG_BATCH_OUTCOME] = outcome;
+    out[RG_BATCH_LADDERS] = ladders;
+    out[RG_BATCH_MOVES] = made;
+    put_run(run, which, run + RG_RUN_TABLE, run + RG_RUN_ORDER, &state, run[RG_RUN_OMIT]);
+    return 0;
+}
+
+uint64_t plain_list_gauges(uint64_t *run, size_t run_n, uint64_t budget, uint64_t *out, size_t out_n) {
+    return batch(RG_SIDE_GAUGES, run, run_n, budget, out, out_n);
+}
+
+uint64_t plain_list_cases(uint64_t *run, size_t run_n, uint64_t budget, uint64_t *out, size_t out_n) {
+    return batch(RG_SIDE_CASES, run, run_n, budget, out, out_n);
+}
+
 static bool names_pair(const uint64_t *table, uint64_t g, uint64_t c) {
     Set t = table_set(table);
     return g >= 1 && g <= table[RG_TABLE_GAUGES] && c >= 1 && c <= table[RG_TABLE_CASES] && has(&t, (int)g, (int)c);

@@ -93,6 +93,13 @@
 #define RG_SPENT 2
 #define RG_END 3
 
+/* BATCH: what a batch of run calls came to: these words, and behind them its ladders, G words each, by gauge rows, one behind the other. A BATCH of
+ * RG_BATCH_WORDS + k * G words has room for k ladders; words that are too few for one ladder more have no use. */
+#define RG_BATCH_OUTCOME 0    /* RG_HANDED_OUT: as many ladders as have room; RG_SPENT or RG_END */
+#define RG_BATCH_LADDERS 1    /* how many ladders */
+#define RG_BATCH_MOVES 2      /* the moves made */
+#define RG_BATCH_WORDS 3      /* where the first ladder stands; the fewest words of a BATCH */
+
 /* COUNT: how many ladders. */
 #define RG_COUNT_OUTCOME 0    /* 1 counted, or RG_SPENT */
 #define RG_COUNT_LADDERS 1    /* 0 where spent */
@@ -239,6 +246,16 @@ uint64_t rg_run_gauges(uint64_t *run, size_t run_length, uint64_t budget, uint64
 
 /* The same of a case run. A RUN of the other side is refused by either entry: with 27 where its order is none of this side, else with 15. */
 uint64_t rg_run_cases(uint64_t *run, size_t run_length, uint64_t budget, uint64_t *step, size_t step_length);
+
+/* Makes up to budget moves of a gauge run, and stops after as many hand-outs as the batch has room for, or the end. It is one call in place of so many of
+ * rg_run_gauges, the first with the budget and each next with what is left of it: the ladders, the moves and the next RUN are the same, and calls of both
+ * may follow one another on one RUN in any turn. Pick sequences are given by rg_run_gauges alone.
+ * Reads run: RUN; budget 0..1,000,000. Writes run: the next RUN in place of this one; batch: BATCH. Words behind its ladders stay as they were.
+ * Refused: 100; 10 and 11 of its table; 27 of its order; 15; 18. */
+uint64_t rg_list_gauges(uint64_t *run, size_t run_length, uint64_t budget, uint64_t *batch, size_t batch_length);
+
+/* The same of a case run; its ladders stand by gauge rows too. */
+uint64_t rg_list_cases(uint64_t *run, size_t run_length, uint64_t budget, uint64_t *batch, size_t batch_length);
 
 /* Why a pair of the table is left out of the ladder at which a gauge run is paused (phase RG_HANDED): by the first picked gauge that does not respond
  * under the pair's case.

@@ -22,7 +22,7 @@ static uint64_t table[RG_TABLE_WORDS + 1], order[RG_ORDER_WORDS + 1], chain[RG_C
 static uint64_t run[RG_RUN_WORDS + 1], by_cases[RG_RUN_WORDS + 1], step[RG_STEP_WORDS + 1], count[RG_COUNT_WORDS + 1], one[RG_ONE_WORDS + 1];
 static uint64_t pairs[RG_PAIRS_WORDS + 1], cover[RG_COVER_WORDS + 1], proposal[RG_PROPOSAL_WORDS + 1], span[RG_SPAN_WORDS + 1];
 static uint64_t test[RG_TEST_WORDS + 1], made[RG_TABLE_WORDS + 1], grown[RG_CHAIN_WORDS + 1], numbers[RG_NUMBERS_WORDS + 1];
-static uint64_t part[RG_RUN_WORDS + 1];
+static uint64_t part[RG_RUN_WORDS + 1], batch[RG_BATCH_WORDS + 1], listed[RG_RUN_WORDS + 1];
 static int32_t readings[RG_READINGS + 1];
 static uint8_t bytes[BYTES];
 static const char file[] = "%%MatrixMarket matrix coordinate pattern general\n%note\n3 3 6\n1 1\n1 2\n2 1\n2 2\n3 2\n3 3\n";
@@ -43,6 +43,8 @@ static uint64_t at_part_gauges(const size_t *n) { return rg_part_gauges(run, n[0
 static uint64_t at_part_cases(const size_t *n) { return rg_part_cases(by_cases, n[0], 2, part, n[1]); }
 static uint64_t at_run_gauges(const size_t *n) { return rg_run_gauges(run, n[0], 9, step, n[1]); }
 static uint64_t at_run_cases(const size_t *n) { return rg_run_cases(by_cases, n[0], 9, step, n[1]); }
+static uint64_t at_list_gauges(const size_t *n) { return rg_list_gauges(listed, n[0], 9, batch, n[1]); }
+static uint64_t at_list_cases(const size_t *n) { return rg_list_cases(by_cases, n[0], 9, batch, n[1]); }
 static uint64_t at_explain_gauge(const size_t *n) { return rg_explain_gauge(run, n[0], 3, 3, one, n[1]); }
 static uint64_t at_explain_case(const size_t *n) { return rg_explain_case(by_cases, n[0], 1, 1, one, n[1]); }
 static uint64_t at_count(const size_t *n) { return rg_count(table, n[0], order, n[1], 99, count, n[2]); }
@@ -80,6 +82,8 @@ static const Entry entries[] = {
     {"rg_part_cases", at_part_cases, {RG_RUN_WORDS, RG_RUN_WORDS}},
     {"rg_run_gauges", at_run_gauges, {RG_RUN_WORDS, RG_STEP_WORDS}},
     {"rg_run_cases", at_run_cases, {RG_RUN_WORDS, RG_STEP_WORDS}},
+    {"rg_list_gauges", at_list_gauges, {RG_RUN_WORDS, RG_BATCH_WORDS}},
+    {"rg_list_cases", at_list_cases, {RG_RUN_WORDS, RG_BATCH_WORDS}},
     {"rg_count", at_count, {RG_TABLE_WORDS, RG_ORDER_WORDS, RG_COUNT_WORDS}},
     {"rg_grow", at_grow, {RG_TABLE_WORDS, RG_ORDER_WORDS, RG_CHAIN_WORDS, RG_CHAIN_WORDS}},
     {"rg_rivals", at_rivals, {RG_TABLE_WORDS, RG_PAIRS_WORDS}},
@@ -102,7 +106,7 @@ static void set_marks(void) {
     run[RG_RUN_WORDS] = by_cases[RG_RUN_WORDS] = step[RG_STEP_WORDS] = count[RG_COUNT_WORDS] = one[RG_ONE_WORDS] = pairs[RG_PAIRS_WORDS] = MARK;
     cover[RG_COVER_WORDS] = proposal[RG_PROPOSAL_WORDS] = span[RG_SPAN_WORDS] = test[RG_TEST_WORDS] = made[RG_TABLE_WORDS] = MARK;
     readings[RG_READINGS] = (int32_t)MARK;
-    numbers[RG_NUMBERS_WORDS] = part[RG_RUN_WORDS] = MARK;
+    numbers[RG_NUMBERS_WORDS] = part[RG_RUN_WORDS] = batch[RG_BATCH_WORDS] = listed[RG_RUN_WORDS] = MARK;
 }
 
 static int marks_stand(void) {
@@ -110,7 +114,8 @@ static int marks_stand(void) {
            grown[RG_CHAIN_WORDS] == MARK && run[RG_RUN_WORDS] == MARK && by_cases[RG_RUN_WORDS] == MARK && step[RG_STEP_WORDS] == MARK &&
            count[RG_COUNT_WORDS] == MARK && one[RG_ONE_WORDS] == MARK && pairs[RG_PAIRS_WORDS] == MARK && cover[RG_COVER_WORDS] == MARK &&
            proposal[RG_PROPOSAL_WORDS] == MARK && span[RG_SPAN_WORDS] == MARK && test[RG_TEST_WORDS] == MARK && made[RG_TABLE_WORDS] == MARK &&
-           readings[RG_READINGS] == (int32_t)MARK && numbers[RG_NUMBERS_WORDS] == MARK && part[RG_RUN_WORDS] == MARK;
+           readings[RG_READINGS] == (int32_t)MARK && numbers[RG_NUMBERS_WORDS] == MARK && part[RG_RUN_WORDS] == MARK &&
+           batch[RG_BATCH_WORDS] == MARK && listed[RG_RUN_WORDS] == MARK;
 }
 
 static void sizes_of(const Entry *entry) {
@@ -137,6 +142,7 @@ static void sizes(void) {
     memcpy(ladder, first_of_k3, sizeof first_of_k3);
     chain[RG_CHAIN_COUNT] = 3;
     set_marks();
+    CHECK(rg_start_gauges(k3, RG_TABLE_WORDS, plain_of_3, RG_ORDER_WORDS, 0, listed, RG_RUN_WORDS) == 0);
     for (i = 0; i < sizeof entries / sizeof entries[0]; i++) sizes_of(&entries[i]);
     /* A question is put to a run that is paused at a ladder: the first of the gauge run lacks 3:3, the first of the case run 1:1 or 3:3. */
     CHECK(rg_start_gauges(k3, RG_TABLE_WORDS, plain_of_3, RG_ORDER_WORDS, 0, run, RG_RUN_WORDS) == 0 && at_run_gauges(n) == 0);
@@ -218,6 +224,21 @@ static void offsets_of_case_run(void) {
     CHECK(r[RG_RUN_SIDE] == RG_SIDE_CASES && r[RG_RUN_OMIT] == 0);
     CHECK(rg_run_cases(r, RG_RUN_WORDS, 9, s, RG_STEP_WORDS) == RG_ACCEPTED && s[RG_STEP_OUTCOME] == RG_HANDED_OUT);
     CHECK(rows_are(s + RG_STEP_CHAIN + RG_CHAIN_ROWS, 1, 3, 0) && s[RG_STEP_CHAIN + RG_CHAIN_COUNT] == 2 && rows_are(s + RG_STEP_PICKS, 1, 2, 0));
+}
+
+/* Both ladders of K3 in one batch, with a word too many; then the end, and room for none. */
+static void offsets_of_batch(void) {
+    uint64_t r[RG_RUN_WORDS], b[RG_BATCH_WORDS + 7];
+    CHECK(rg_start_gauges(k3, RG_TABLE_WORDS, plain_of_3, RG_ORDER_WORDS, 0, r, RG_RUN_WORDS) == RG_ACCEPTED);
+    b[RG_BATCH_WORDS + 6] = MARK;
+    CHECK(rg_list_gauges(r, RG_RUN_WORDS, RG_BUDGET, b, RG_BATCH_WORDS + 7) == RG_ACCEPTED && b[RG_BATCH_OUTCOME] == RG_HANDED_OUT);
+    CHECK(b[RG_BATCH_LADDERS] == 2 && b[RG_BATCH_MOVES] == 11 && run_is(r, RG_HANDED, 0, 3, 3, 1, 2) && b[RG_BATCH_WORDS + 6] == MARK);
+    CHECK(memcmp(b + RG_BATCH_WORDS, first_of_k3 + RG_CHAIN_ROWS, 3 * sizeof *b) == 0);
+    CHECK(memcmp(b + RG_BATCH_WORDS + 3, second_of_k3 + RG_CHAIN_ROWS, 3 * sizeof *b) == 0);
+    CHECK(rg_list_gauges(r, RG_RUN_WORDS, 0, b, RG_BATCH_WORDS + 2) == RG_ACCEPTED);
+    CHECK(b[RG_BATCH_OUTCOME] == RG_HANDED_OUT && b[RG_BATCH_LADDERS] == 0 && b[RG_BATCH_MOVES] == 0 && run_is(r, RG_HANDED, 0, 3, 3, 1, 2));
+    CHECK(rg_list_gauges(r, RG_RUN_WORDS, 1, b, RG_BATCH_WORDS + 3) == RG_ACCEPTED && b[RG_BATCH_OUTCOME] == RG_SPENT && b[RG_BATCH_MOVES] == 1);
+    CHECK(rg_list_gauges(r, RG_RUN_WORDS, RG_BUDGET, b, RG_BATCH_WORDS + 3) == RG_ACCEPTED && b[RG_BATCH_OUTCOME] == RG_END);
 }
 
 /* Gauges 1 and 3 are the candidates of a fresh run on K3, of a case run case 2 alone. */
@@ -303,6 +324,7 @@ int main(void) {
     bytes_of_order();
     offsets_of_run();
     offsets_of_case_run();
+    offsets_of_batch();
     offsets_of_parts();
     offsets_of_answers();
     offsets_of_test();

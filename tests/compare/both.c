@@ -176,6 +176,14 @@ uint64_t ask_run(int which, const uint64_t *run, uint64_t budget) {
     return of_side(E_run_gauges, which);
 }
 
+/* The words behind a batch's ladders are among those lent. */
+uint64_t ask_list(int which, const uint64_t *run, uint64_t budget, size_t room) {
+    begin(budget, 0, 0, 0);
+    words(run, RG_RUN_WORDS);
+    lend(NULL, 8, RG_BATCH_WORDS, room);
+    return of_side(E_list_gauges, which);
+}
+
 uint64_t ask_explain(int which, const uint64_t *run, uint64_t g, uint64_t c) {
     begin(g, c, 0, 0);
     words(run, RG_RUN_WORDS);

@@ -11,6 +11,7 @@
 
 /* --- themes: each asks, and counts by asking. */
 void small_runs(void);
+void small_batches(void);
 void damaged_runs(void);
 void small_chains(void);
 void small_orders(void);
@@ -37,6 +38,7 @@ uint64_t ask_sample(uint64_t gauges, uint64_t cases, uint64_t start, uint64_t de
 uint64_t ask_judge(int judge, const uint64_t *table, const uint64_t *chain);
 uint64_t ask_start(int which, const uint64_t *table, const uint64_t *order, uint64_t omit);
 uint64_t ask_run(int which, const uint64_t *run, uint64_t budget);
+uint64_t ask_list(int which, const uint64_t *run, uint64_t budget, size_t room);
 uint64_t ask_explain(int which, const uint64_t *run, uint64_t g, uint64_t c);
 uint64_t ask_candidates(int which, const uint64_t *run);
 uint64_t ask_part(int which, const uint64_t *run, uint64_t number);

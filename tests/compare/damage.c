@@ -14,6 +14,8 @@ static const uint64_t wide[] = {256, (uint64_t)1 << 32, (uint64_t)1 << 63};
 static void calls(int which, const uint64_t *run) {
     ask_run(which, run, 3);
     ask_run(which, run, RG_BUDGET + 1);
+    ask_list(which, run, 3, 9);
+    ask_list(which, run, RG_BUDGET + 1, 9);
 }
 
 /* The other entries that take a run. */

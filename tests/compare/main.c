@@ -14,6 +14,7 @@ typedef struct {
 
 static const Theme themes[] = {
     {"small_runs", small_runs},
+    {"small_batches", small_batches},
     {"damaged_runs", damaged_runs},
     {"small_chains", small_chains},
     {"small_orders", small_orders},

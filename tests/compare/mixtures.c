@@ -131,7 +131,10 @@ static void odd_run(uint64_t *run, const uint64_t *table, const uint64_t *order,
 }
 
 static void one_run(int which, const uint64_t *run) {
-    for (int b = 0; b < BUDGETS; b++) ask_run(which, run, budgets[b]);
+    for (int b = 0; b < BUDGETS; b++) {
+        ask_run(which, run, budgets[b]);
+        ask_list(which, run, budgets[b], RG_BATCH_WORDS + 7);
+    }
     for (int p = 0; p < PLACES; p++) ask_explain(which, run, places[p][0], places[p][1]);
     ask_candidates(which, run);
     for (uint64_t number = 0; number <= 4; number++) ask_part(which, run, number);

@@ -115,7 +115,7 @@ static bool next_ladder(Going *going, int pattern, int *call) {
 }
 
 /* The list by definition: the ladders among all sets of pairs, by their pick sequences. */
-static void sorted(int which, const uint64_t *table, const uint64_t *order, List *list) {
+void listed(int which, const uint64_t *table, const uint64_t *order, List *list) {
     Side side;
     side_of(&side, which, table, order);
     list_ladders(&side.set, list);
@@ -127,7 +127,7 @@ void whole_list(int which, const uint64_t *table, const uint64_t *order, uint64_
     Going going = {.which = which};
     Set pairs = table_set(table);
     int call = 0;
-    sorted(which, table, order, &list);
+    listed(which, table, order, &list);
     ask_start(which, table, order, omit);
     memcpy(going.run, given(2), sizeof going.run);
     for (int i = 0; i < list.n; i++) {
@@ -146,9 +146,9 @@ static void lengths(const uint64_t *table) {
     static List by_gauges, by_cases;
     Numbers order;
     in_order(order, table[RG_TABLE_GAUGES]);
-    sorted(RG_SIDE_GAUGES, table, order, &by_gauges);
+    listed(RG_SIDE_GAUGES, table, order, &by_gauges);
     in_order(order, table[RG_TABLE_CASES]);
-    sorted(RG_SIDE_CASES, table, order, &by_cases);
+    listed(RG_SIDE_CASES, table, order, &by_cases);
     int least = (int)(table[RG_TABLE_GAUGES] < table[RG_TABLE_CASES] ? table[RG_TABLE_GAUGES] : table[RG_TABLE_CASES]);
     must(by_gauges.n == by_cases.n && by_gauges.n <= factorial[least], "as many ladders on both sides, and no more than there can be");
 }

@@ -171,7 +171,7 @@ fn renumber_pick(numbers: &[u8; 64], n: usize, pick: u8) -> u8
 }
 
 // The row of a number; the first for 0, none past the last.
-fn row_numbered(rows: &[u64; 64], number: u8) -> u64
+pub fn row_numbered(rows: &[u64; 64], number: u8) -> u64
     ensures { λ r. ⌜ r ≡ rowNumbered (now (rows .entry)) number ⌝ }
 {
     let g = number as usize;

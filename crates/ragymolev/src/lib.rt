@@ -2,6 +2,7 @@
 // elements, and no two slices that are lent to one call overlap. Each entry takes every input and returns 0, or 100 where a slice is shorter than its
 // layout, or the number of the refusal; a refusal leaves all lent memory as it was. What an entry does is in the crate that it calls, under the same
 // contract; only entries of this crate get into the archive.
+use c_batches;
 use c_chains;
 use c_counts;
 use c_covers;
@@ -21,6 +22,7 @@ ghost use Rattle.table.specs.Tables.{tableRows, chainRows};
 ghost use Rattle.samples.specs.Samples.{SampleClaims};
 ghost use Rattle.orders.specs.Adding.{OrderClaims};
 ghost use Rattle.c_runs.specs.Serving.{Starts, Runs};
+ghost use Rattle.c_batches.specs.Serving.{Lists};
 ghost use Rattle.c_files.specs.Serving.{Reads, Locates, ShowsComment, WritesTable};
 ghost use Rattle.c_chains.specs.Serving.{Judges, Grows, Conflicts, Decides, ClaimsConflicts};
 ghost use Rattle.c_counts.specs.Serving.{CountsWords, Samples};
@@ -61,6 +63,22 @@ pub extern "C" fn rg_run_cases(run: &mut [u64], budget: u64, step: &mut [u64]) -
     ensures { λ r. ⌜ Runs caseSide 2 (now (run .entry)) budget (now (step .entry)) (now (run .exit)) (now (step .exit)) r ⌝ }
 {
     c_runs::run_cases(run, budget, step)
+}
+
+// A batch of the gauge run in `run` with a budget of moves: the next paused value into `run`, how it stopped and its ladders into `batch`.
+#[no_mangle]
+pub extern "C" fn rg_list_gauges(run: &mut [u64], budget: u64, batch: &mut [u64]) -> u64
+    ensures { λ r. ⌜ Lists gaugeSide 1 (now (run .entry)) budget (now (batch .entry)) (now (run .exit)) (now (batch .exit)) r ⌝ }
+{
+    c_batches::list_gauges(run, budget, batch)
+}
+
+// A batch of the case run in `run` with a budget of moves: the next paused value into `run`, how it stopped and its ladders into `batch`.
+#[no_mangle]
+pub extern "C" fn rg_list_cases(run: &mut [u64], budget: u64, batch: &mut [u64]) -> u64
+    ensures { λ r. ⌜ Lists caseSide 2 (now (run .entry)) budget (now (batch .entry)) (now (run .exit)) (now (batch .exit)) r ⌝ }
+{
+    c_batches::list_cases(run, budget, batch)
 }
 
 // The table of a file of pairs into `table`.

@@ -45,9 +45,8 @@ use Rattle.preference.specs.Preferences.{preferredRefusal, orderOf, numbersOf, 
 use Rattle.preference.proofs.PlainOrder.{plain-order, length-numbers}
 use Rattle.runs.specs.Calling.{Step, refusal, arrangement, byRules, told, valueRefusal, PausedAt, kept, Called, CallsBy, Calls, left}
 use Rattle.runs.specs.Demand.{sets, Ends, reported, HandsOut, Demand3, RunDemand, KeepsDemand, CarriesDemand, SharesSet, SharesAll}
-use Rattle.runs.specs.Omitting.{CalledEither, CallsEither, RunOmits, KeepsOmits, CarriesOmits}
+use Rattle.runs.specs.Omitting.{movesOf, CalledEither, CallsEither, RunOmits, KeepsOmits, CarriesOmits}
 use Rattle.runs.specs.private.Either.{callOf, CalledOf}
-use Rattle.runs.specs.Omitting.{movesOf}
 use Rattle.runs.proofs.Answered.{paused-state, called-both}
 use Rattle.runs.proofs.Answers.{hands-out, told-demand}
 
@@ -57,7 +56,7 @@ reached-next t s o false b x h = reached-call (moveOn s o) (handOut s) b x h
 reached-next t s o true b x h = reached-keeping (moveOn s o) (handOut s) (keepsOf t) (handOut s) b x h
 
 -- what is promised of a call of either kind of run
-abbrev CalledAs : Bool → (Table → Side) → Value → ℕ → Step → Type 0
+abbrev pub CalledAs : Bool → (Table → Side) → Value → ℕ → Step → Type 0
 CalledAs false = Called
 CalledAs true = CalledEither
 
@@ -130,15 +129,15 @@ module _ (side : Table → Side) (t : Table) (k : List ℕ) (omit : Bool) (ok : 
       (by-rules (made-by b s .next) (next-reached b s h) bs rs (subst (λ (v : Value). CallsBy (CalledAs omit side) v bs rs) (kept-next b s h r (c .0)) (c .1)))
 
   -- and the value that they leave is the paused value of the state that the rules lead to
-  left-value : (s : State) → ReachedOn here o s → (bs : List ℕ) (rs : List Step) → CallsBy (CalledAs omit side) (value s) bs rs
+  pub left-value : (s : State) → ReachedOn here o s → (bs : List ℕ) (rs : List Step) → CallsBy (CalledAs omit side) (value s) bs rs
       → left (value s) rs ≡ value (stateBy mv (handOut here) bs s)
   left-value s h [] [] c = refl
   left-value s h [] (r ∷ rs) c = absurd c
   left-value s h (b ∷ bs) [] c = absurd c
   left-value s h (b ∷ bs) (r ∷ rs) c =
       let next = kept-next b s h r (c .0) in
-      ap (λ (v : Value). left v rs) next ∙ left-value (made-by b s .next) (next-reached b s h) bs rs
-      (subst (λ (v : Value). CallsBy (CalledAs omit side) v bs rs) next (c .1))
+      ap (λ (v : Value). left v rs) next
+      ∙ left-value (made-by b s .next) (next-reached b s h) bs rs (subst (λ (v : Value). CallsBy (CalledAs omit side) v bs rs) next (c .1))
 
   -- ---- what the rules give for a call is what `CalledEither` asks, and for a list of budgets what `CallsEither` asks: neither is empty talk
   called-made : (b : ℕ) (s : State) → ReachedOn here o s → CalledOf side (value s) b (tell (made-by b s))
@@ -166,17 +165,26 @@ calls-only side v [] (r ∷ rs) c = absurd c
 calls-only side v (b ∷ bs) [] c = absurd c
 calls-only side v (b ∷ bs) (r ∷ rs) c = (c .0 .called, calls-only side (kept (r .answer) v (r .next)) bs rs (c .1))
 
+pub calls-as : (omit : Bool) (side : Table → Side) (v : Value) (bs : List ℕ) (rs : List Step) → CallsEither side v bs rs
+    → CallsBy (CalledAs omit side) v bs rs
+calls-as false side v bs rs c = calls-only side v bs rs c
+calls-as true side v bs rs c = c
+
 -- ---- a list of calls
-fresh-reached : (s : Side) (o : List ℕ) → ReachedOn s o fresh
+pub fresh-reached : (s : Side) (o : List ℕ) → ReachedOn s o fresh
 fresh-reached s o = record { count = 0; leads = refl }
 
--- one call more
+-- calls after calls, and one call more
+pub calls-append : (P : Value → ℕ → Step → Type 0) (v : Value) (bs : List ℕ) (rs : List Step) (cs : List ℕ) (qs : List Step) → CallsBy P v bs rs
+    → CallsBy P (left v rs) cs qs → CallsBy P v (bs ++ cs) (rs ++ qs)
+calls-append P v [] [] cs qs c d = d
+calls-append P v [] (r ∷ rs) cs qs c d = absurd c
+calls-append P v (b ∷ bs) [] cs qs c d = absurd c
+calls-append P v (b ∷ bs) (r ∷ rs) cs qs c d = (c .0, calls-append P (kept (r .answer) v (r .next)) bs rs cs qs (c .1) d)
+
 calls-more : (P : Value → ℕ → Step → Type 0) (v : Value) (bs : List ℕ) (rs : List Step) (b : ℕ) (r : Step) → CallsBy P v bs rs → P (left v rs) b r
     → CallsBy P v (bs ++ (b ∷ [])) (rs ++ (r ∷ []))
-calls-more P v [] [] b r c d = (d, tt)
-calls-more P v [] (q ∷ rs) b r c d = absurd c
-calls-more P v (a ∷ bs) [] b r c d = absurd c
-calls-more P v (a ∷ bs) (q ∷ rs) b r c d = (c .0, calls-more P (kept (q .answer) v (q .next)) bs rs b r (c .1) d)
+calls-more P v bs rs b r c d = calls-append P v bs rs (b ∷ []) (r ∷ []) c (d, tt)
 
 -- a refused call at the end changes nothing, and where every call is refused the first value is left
 pub left-refused : (v : Value) (rs : List Step) (r : Step) (n : ℕ) → r .answer ≡ refused n → left v (rs ++ (r ∷ [])) ≡ left v rs
@@ -273,7 +281,7 @@ carries-omits side v b r h c ok bs rs cs e =
 
 -- ---- two runs
 module _ (t : Table) (y : Side) (k : List ℕ) where
-  told-answer : (omit : Bool) (a : Reply) (m : ℕ) (s : State) → byRules t y k omit a m s .answer ≡ a
+  pub told-answer : (omit : Bool) (a : Reply) (m : ℕ) (s : State) → byRules t y k omit a m s .answer ≡ a
   told-answer omit (refused n) m s = refl
   told-answer omit spent m s = refl
   told-answer omit (handed x) m s = refl

@@ -6,6 +6,7 @@ pub mod Stepping
 pub mod Advancing
 pub mod Laying
 pub mod Checking
+pub mod Opening
 pub mod Carrying
 pub mod Ordering
 pub mod Answered
@@ -14,8 +15,13 @@ pub mod HandOuts
 pub mod Wanting
 pub mod Answers
 pub mod Demands
-pub mod Sentences
 pub mod Starting
 pub mod SideCalls
 pub mod Readings
 pub mod Deciding
+pub mod Words
+pub mod Turns
+pub mod Batching
+pub mod BatchSides
+pub mod BatchDeciding
+pub mod Sentences

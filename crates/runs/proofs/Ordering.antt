@@ -106,7 +106,7 @@ abbrev side : ℕ → List ℕ → Side
 side n r = record { count = n; rows = r; view = λ x. x; byGauges = λ x. x }
 
 -- the moves by number and by place, of a run that omits nothing
-number-moves : (r w : List ℕ) → moveBy r false w ≡ move (candidates r)
+pub number-moves : (r w : List ℕ) → moveBy r false w ≡ move (candidates r)
 unfolding moveBy
 number-moves r w = fun-ext (λ x. refl)
 
@@ -114,7 +114,7 @@ place-moves : (r o w : List ℕ) → placedMove r o false w ≡ moveIn (placeOf 
 unfolding placedMove
 place-moves r o w = fun-ext (λ x. refl)
 
-number-keeps : (r w : List ℕ) → moveBy r true w ≡ moveKeeping (move (candidates r)) (chainOf r) (handsOver true (length r) w)
+pub number-keeps : (r w : List ℕ) → moveBy r true w ≡ moveKeeping (move (candidates r)) (chainOf r) (handsOver true (length r) w)
 unfolding moveBy
 number-keeps r w = fun-ext (λ x. refl)
 
@@ -145,13 +145,13 @@ module _ (n : ℕ) (r : List ℕ) (counted : length r ≡ n) where
   same-state : (x : State) → FitsOn r x → renamed (indexAt o) x ≡ x
   same-state x h = state-plain plainSide counted x h
 
-  same-picks : (x : State) → FitsOn r x → map (indexAt o) (x .picks) ≡ x .picks
+  pub same-picks : (x : State) → FitsOn r x → map (indexAt o) (x .picks) ≡ x .picks
   same-picks x h = ap (λ (y : State). y .picks) (same-state x h)
 
   plain-reached : (x : State) → FitsOn r x → ReachedIn r o (renamed (indexAt o) x)
   plain-reached x h = subst (ReachedIn r o) (sym (same-state x h)) (reached-plain plainSide counted x .1 (reached-fits r x .1 h))
 
-  plain-from : (y : State) → ReachedIn r o y → (x : State) × FitsOn r x × (renamed (indexAt o) x ≡ y)
+  pub plain-from : (y : State) → ReachedIn r o y → (x : State) × FitsOn r x × (renamed (indexAt o) x ≡ y)
   plain-from y h =
       let g = reached-fits r y .0 (reached-plain plainSide counted y .0 h) in
       (y, g, same-state y g)
@@ -178,10 +178,10 @@ module _ (n : ℕ) (r : List ℕ) (counted : length r ≡ n) where
           fits = h;
         }
 
-  plain-stand : (k : List ℕ) (count : ℕ) (p : Phase) → Stand (indexAt o) (FitsOn r) (ReachedIn r o) k k count p p
+  pub plain-stand : (k : List ℕ) (count : ℕ) (p : Phase) → Stand (indexAt o) (FitsOn r) (ReachedIn r o) k k count p p
   plain-stand k count p = record { there = plain-there k count p; again = plain-again k count p }
 
-  plain-turned : (c k′ : List ℕ) (rep : Report) → Turned (indexAt o) (FitsOn r) (ReachedIn r o) (chainOf r) (chainOf r) c k′ c k′ rep rep
+  pub plain-turned : (c k′ : List ℕ) (rep : Report) → Turned (indexAt o) (FitsOn r) (ReachedIn r o) (chainOf r) (chainOf r) c k′ c k′ rep rep
   plain-turned c k′ rep = record {
     same-outcome = refl;
     same-moves = refl;
@@ -189,7 +189,7 @@ module _ (n : ℕ) (r : List ℕ) (counted : length r ≡ n) where
     chains = λ x h e. e ∙ ap (λ (q : List ℕ). padded (chainOf r q)) (sym (same-picks x h));
   }
 
-  plain-moves : (omit : Bool) (w : List ℕ) → Follows (indexAt o) (FitsOn r) (moveBy r omit w) (placedMove r o omit w)
+  pub plain-moves : (omit : Bool) (w : List ℕ) → Follows (indexAt o) (FitsOn r) (moveBy r omit w) (placedMove r o omit w)
   plain-moves omit w = both-follow r r o w w (plain-follows plainSide counted) same omit
     where
       same : (x : State) → FitsOn r x → (q : List ℕ) → move (candidates r) x .given ≡ hands q
@@ -275,7 +275,7 @@ module _ (n : ℕ) (rows order : List ℕ) (z : Sized n rows) (long : length ord
   reach-of : (x : State) → Fit x → Reach (renamed num x)
   reach-of x h = reached-placed rowSide q row-count arranges (renamed num x) .1 (record { state = x; good = h; is = refl })
 
-  from-reach : (y : State) → Reach y → (x : State) × Fit x × (renamed num x ≡ y)
+  pub from-reach : (y : State) → Reach y → (x : State) × Fit x × (renamed num x ≡ y)
   from-reach y h = let p = reached-placed rowSide q row-count arranges y .0 h in (p .state, p .good, p .is)
 
   below : (x : State) → Fit x → AllBelow n (x .picks)
@@ -324,7 +324,7 @@ module _ (n : ℕ) (rows order : List ℕ) (z : Sized n rows) (long : length ord
   phase-back Ended x b = refl
 
   -- ---- a value by number, and by place
-  arranged-stand : (k : List ℕ) → length k ≡ 64 → (count : ℕ) (p p₁ : Phase) → p₁ ≡ renumberedPhase places n p
+  pub arranged-stand : (k : List ℕ) → length k ≡ 64 → (count : ℕ) (p p₁ : Phase) → p₁ ≡ renumberedPhase places n p
       → Stand num Fit Reach (renumbered places n k) k count p₁ p
   arranged-stand k size count p p₁ e = record {
     there = λ x s. record {
@@ -346,7 +346,7 @@ module _ (n : ℕ) (rows order : List ℕ) (z : Sized n rows) (long : length ord
       (outcome-is : rep .outcome ≡ rep₁ .outcome) (moves-are : rep .moves ≡ rep₁ .moves)
       (count-is : rep .spot .count ≡ rep₁ .spot .count)
       (mode-is : modePhase (rep .spot .mode) ≡ renumberedPhase order n (modePhase (rep₁ .spot .mode))) where
-    arranged-turned : Turned num Fit Reach (chainOf (arrange q r)) (chainOf r) c₁ k₁′ c k′ rep₁ rep
+    pub arranged-turned : Turned num Fit Reach (chainOf (arrange q r)) (chainOf r) c₁ k₁′ c k′ rep₁ rep
     arranged-turned = record {
       same-outcome = outcome-is;
       same-moves = moves-are;
@@ -400,7 +400,7 @@ module _ (n : ℕ) (rows order : List ℕ) (z : Sized n rows) (long : length ord
           sym (ap (λ (y : List ℕ). row y i) (ap padded (gathered-is n w order (z .few) lw long)) ∙ pad-getD (arrange q w) i
           ∙ arrange-moves n q arranges .at w i l)
 
-  arranged-moves : (omit : Bool) (w : List ℕ) → length w ≡ 64
+  pub arranged-moves : (omit : Bool) (w : List ℕ) → length w ≡ 64
       → Follows num Fit (moveBy (arrange q r) omit (padded (gathered n w order))) (placedMove r q omit w)
   arranged-moves omit w lw =
       both-follow (arrange q r) r q (padded (gathered n w order)) w (follows rowSide q row-count arranges) (wanted-same w lw) omit

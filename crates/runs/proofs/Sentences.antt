@@ -2,17 +2,18 @@
 -- record behind these contracts: with the field weakened it has no proof, whatever else is changed.
 --
 -- In order: demand 3 of a list of calls (`hands-..`, `gauge-run-lists`, `case-run-lists`); the sentence on rules 1 to 5 (`rules-..`); two runs (`shares-..`);
--- one call and its refusals (`called-..`); runs that omit (`omits-..`); the plain order (`run-plain`).
+-- one call and its refusals (`called-..`); runs that omit (`omits-..`); the plain order (`run-plain`); batches (`batch-..`).
 --
 -- Elsewhere: demand 3 for a reader who has the side's list, `demand-hands`, `demand-limits` in Demands.antt; that one answer is left,
 -- `demand-answers-unique` there.
-use mathlib.Core.Path.{_≡_, refl, ap, _∙_}
+use mathlib.Core.Path.{_≡_, refl, sym, ap, _∙_, subst}
 use mathlib.Core.Logic.{_↔_, _≢_}
-use mathlib.Core.Bool.{true, false}
+use mathlib.Core.Bool.{Bool, true, false}
 use mathlib.Core.List.{List, [], _∷_, _++_, map, List·Memᴰ}
 use Prim.Native.Nat.{ℕ, suc, _≤_, _<_}
 use native.Mathlib.Omega.{arith}
-use lib.ListN.{length}
+use lib.ListN.{length, take, drop}
+use lib.Seq.{take-append-seam, drop-append-seam}
 use Rattle.table.specs.declared.Table.{Table}
 use Rattle.table.specs.Chains.{IsMaximal}
 use Rattle.table.specs.Tables.{tableRows}
@@ -30,10 +31,11 @@ use Rattle.preference.specs.Preferences.{preferredRefusal, plainNumbers}
 use Rattle.preference.proofs.PlainOrder.{order-plain}
 use Rattle.conflicts.specs.Conflicts.{HoldsEssential}
 use Rattle.conflicts.specs.Omitting.{keepsOf}
-use Rattle.runs.specs.Paused.{Value, paused}
+use Rattle.runs.specs.Paused.{Value, paused, blankValue}
 use Rattle.runs.specs.Calling.{Step, refusal, arrangement, told, held, valueRefusal, PausedAt, Called, Calls, left}
 use Rattle.runs.specs.Demand.{sets, Ends, Each, HandsOut, FromRules, RunDemand, SharesAll}
-use Rattle.runs.specs.Omitting.{CalledEither, RunOmits}
+use Rattle.runs.specs.Omitting.{CalledEither, CallsEither, RunOmits}
+use Rattle.runs.specs.Batches.{denied, Batch, Tale, joined, denial, Denied, Comes, batchOn, budgetsOn, stepsOn, total, leftOver, Batched, AddsCalls}
 
 -- ---- a list of calls, one of them with the budget b and the answer r
 -- what holds of each budget with its answer holds of this one
@@ -142,3 +144,80 @@ run-plain side t v bs rs few counted f =
       f .each ∙ ap (map (told t (side t) k false)) (ap (λ (q : List ℕ). callsOn (side t) q bs) o ∙ calls-plain (side t) counted bs),
       f .last ∙ ap (paused t k false) (ap (λ (q : List ℕ). leftOn (side t) q bs) o ∙ left-plain (side t) counted bs),
     )
+
+-- ---- batches
+module _ (n : ℕ) (before : List ℕ) (r : Batch) (now : List ℕ) (d : Denied n before r now) where
+  -- "A refusal yields its number and nothing else"
+  pub batch-denied : (r .ending ≡ denied n) × (r .ladders ≡ 0) × (r .moves ≡ 0) × (r .next ≡ blankValue)
+  batch-denied = (
+    ap (λ (x : Batch). x .ending) (d .says),
+    ap (λ (x : Batch). x .ladders) (d .says),
+    ap (λ (x : Batch). x .moves) (d .says),
+    ap (λ (x : Batch). x .next) (d .says),
+  )
+
+  pub batch-denied-words : now ≡ before
+  batch-denied-words = d .buffer
+
+module _ (side : Table → Side) (v : Value) (b : ℕ) (before : List ℕ) (r : Batch) (now : List ℕ) (h : Batched side v b before r now) where
+  -- 10, 11 and 27
+  pub batch-table : 0 < valueRefusal side v → Denied (valueRefusal side v) before r now
+  batch-table l = h .table l
+
+  pub batch-15 : valueRefusal side v ≡ 0 → ((s : State) → PausedAt side v s → ⊥) → Denied 15 before r now
+  batch-15 z n = h .value z n
+
+  -- "18 above 1,000,000", whether there is room or not
+  pub batch-18 : valueRefusal side v ≡ 0 → (s : State) → PausedAt side v s → 1000000 < b → Denied 18 before r now
+  batch-18 z s p l = h .large z s p l
+
+  pub batch-rules : valueRefusal side v ≡ 0 → (s : State) → PausedAt side v s → b ≤ 1000000
+      → Comes (v .table) (v .order) (v .omit) (batchOn side v (length before) b s) before r now
+  batch-rules z s p l = h .rules z s p l
+
+module _ (t : Table) (order : List ℕ) (omit : Bool) (u : Tale) (before : List ℕ) (r : Batch) (now : List ℕ) (c : Comes t order omit u before r now) where
+  -- how it stopped, how many ladders, how many moves, and the next value
+  pub batch-answer : (r .ending ≡ u .ending) × (r .ladders ≡ length (u .sets)) × (r .moves ≡ u .moves) × (r .next ≡ paused t order omit (u .next))
+  batch-answer = (
+    ap (λ (x : Batch). x .ending) (c .says),
+    ap (λ (x : Batch). x .ladders) (c .says),
+    ap (λ (x : Batch). x .moves) (c .says),
+    ap (λ (x : Batch). x .next) (c .says),
+  )
+
+  -- the ladders one after another, and behind them every word as it was
+  pub batch-words : (take (length (joined (u .sets))) now ≡ joined (u .sets))
+      × (drop (length (joined (u .sets))) now ≡ drop (length (joined (u .sets))) before)
+  batch-words =
+      let n : ℕ = length (joined (u .sets)) in (
+        ap (take n) (c .buffer) ∙ take-append-seam (joined (u .sets)) (drop n before),
+        ap (drop n) (c .buffer) ∙ drop-append-seam (joined (u .sets)) (drop n before),
+      )
+
+-- a batch is a list of run calls, "each resumed from the value last returned": the first has the budget, each next what is left of it, and the batch's
+-- ladders, moves and value are theirs
+pub batch-is-calls : (side : Table → Side) (v : Value) (b : ℕ) (before : List ℕ) (r : Batch) (now : List ℕ) (s : State)
+    → Comes (v .table) (v .order) (v .omit) (batchOn side v (length before) b s) before r now → AddsCalls side v (length before) b s
+    → (rs : List Step) × CallsEither side v (leftOver b rs) rs × (r .ladders ≡ length (sets rs))
+    × (now ≡ joined (sets rs) ++ drop (length (joined (sets rs))) before) × (r .moves ≡ total rs) × (r .next ≡ left v rs)
+batch-is-calls side v b before r now s c a =
+    let rs : List Step = stepsOn side v (length before) b s in (
+      rs,
+      subst (λ (bs : List ℕ). CallsEither side v bs rs) (a .budgets) (a .calls),
+      ap (λ (x : Batch). x .ladders) (c .says) ∙ ap length (sym (a .handed)),
+      c .buffer ∙ ap (λ (xs : List (List ℕ)). joined xs ++ drop (length (joined xs)) before) (sym (a .handed)),
+      ap (λ (x : Batch). x .moves) (c .says) ∙ sym (a .spends),
+      ap (λ (x : Batch). x .next) (c .says) ∙ sym (a .last),
+    )
+
+-- so demand 3 speaks of it: after any list of calls from a fresh start that leaves v, single ones and those of other batches
+module _ (side : Table → Side) (v : Value) (words b : ℕ) (s : State) (bs : List ℕ) (rs : List Step) where
+  pub batch-demand : (a : AddsCalls side v words b s) → Calls side (paused (v .table) (v .order) false fresh) bs rs
+      → left (paused (v .table) (v .order) false fresh) rs ≡ v
+      → RunDemand side (v .table) (v .order) (paused (v .table) (v .order) false fresh) (bs ++ budgetsOn side v words b s) (rs ++ stepsOn side v words b s)
+  batch-demand a c e = a .demand bs rs c e
+
+  pub batch-omits : (a : AddsCalls side v words b s) → CallsEither side (paused (v .table) (v .order) true fresh) bs rs
+      → left (paused (v .table) (v .order) true fresh) rs ≡ v
+      → RunOmits side (v .table) (v .order) (paused (v .table) (v .order) true fresh) (bs ++ budgetsOn side v words b s) (rs ++ stepsOn side v words b s)
+  batch-omits a c e = a .omits bs rs c e

@@ -94,10 +94,10 @@ asked-is n w c test found some = go test refl
 -- ---- the moves
 module _ (t : Table) (s : Side) (w : List ℕ) where
   -- what the core asks of the picks is what the run keeps
-  abbrev Wants : Type 0
+  abbrev pub Wants : Type 0
   Wants = (p : List ℕ) → handsOver true (length (s .rows)) w (chainOf (s .rows) p) ≡ keepsOf t (handOut s p)
 
-  core-moves : (o : List ℕ) (omit : Bool) → (omit ≡ true → Wants) → placedMove (s .rows) o omit w ≡ movesOf t s o omit
+  pub core-moves : (o : List ℕ) (omit : Bool) → (omit ≡ true → Wants) → placedMove (s .rows) o omit w ≡ movesOf t s o omit
   unfolding placedMove
   core-moves o false h = refl
   core-moves o true h = fun-ext (λ x. ap (λ (g : Given). gives g (moveOn s o x .next)) (same (moveOn s o x .given)))

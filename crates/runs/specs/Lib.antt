@@ -3,4 +3,5 @@ pub mod Paused
 pub mod Calling
 pub mod Demand
 pub mod Omitting
+pub mod Batches
 pub mod private

@@ -239,7 +239,7 @@ fn case_run(table: Table, order: CaseOrder, omit: bool) -> CaseRun
 }
 
 // The value beside a refusal.
-fn blank_run() -> CaseRun
+pub fn blank_run() -> CaseRun
     ensures { λ r. ⌜ caseValue r ≡ blankValue ⌝ }
 {
     let none = CaseOrder([0u8; 64]);
@@ -259,7 +259,7 @@ fn case_refusal(why: Refusal) -> CaseStep
     }
 }
 
-fn case_mode(phase: CasePhase) -> Mode
+pub fn case_mode(phase: CasePhase) -> Mode
     ensures { λ r. ⌜ modePhase r ≡ casePhase phase ⌝ }
 {
     match phase {
@@ -270,7 +270,7 @@ fn case_mode(phase: CasePhase) -> Mode
     }
 }
 
-fn case_phase(mode: Mode) -> CasePhase
+pub fn case_phase(mode: Mode) -> CasePhase
     ensures { λ r. ⌜ casePhase r ≡ modePhase mode ⌝ }
 {
     match mode {

@@ -3,6 +3,7 @@
 // found again when a pick is taken back, and the picks by number. A side's call is `call`; where it omits, `wanted` has the pairs of which a
 // chain must hold one to be handed over, by the side's rows, and else it is not looked at.
 use crate::Outcome;
+use crate::listing;
 use refusals::Refusal;
 use replay;
 use search;
@@ -19,7 +20,7 @@ ghost use Rattle.lists.specs.OnTable.{chainOf};
 ghost use Rattle.search.specs.Finding.{within};
 ghost use Rattle.sets.specs.First.{Without};
 ghost use Rattle.runs.specs.private.Working.{Sized, Holds, Laying, stateOf, placesOf, modePhase, spotDown, movedFrom, Stepped, TakesBack, NumberAt};
-ghost use Rattle.runs.specs.private.Working.{leftAfter, Advanced, Decides, filled as filledPlaces, PhaseIn, CarriesOn, refusedReport};
+ghost use Rattle.runs.specs.private.Working.{leftAfter, Advanced, Decides, filled as filledPlaces, PhaseIn, CarriesOn, Opens, refusedReport};
 ghost use Rattle.runs.specs.private.Working.{moveBy, apart as apartRows, handsOver};
 
 // "A run call has a budget from 0 to 1,000,000 moves" (01).
@@ -78,6 +79,53 @@ pub fn call(
     ensures { λ r. ⌜ CarriesOn (moveBy (take n (now (rows .entry))) omit (now (wanted .entry))) (take n (now (rows .entry))) (now (picks .entry)) count
         (modePhase mode) budget (now (chain .exit)) (now (picks .exit)) r ⌝ }
 {
+    let opened = open(rows, n, chain, picks, count, mode, budget);
+    let outcome = opened.outcome;
+    if let Outcome::Refused(why) = outcome {
+        return refused(why);
+    }
+    let at = opened.spot;
+    let none = [0u8; 64];
+    let mut nowhere = [0u64; 1];
+    let tally = listing::list_on(
+        rows,
+        n,
+        omit,
+        wanted,
+        1,
+        false,
+        false,
+        true,
+        &none,
+        0,
+        chain,
+        picks,
+        at,
+        budget,
+        &mut nowhere,
+    );
+    let ended = tally.outcome;
+    let after = tally.spot;
+    Report {
+        outcome: ended,
+        moves: tally.moves,
+        spot: after,
+    }
+}
+
+// The checks of such a call alone: 15 and 18, or no move, and where the run is. `chain` comes empty, and has then the chain of the picks.
+pub fn open(
+    rows: &[u64; 64],
+    n: usize,
+    chain: &mut [u64; 64],
+    picks: &[u8; 64],
+    count: u64,
+    mode: Mode,
+    budget: u64,
+) -> Report
+    requires { ⌜ (Sized n (now rows)) × (now chain ≡ noRows) × (length (now picks) ≡ 64) ⌝ }
+    ensures { λ r. ⌜ Opens n (now (rows .entry)) (now (picks .entry)) count (modePhase mode) budget (now (chain .exit)) r ⌝ }
+{
     if filled(picks) != count {
         return refused(Refusal::NotReached);
     }
@@ -101,7 +149,11 @@ pub fn call(
         left: left,
         mode: mode,
     };
-    advance(rows, n, omit, wanted, chain, picks, at, budget)
+    Report {
+        outcome: Outcome::Spent,
+        moves: 0,
+        spot: at,
+    }
 }
 
 // What stands beside a refusal.
@@ -197,7 +249,7 @@ fn wide(number: u8) -> usize
 }
 
 // Up to `budget` moves: it stops after the first hand-out or end. A chain that is omitted does not stop it; its move counts.
-fn advance(
+pub fn advance(
     rows: &[u64; 64],
     n: usize,
     omit: bool,

@@ -233,7 +233,7 @@ fn gauge_run(table: Table, order: GaugeOrder, omit: bool) -> GaugeRun
 }
 
 // The value beside a refusal.
-fn blank_run() -> GaugeRun
+pub fn blank_run() -> GaugeRun
     ensures { λ r. ⌜ gaugeValue r ≡ blankValue ⌝ }
 {
     let none = GaugeOrder([0u8; 64]);
@@ -253,7 +253,7 @@ fn gauge_refusal(why: Refusal) -> GaugeStep
     }
 }
 
-fn gauge_mode(phase: Phase) -> Mode
+pub fn gauge_mode(phase: Phase) -> Mode
     ensures { λ r. ⌜ modePhase r ≡ gaugePhase phase ⌝ }
 {
     match phase {
@@ -264,7 +264,7 @@ fn gauge_mode(phase: Phase) -> Mode
     }
 }
 
-fn gauge_phase(mode: Mode) -> Phase
+pub fn gauge_phase(mode: Mode) -> Phase
     ensures { λ r. ⌜ gaugePhase r ≡ modePhase mode ⌝ }
 {
     match mode {

@@ -179,7 +179,7 @@ fn call_arranged(
 }
 
 // A mode with the number of a pick that was taken back as the array has it.
-fn renumbered(numbers: &[u8; 64], n: usize, mode: Mode) -> Mode
+pub fn renumbered(numbers: &[u8; 64], n: usize, mode: Mode) -> Mode
     ensures { λ r. ⌜ modePhase r ≡ renumberedPhase (now (numbers .entry)) n (modePhase mode) ⌝ }
 {
     match mode {

@@ -1,22 +1,25 @@
 -- A column gathered from the last row to the first, and the columns put in their places: what each turn and each answer says.
-use mathlib.Core.Path.{_≡_, sym, ap, _∙_, subst}
-use mathlib.Core.List.{List}
-use Prim.Native.Nat.{ℕ, suc, _+_, _*_, _-_, _/_, _%_, _^_, _≤_, _<_, min}
-use native.Mathlib.Decide.{ℕ-discrete, decLt}
+use mathlib.Core.Path.{_≡_, refl, sym, ap, _∙_, subst}
+use mathlib.Core.List.{List, _++_}
+use Prim.Native.Nat.{ℕ, zero, suc, _+_, _*_, _-_, _/_, _%_, _^_, _≤_, _<_, min}
+use native.Mathlib.Nat.{add-zero, zero-add, add-suc, suc-add, sub-zero}
+use native.Mathlib.Numerals.{add-one}
+use native.Mathlib.Decide.{decLt}
 use native.Mathlib.Omega.{arith}
-use lib.ListN.{length, getD, set, drop, length-set, length-drop, length-replicate, getD-replicate}
+use lib.ListN.{length, set, drop, replicate, length-drop, length-replicate}
 use lib.Pow.{pow-mono, shr-shr}
-use lib.Seq.{ext-getD, drop-cons, drop-length, getD-set-same, getD-set-other}
+use lib.Seq.{sets as stored, sets-eq, length-sets, lt-length-set, ext-getD, drop-cons, drop-length}
 use Rattle.sets.specs.Lists.{tabulate}
 use Rattle.sets.proofs.Tabulated.{length-tabulate, getD-tabulate}
 use Rattle.table.specs.Pairs.{row}
 use Rattle.table.specs.Tables.{noRows, padded}
 use Rattle.transpose.specs.Transposing.{column, transpose}
 use Rattle.transpose.proofs.Transposition.{column-lt, length-transpose}
-use Rattle.table.proofs.Places.{row-past}
-use Rattle.table.proofs.Padding.{pad-getD, pad-ext}
+use Rattle.table.proofs.Padding.{pad-getD}
 use Rattle.turn.specs.Places.{places}
+use Rattle.turn.specs.Putting.{PutsIn}
 use Rattle.turn.specs.private.Fours.{fourOf}
+use Rattle.turn.specs.private.Puts.{Putting}
 use Rattle.turn.specs.declared.Four.{Four}
 
 module _ (n : ℕ) (rows : List ℕ) where
@@ -29,7 +32,7 @@ module _ (n : ℕ) (rows : List ℕ) where
   row-places i l = getD-tabulate (row rows) (min n 64) i l
 
 -- at most 64 count in any case
-pub places-most : (n m : ℕ) (rows : List ℕ) → m ≡ min n 64 → places m rows ≡ places n rows
+places-most : (n m : ℕ) (rows : List ℕ) → m ≡ min n 64 → places m rows ≡ places n rows
 unfolding places
 places-most n m rows e = let d : min m 64 ≡ min n 64 = omega arith in ap (tabulate (row rows)) d
 
@@ -76,6 +79,18 @@ module _ (n k : ℕ) (rows : List ℕ) (few : n ≤ 64) where
   pub gathered-all : (i set : ℕ) → i ≤ 0 → Gathered n k rows i set → set ≡ column (places n rows) k
   gathered-all i set h g = let e : i ≡ 0 = omega arith in g ∙ ap (λ (m : ℕ). column (drop m (places n rows)) k) e
 
+-- one word more of a list made from a function, as a loop stores it
+stored-next : (f : ℕ → ℕ) (l : List ℕ) (a k : ℕ) → stored l a (tabulate f (suc k)) ≡ set (stored l a (tabulate f k)) (a + k) (f k)
+unfolding tabulate
+stored-next f l a zero = rw add-zero
+stored-next f l a (suc k) = rw (add-suc, ← suc-add) (stored-next (λ i. f (suc i)) (set l a (f 0)) (suc a) k)
+
+-- zeros with the first of them away
+drop-replicate : (n i : ℕ) → drop {A = ℕ} i (replicate n 0) ≡ replicate (n - i) 0
+drop-replicate n zero = rw sub-zero
+drop-replicate zero (suc i) = let e : 0 - suc i ≡ 0 = omega arith in rw e
+drop-replicate (suc n) (suc i) = let e : suc n - suc i ≡ n - i = omega arith in rw e (drop-replicate n i)
+
 -- four columns, from k on, of the rows from i on; a row is shifted by k once, and then by one, two and three more
 pub record Fours (n k : ℕ) (rows : List ℕ) (i a b c d : ℕ) : Type 0 where
   pub most : i ≤ n
@@ -121,53 +136,87 @@ module _ (n k : ℕ) (rows : List ℕ) (few : n ≤ 64) where
           → d ≡ column (places n rows) (k + 3) → _≡_ {A = Four} (record { a = a; b = b; c = c; d = d }) (fourOf (places n rows) k)
       same a b c d w x y z = rw (w, x, y, z)
 
--- ---- the columns: those below k are in their places, and nothing stands behind
-pub record Turning (xs l : List ℕ) (k : ℕ) : Type 0 where
-  pub size : length l ≡ 64
-  pub entry : (i : ℕ) → i < k → getD l i 0 ≡ column xs i
-  pub rest : (i : ℕ) → k ≤ i → getD l i 0 ≡ 0
+-- what was stored before leaves the length as it is
+module _ (l : List ℕ) (i j : ℕ) (f : Four) (h : j < length l) where
+  pub in-two : j < length (set l i (f .a))
+  in-two = lt-length-set l i (f .a) h
 
-pub turning-none : (xs : List ℕ) → Turning xs noRows 0
-turning-none xs = record { size = length-replicate {A = ℕ} 64 0; entry = λ i l. absurd (omega arith); rest = λ i l. zeros i (decLt i 64) }
-  where
-    zeros : (i : ℕ) → Dec (i < 64) → getD noRows i 0 ≡ 0
-    zeros i (yes l) = getD-replicate 64 i 0 0 l
-    zeros i (no l) = row-past noRows i (omega (arith, length-replicate {A = ℕ} 64 0))
+  pub in-three : j < length (set (set l i (f .a)) (i + 1) (f .b))
+  in-three = lt-length-set (set l i (f .a)) (i + 1) (f .b) in-two
 
-pub turning-more : (xs l : List ℕ) (k v : ℕ) → k < 64 → Turning xs l k → v ≡ column xs k → Turning xs (set l k v) (k + 1)
-turning-more xs l k v h t e = record {
-  size = length-set l k v ∙ t .size;
-  entry = λ i y. go i y (ℕ-discrete i k);
-  rest = λ i y. getD-set-other l k i v 0 (λ d. omega arith) ∙ t .rest i (omega arith);
+  pub in-four : j < length (set (set (set l i (f .a)) (i + 1) (f .b)) (i + 2) (f .c))
+  in-four = lt-length-set (set (set l i (f .a)) (i + 1) (f .b)) (i + 2) (f .c) in-three
+
+-- ---- the columns, put from a place of a buffer on: those below k
+module _ (xs before : List ℕ) (at : ℕ) where
+  pub putting-none : Putting xs before at 0 before
+  unfolding transpose tabulate
+  putting-none = record { words = refl }
+
+  pub putting-length : {k : ℕ} {now : List ℕ} → Putting xs before at k now → length now ≡ length before
+  putting-length {k} p = ap length (p .words) ∙ length-sets before at (transpose k xs)
+
+  pub putting-more : (k : ℕ) (now : List ℕ) (v : ℕ) → Putting xs before at k now → v ≡ column xs k → Putting xs before at (k + 1) (set now (at + k) v)
+  unfolding transpose
+  putting-more k now v p e = record {
+    words =
+        ap (λ (l : List ℕ). set l (at + k) v) (p .words)
+        ∙ ap (set (stored before at (tabulate (column xs) k)) (at + k)) e
+        ∙ sym (rw (add-one k) (stored-next (column xs) before at k));
+  }
+
+  -- and four at once
+  pub putting-four : (k : ℕ) (now : List ℕ) (f : Four) → Putting xs before at k now → f ≡ fourOf xs k
+      → Putting xs before at (k + 4) (set (set (set (set now (at + k) (f .a)) (at + k + 1) (f .b)) (at + k + 2) (f .c)) (at + k + 3) (f .d))
+  putting-four k now f p e =
+      let one = putting-more k now (f .a) p (ap (λ (x : Four). x .a) e) in
+      let two = next 0 _ (f .b) one (ap (λ (x : Four). x .b) e) in
+      let three = next 1 _ (f .c) two (ap (λ (x : Four). x .c) e) in
+      next 2 _ (f .d) three (ap (λ (x : Four). x .d) e)
+    where
+      next : (j : ℕ) (now : List ℕ) (v : ℕ) → Putting xs before at (k + (j + 1)) now → v ≡ column xs (k + (j + 1))
+          → Putting xs before at (k + (j + 1 + 1)) (set now (at + k + (j + 1)) v)
+      next j now v p e =
+          let a : k + (j + 1) + 1 ≡ k + (j + 1 + 1) = omega arith in
+          let b : at + (k + (j + 1)) ≡ at + k + (j + 1) = omega arith in
+          subst (λ (m : ℕ). Putting xs before at (k + (j + 1 + 1)) (set now m v)) b
+          (subst (λ (m : ℕ). Putting xs before at m (set now (at + (k + (j + 1))) v)) a (putting-more (k + (j + 1)) now v p e))
+
+  pub putting-all : (k w : ℕ) (now : List ℕ) → k ≤ w → w ≤ k → Putting xs before at k now → Putting xs before at w now
+  putting-all k w now h l p = let e : k ≡ w = omega arith in subst (λ (m : ℕ). Putting xs before at m now) e p
+
+-- put into an array without rows, they have zeros behind them
+array-is : (w : ℕ) (xs : List ℕ) → w ≤ 64 → stored noRows 0 (transpose w xs) ≡ padded (transpose w xs)
+array-is w xs h =
+    sets-eq (transpose w xs) noRows 0 (omega (arith, length-transpose w xs, length-replicate {A = ℕ} 64 0))
+    ∙ ap (λ (n : ℕ). transpose w xs ++ drop n noRows) (zero-add (length (transpose w xs)))
+    ∙ ap (λ (l : List ℕ). transpose w xs ++ l) (drop-replicate 64 (length (transpose w xs)))
+
+-- ---- with as many rows m and columns w as there can be
+module _ (rows : List ℕ) (many width m w : ℕ) (rowed : m ≡ min many 64) (wide : w ≡ min width 64) where
+  counted : transpose w (places m rows) ≡ transpose (min width 64) (places many rows)
+  counted = ap (λ (n : ℕ). transpose n (places m rows)) wide ∙ ap (transpose (min width 64)) (places-most many m rows rowed)
+
+  pub putting-array : (now : List ℕ) → Putting (places m rows) noRows 0 w now → now ≡ padded (transpose (min width 64) (places many rows))
+  putting-array now p = p .words ∙ array-is w (places m rows) (omega arith) ∙ ap padded counted
+
+  pub puts-there : (before : List ℕ) (at : ℕ) (now : List ℕ) → at + w ≤ length before → Putting (places m rows) before at w now
+      → PutsIn (transpose (min width 64) (places many rows)) before at now
+  puts-there before at now h p = record {
+    fits = λ l. p .words ∙ ap (stored before at) counted;
+    short = λ l. absurd (omega (arith, length-transpose (min width 64) (places many rows)));
+  }
+
+pub puts-short : (xs before : List ℕ) (at width w : ℕ) → w ≡ min width 64 → length before < at + w → PutsIn (transpose (min width 64) xs) before at before
+puts-short xs before at width w e h = record {
+  fits = λ l. absurd (omega (arith, length-transpose (min width 64) xs));
+  short = λ l. refl;
 }
+
+-- the words and the place leave one answer
+pub puts-one : (vs before : List ℕ) (at : ℕ) (x y : List ℕ) → PutsIn vs before at x → PutsIn vs before at y → x ≡ y
+puts-one vs before at x y p q = go (decLt (length before) (at + length vs))
   where
-    go : (i : ℕ) → i < k + 1 → Dec (i ≡ k) → getD (set l k v) i 0 ≡ column xs i
-    go i y (yes d) = ap (λ (m : ℕ). getD (set l k v) m 0) d ∙ getD-set-same l k v 0 (omega (arith, t .size)) ∙ e ∙ ap (column xs) (sym d)
-    go i y (no d) = getD-set-other l k i v 0 d ∙ t .entry i (omega arith)
-
--- and four at once
-pub turning-four : (xs l : List ℕ) (k : ℕ) (f : Four) → k + 3 < 64 → Turning xs l k → f ≡ fourOf xs k
-    → Turning xs (set (set (set (set l k (f .a)) (k + 1) (f .b)) (k + 2) (f .c)) (k + 3) (f .d)) (k + 4)
-turning-four xs l k f h t e =
-    let one = turning-more xs l k (f .a) (omega arith) t (ap (λ (x : Four). x .a) e) in
-    let two = turning-more xs (set l k (f .a)) (k + 1) (f .b) (omega arith) one (ap (λ (x : Four). x .b) e) in
-    let three = turning-more xs (set (set l k (f .a)) (k + 1) (f .b)) (k + 2) (f .c) (omega arith) (at-next two) (ap (λ (x : Four). x .c) e) in
-    at-last (turning-more xs (set (set (set l k (f .a)) (k + 1) (f .b)) (k + 2) (f .c)) (k + 3) (f .d) (omega arith) (at-third three)
-    (ap (λ (x : Four). x .d) e))
-  where
-    at-next : {l : List ℕ} → Turning xs l (k + 1 + 1) → Turning xs l (k + 2)
-    at-next {l} t = subst (Turning xs l) (omega arith) t
-
-    at-third : {l : List ℕ} → Turning xs l (k + 2 + 1) → Turning xs l (k + 3)
-    at-third {l} t = subst (Turning xs l) (omega arith) t
-
-    at-last : {l : List ℕ} → Turning xs l (k + 3 + 1) → Turning xs l (k + 4)
-    at-last {l} t = subst (Turning xs l) (omega arith) t
-
-pub turning-all : (xs l : List ℕ) (k w : ℕ) → k ≡ w → w ≤ 64 → Turning xs l k → l ≡ padded (transpose w xs)
-unfolding transpose
-turning-all xs l k w e h t = pad-ext l (transpose w xs) (t .size) (omega (arith, length-transpose w xs)) (λ i. go i (decLt i w))
-  where
-    go : (i : ℕ) → Dec (i < w) → getD l i 0 ≡ getD (transpose w xs) i 0
-    go i (yes y) = t .entry i (omega arith) ∙ sym (getD-tabulate (column xs) w i y)
-    go i (no y) = t .rest i (omega arith) ∙ sym (row-past (transpose w xs) i (omega (arith, length-transpose w xs)))
+    go : Dec (length before < at + length vs) → x ≡ y
+    go (yes l) = p .short l ∙ sym (q .short l)
+    go (no l) = p .fits (omega arith) ∙ sym (q .fits (omega arith))

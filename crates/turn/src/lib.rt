@@ -1,12 +1,15 @@
 // A set of pairs with gauges and cases exchanged (01: "the table with gauges and cases exchanged"), as many rows and columns of it as are
-// asked for. Any numbers are taken, nothing is refused, and no memory is lent.
+// asked for, as an array or straight into a buffer. Any numbers are taken, and nothing is refused.
 use table::Table;
 ghost use mathlib.Core.Path.{_≡_};
 ghost use Prim.Native.Nat.{_+_, _≤_, _<_, min};
+ghost use lib.ListN.{length};
 ghost use Rattle.table.specs.Tables.{padded};
 ghost use Rattle.transpose.specs.Transposing.{transpose, column as columnOf};
 ghost use Rattle.turn.specs.Places.{places};
+ghost use Rattle.turn.specs.Putting.{PutsIn};
 ghost use Rattle.turn.specs.private.Fours.{fourOf};
+ghost use Rattle.turn.specs.private.Puts.{Putting};
 
 // The rows, and the columns, that there can be.
 const PLACES: usize = Table::MOST_CASES as usize;
@@ -19,29 +22,50 @@ struct Four {
     pub d: u64,
 }
 
-// The first `width` columns of the first `many` rows, at most 64 of each; zeros behind them. Columns are gathered by fours while there are
-// as many, which halves the time.
+// The first `width` columns of the first `many` rows, at most 64 of each; zeros behind them.
 pub fn turned(rows: &[u64; 64], many: usize, width: usize) -> [u64; 64]
     ensures { λ r. ⌜ r ≡ padded (transpose (min width 64) (places many (now (rows .entry)))) ⌝ }
 {
     let last = at_most_places(width);
     let high = at_most_places(many);
     let mut columns = [0u64; 64];
+    put_columns(rows, high, last, &mut columns, 0);
+    columns
+}
+
+// The same columns, straight into a buffer from place `at` on: no array is cleared and copied. Where the buffer has no room for them, nothing changes.
+pub fn turn_into(rows: &[u64; 64], many: usize, width: usize, out: &mut [u64], at: usize)
+    ensures { λ r. ⌜ PutsIn (transpose (min width 64) (places many (now (rows .entry)))) (now (out .entry)) at (now (out .exit)) ⌝ }
+{
+    let last = at_most_places(width);
+    if out.len() < last {
+        return;
+    }
+    if out.len() - last < at {
+        return;
+    }
+    put_columns(rows, at_most_places(many), last, out, at);
+}
+
+// Puts the first `width` columns of the first `many` rows from a place on. They are gathered by fours while there are as many, which halves the time.
+fn put_columns(rows: &[u64; 64], many: usize, width: usize, out: &mut [u64], at: usize)
+    requires { ⌜ (many ≤ 64) × (width ≤ 64) × (at + width ≤ length (now out)) ⌝ }
+    ensures { λ r. ⌜ Putting (places many (now (rows .entry))) (now (out .entry)) at width (now (out .exit)) ⌝ }
+{
     let mut k: usize = 0;
-    while k < last {
-        if k + 4 <= last {
-            let f = four_columns(rows, high, k as u64);
-            columns[k] = f.a;
-            columns[k + 1] = f.b;
-            columns[k + 2] = f.c;
-            columns[k + 3] = f.d;
+    while k < width {
+        if k + 4 <= width {
+            let f = four_columns(rows, many, k as u64);
+            out[at + k] = f.a;
+            out[at + k + 1] = f.b;
+            out[at + k + 2] = f.c;
+            out[at + k + 3] = f.d;
             k += 4;
         } else {
-            columns[k] = column(rows, high, k as u64);
+            out[at + k] = column(rows, many, k as u64);
             k += 1;
         }
     }
-    columns
 }
 
 // `n`, or 64 where it is larger.

@@ -212,6 +212,13 @@ StandsFor r k count f s = StandsBy (FitsOn r) k count f s
 abbrev pub CarriesOn : (State → Move) → List ℕ → List ℕ → ℕ → Phase → ℕ → List ℕ → List ℕ → Report → Type 0
 CarriesOn mv r k count f b c′ k′ o = CarriesBy mv (FitsOn r) (chainOf r) k count f b c′ k′ o
 
+-- what the checks of such a call come to, before it moves: a refusal, or a spot that holds the value's state
+pub record Opens (n : ℕ) (rows k : List ℕ) (count : ℕ) (f : Phase) (b : ℕ) (c′ : List ℕ) (o : Report) : Type 0 where
+  pub value : ((s : State) → StandsFor (take n rows) k count f s → ⊥) → o .outcome ≡ Refused NotReached
+  pub large : (s : State) → StandsFor (take n rows) k count f s → mostBudget < b → o .outcome ≡ Refused BudgetTooLarge
+  pub opens : (s : State) → StandsFor (take n rows) k count f s → b ≤ mostBudget → (o .outcome ≡ Spent) × (stateOf k (o .spot) ≡ s)
+  pub holds : ((why : Refusal) → o .outcome ≡ Refused why → ⊥) → (b ≤ mostBudget) × Holds n rows c′ k (o .spot)
+
 -- ---- under a preference, on the rows r
 -- the moves of the core: rules 1 to 5 by place, and where it omits, nothing is given of a set that has no pair of w
 unfoldable pub placedMove : List ℕ → List ℕ → Bool → List ℕ → State → Move

@@ -1,0 +1,2 @@
+-- What a reader must believe of batches on lent words.
+pub mod Serving
