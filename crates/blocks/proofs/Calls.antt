@@ -1,7 +1,7 @@
 -- The calls of a block, so many from a state on, each with the greatest budget.
 --
--- In order: lists in two parts; so many calls and then more (`calls-more`); one call more (`calls-one`, `after-one`, `text-one`, `has-one`); the
--- state after them is reached (`reached-after`); a call that hands something out has a file (`added-some`), so the calls stop (`calls-stop-at`);
+-- In order: lists in two parts; so many calls and then more (`calls-more`, `after-more`, `text-more`, `has-more`); one call more; the state after them
+-- is reached (`reached-after`); a call that hands something out has a file (`added-some`), so the calls stop (`calls-stop-at`);
 -- those of a run that omits nothing stop at the end alone (`stop-ends`).
 --
 -- Elsewhere: a set handed out is one of the table's (Chains.antt); the block that the calls fill (Fillings.antt).
@@ -61,8 +61,13 @@ file-pos : (t : Table) → 0 < length (writeFile t)
 unfolding writeFile
 file-pos t = simp length-append (omega arith)
 
+-- sets have files
+pub files-some : (t : Table) (xs : List (List ℕ)) → 0 < length xs → 0 < length (files t xs)
+files-some t [] h = absurd (omega arith)
+files-some t (x ∷ xs) h = omega (arith, length-append (writeFile (pairTable t x)) (files t xs), file-pos (pairTable t x))
+
 -- a call that hands a set out has a file, and that has a byte
-pub added-some : (t : Table) (a : Reply) → isNone a ≡ false → 0 < length (files t (answered a []))
+added-some : (t : Table) (a : Reply) → isNone a ≡ false → 0 < length (files t (answered a []))
 added-some t (refused n) e = let q : _≡_ {A = ℕ} 0 1 = cc in absurd (omega arith)
 added-some t spent e = let q : _≡_ {A = ℕ} 0 1 = cc in absurd (omega arith)
 added-some t (handed x) e = omega (arith, length-append (writeFile (pairTable t x)) [], file-pos (pairTable t x))
@@ -80,22 +85,34 @@ module _ (t : Table) (order : List ℕ) (omit : Bool) where
   calls-more zero m s = ap (λ (k : ℕ). calls t order omit k s) (zero-add m)
   calls-more (suc n) m s = ap (λ (k : ℕ). calls t order omit k s) (suc-add n m) ∙ ap (λ (cs : List Call). made s ∷ cs) (calls-more n m (next s))
 
+  pub after-more : (n m : ℕ) (s : State) → after t order omit (n + m) s ≡ after t order omit m (after t order omit n s)
+  after-more zero m s = ap (λ (k : ℕ). after t order omit k s) (zero-add m)
+  after-more (suc n) m s = ap (λ (k : ℕ). after t order omit k s) (suc-add n m) ∙ after-more n m (next s)
+
+  pub text-more : (n m : ℕ) (s : State) → text t order omit (n + m) s ≡ text t order omit n s ++ text t order omit m (after t order omit n s)
+  text-more n m s =
+      let more : List Call = calls t order omit m (after t order omit n s) in
+      ap (λ (cs : List Call). files t (handouts cs)) (calls-more n m s) ∙ ap (files t) (handouts-append (calls t order omit n s) more)
+      ∙ files-append t (handouts (calls t order omit n s)) (handouts more)
+
+  pub has-more : (q : Reply → Bool) (n m : ℕ) (s : State) → has q (calls t order omit n s) ≡ false
+      → has q (calls t order omit (n + m) s) ≡ has q (calls t order omit m (after t order omit n s))
+  has-more q n m s e =
+      let more : List Call = calls t order omit m (after t order omit n s) in
+      ap (has q) (calls-more n m s) ∙ has-append q (calls t order omit n s) more ∙ ap (λ (b : Bool). b || has q more) e
+
   -- ---- one call more
   calls-one : (n : ℕ) (s : State) → calls t order omit (suc n) s ≡ calls t order omit n s ++ (made (after t order omit n s) ∷ [])
   calls-one zero s = refl
   calls-one (suc n) s = ap (λ (cs : List Call). made s ∷ cs) (calls-one n (next s))
 
-  pub after-one : (n : ℕ) (s : State) → after t order omit (suc n) s ≡ made (after t order omit n s) .next
-  after-one zero s = refl
-  after-one (suc n) s = after-one n (next s)
-
-  pub text-one : (n : ℕ) (s : State) → text t order omit (suc n) s ≡ text t order omit n s ++ files t (answered (made (after t order omit n s) .answer) [])
+  text-one : (n : ℕ) (s : State) → text t order omit (suc n) s ≡ text t order omit n s ++ files t (answered (made (after t order omit n s) .answer) [])
   text-one n s =
       let c : Call = made (after t order omit n s) in
       ap (λ (cs : List Call). files t (handouts cs)) (calls-one n s) ∙ ap (files t) (handouts-append (calls t order omit n s) (c ∷ []))
       ∙ files-append t (handouts (calls t order omit n s)) (answered (c .answer) [])
 
-  pub has-one : (q : Reply → Bool) (n : ℕ) (s : State) → has q (calls t order omit n s) ≡ false
+  has-one : (q : Reply → Bool) (n : ℕ) (s : State) → has q (calls t order omit n s) ≡ false
       → has q (calls t order omit (suc n) s) ≡ q (made (after t order omit n s) .answer)
   has-one q n s e =
       let c : Call = made (after t order omit n s) in
@@ -145,7 +162,7 @@ pub stop-ends : (t : Table) (order : List ℕ) → Started gaugeSide t order →
     → ReachedOn (gaugeSide t) (arrangement (gaugeSide t) order) s → has isNone (calls t order false n s) ≡ true → has isEnd (calls t order false n s) ≡ true
 stop-ends t order g zero s h e = e
 stop-ends t order g (suc n) s h e =
-    go (made t order false s .answer) (never-spent t order g s h)
+    go (made t order false s .answer) (never-spent t order g mostBudget (omega arith) (omega arith) s h)
     (only18-by (movesOf t (gaugeSide t) (arrangement (gaugeSide t) order) false) (handOut (gaugeSide t)) mostBudget s .else (omega arith)) e
     (stop-ends t order g n (next t order false s) (reached-after t order false 1 s h))
   where

@@ -73,16 +73,16 @@ handed-within t order omit s x e =
     let p = says-handed (handOut (gaugeSide t)) (lastBy mv (c .moves) s) x (sym (w .last) ∙ e) in
     subst (Within (tableRows t)) (p .1) (chainOf-within (tableRows t) (p .0))
 
--- a run that omits nothing is never spent by the greatest budget: nor is the one by number, on the arranged rows, that it follows
-pub never-spent : (t : Table) (order : List ℕ) → Started gaugeSide t order → (s : State) → ReachedOn (gaugeSide t) (arrangement (gaugeSide t) order) s
-    → callOn (gaugeSide t) (arrangement (gaugeSide t) order) mostBudget s .answer ≡ spent → ⊥
-never-spent t order g s r e =
+-- a run that omits nothing is never spent by a budget of 129 or more: nor is the one by number, on the arranged rows, that it follows
+pub never-spent : (t : Table) (order : List ℕ) → Started gaugeSide t order → (b : ℕ) → 129 ≤ b → b ≤ mostBudget → (s : State)
+    → ReachedOn (gaugeSide t) (arrangement (gaugeSide t) order) s → callOn (gaugeSide t) (arrangement (gaugeSide t) order) b s .answer ≡ spent → ⊥
+never-spent t order g b low high s r e =
     let p = reached-placed side o (g .fair .counted) (g .arranged) s .0 r in
     let z : State = p .state in
-    let c : Call = callBy (move (candidates rows)) (handOut (prefer o side)) mostBudget z in
-    let same : callOn side o mostBudget s ≡ renamedCall (indexAt o) c =
-    ap (callOn side o mostBudget) (sym (p .is))
-    ∙ call-renamed (follows side o (g .fair .counted) (g .arranged)) (same-out side o (g .fair .counted) (g .arranged)) mostBudget z (p .good) in
+    let c : Call = callBy (move (candidates rows)) (handOut (prefer o side)) b z in
+    let same : callOn side o b s ≡ renamedCall (indexAt o) c =
+    ap (callOn side o b) (sym (p .is))
+    ∙ call-renamed (follows side o (g .fair .counted) (g .arranged)) (same-out side o (g .fair .counted) (g .arranged)) b z (p .good) in
     by-number z (p .good) (sym (ap (λ (x : Call). x .answer) same) ∙ e)
   where
     side : Side
@@ -95,14 +95,14 @@ never-spent t order g s r e =
     rows = prefer o side .rows
 
     by-number : (z : State) → Fits (candidates rows) (z .picks) (z .phase)
-        → callBy (move (candidates rows)) (handOut (prefer o side)) mostBudget z .answer ≡ spent → ⊥
+        → callBy (move (candidates rows)) (handOut (prefer o side)) b z .answer ≡ spent → ⊥
     by-number z h e =
         let kids : List ℕ → List ℕ = candidates rows in
         let n : ℕ = length rows in
-        let c : Call = callBy (move kids) (handOut (prefer o side)) mostBudget z in
+        let c : Call = callBy (move kids) (handOut (prefer o side)) b z in
         let p : Paid spent (c .moves) (cost n (c .next .picks) (c .next .phase)) (cost n (z .picks) (z .phase)) =
-        rw e at (call-law kids (handOut (prefer o side)) n (candidate-tree rows) mostBudget z h .paid) in
-        let m : c .moves ≡ mostBudget = calls-spent kids (handOut (prefer o side)) (mostBudget ∷ []) z .0 (omega arith) .only e .0 in
+        rw e at (call-law kids (handOut (prefer o side)) n (candidate-tree rows) b z h .paid) in
+        let m : c .moves ≡ b = calls-spent kids (handOut (prefer o side)) (b ∷ []) z .0 high .only e .0 in
         omega (
           arith,
           p,
@@ -110,6 +110,6 @@ never-spent t order g s r e =
           length-arrange (t .gauges) o (g .arranged) (tableRows t),
           g .legal .gauges-high,
           cost-lap kids n (candidate-tree rows) (z .picks) (z .phase) h,
-          cost-pos n (c .next .picks)
-              (c .next .phase),
+          cost-pos n (c .next .picks) (c .next .phase),
+          low,
         )

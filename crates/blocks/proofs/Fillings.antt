@@ -1,29 +1,27 @@
 -- Turns one after another are what `Fills` says of a block, and each return of `fill` is what `Filled` says.
 --
 -- In order: a block so far (`UpTo`), as it starts and after a turn (`upto-start`, `upto-turn`); where it stops it is `Fills` (`full-on`, `stop-on`),
--- and elsewhere it goes on (`going-on`); a turn that hands something out has a file (`some-turn`), so the turns come to an end; what `fill`
+-- and elsewhere it goes on (`going-on`); a turn in which each call hands something out has a file (`some-on`), so the turns come to an end; what `fill`
 -- answers.
 use mathlib.Core.Path.{_≡_, refl, sym, ap, ap₂, _∙_, subst}
 use mathlib.Core.Logic.{inl, inr}
 use mathlib.Core.Bool.{Bool, true, false}
-use mathlib.Core.List.{List, [], _++_, append-assoc}
-use Prim.Native.Nat.{ℕ, suc, _+_, _≤_, _<_}
-use native.Mathlib.Decide.{ℕ-discrete}
+use mathlib.Core.List.{List, _++_, append-assoc}
+use Prim.Native.Nat.{ℕ, _+_, _-_, _≤_, _<_}
+use native.Mathlib.Decide.{decLt}
 use native.Mathlib.Omega.{arith}
 use lib.ListN.{length, take, drop, length-append}
 use lib.Seq.{take-at, drop-drop, drop-append-add}
 use Rattle.table.specs.declared.Table.{Table}
 use Rattle.rules.specs.Machine.{State}
-use Rattle.rules.specs.Calls.{Call, mostBudget, answered}
 use Rattle.lists.specs.Lists.{gaugeSide}
 use Rattle.lists.specs.OnTable.{ReachedOn}
 use Rattle.runs.specs.Paused.{Value, paused, blankValue}
 use Rattle.preference.specs.Preferences.{preferredRefusal}
 use Rattle.runs.specs.Calling.{arrangement, valueRefusal, PausedAt}
-use Rattle.runs.specs.private.Either.{callOf}
-use Rattle.blocks.specs.Filling.{files, longest, Filling, calls, after, text, isEnd, isNone, has, Untouched, Stops, Fills, Filled}
+use Rattle.blocks.specs.Filling.{longest, Filling, calls, after, text, isEnd, isNone, has, Untouched, Stops, Fills, Filled}
 use Rattle.blocks.specs.private.Turning.{Checked, placed, Added, Turned, FillsOn}
-use Rattle.blocks.proofs.Calls.{none-ends, text-one, after-one, has-one, reached-after, added-some}
+use Rattle.blocks.proofs.Calls.{none-ends, after-more, text-more, has-more, reached-after}
 
 -- ---- a block so far
 abbrev pub going : Value → ℕ → Bool → Filling
@@ -78,46 +76,54 @@ module _ (t : Table) (order : List ℕ) (omit : Bool) (ok : preferredRefusal t (
     over = h .over;
   }
 
-  goes-on : (n used : ℕ) (v : Value) (mid : List ℕ) → UpTo t order omit s before n false (going v used false) mid → used + longest ≤ length before
-      → ¬ Stops t order omit s (length before) n
-  goes-on n used v mid h room (inl e) = let z : _≡_ {A = Bool} false true = h .stopped ∙ e in let y : _≡_ {A = ℕ} 0 1 = cc in omega arith
-  goes-on n used v mid h room (inr l) = omega (arith, l, h .used, room)
-
   module _ (n used : ℕ) (v : Value) (mid : List ℕ) (h : UpTo t order omit s before n false (going v used false) mid) (w : Value) (next : ℕ) (stop over : Bool)
       (now : List ℕ) (turn : Turned v mid used w next stop over now) (same : length mid ≡ length before) (room : used + longest ≤ length before) where
-    abbrev made : Call
-    made = callOf t (gaugeSide t) (arrangement (gaugeSide t) order) omit mostBudget (after t order omit n s)
-
-    adds : Added t order omit made mid used w next stop over now
+    adds : Added t order omit (after t order omit n s) mid used w next stop over now
     adds =
         subst (λ (y : Value). Turned y mid used w next stop over now) (h .value) turn .adds ok (after t order omit n s)
         (record { reached = reached-after t order omit n s reached; stands = refl }) (omega (arith, same, room))
 
-    -- a turn more
-    upto-turn : UpTo t order omit s before (suc n) stop (going w next over) now
+    quiet : has isNone (calls t order omit n s) ≡ false
+    quiet = sym (h .stopped)
+
+    -- so many calls more
+    upto-turn : UpTo t order omit s before (n + adds .many) stop (going w next over) now
     upto-turn = record {
-      sooner = λ k l. sooner k l (ℕ-discrete k n);
+      sooner = λ k l. sooner k l (decLt k n);
       used =
           adds .place ∙ ap (λ (k : ℕ). k + length more) (h .used) ∙ sym (length-append (text t order omit n s) more)
-          ∙ ap length (sym (text-one t order omit n s));
+          ∙ ap length (sym (text-more t order omit n (adds .many) s));
       bytes =
           bytes-more (text t order omit n s) more before mid now used next (h .used) (h .bytes) (adds .place) (adds .bytes)
-          ∙ ap (λ (y : List ℕ). y ++ drop next before) (sym (text-one t order omit n s));
-      value = adds .value ∙ ap (paused t order omit) (sym (after-one t order omit n s));
-      stopped = adds .stops ∙ sym (has-one t order omit isNone n s (sym (h .stopped)));
-      over = adds .ends ∙ sym (has-one t order omit isEnd n s (sym (h .over)));
+          ∙ ap (λ (y : List ℕ). y ++ drop next before) (sym (text-more t order omit n (adds .many) s));
+      value = adds .value ∙ ap (paused t order omit) (sym (after-more t order omit n (adds .many) s));
+      stopped = adds .stops ∙ sym (has-more t order omit isNone n (adds .many) s quiet);
+      over = adds .ends ∙ sym (has-more t order omit isEnd n (adds .many) s (sym (h .over)));
     }
       where
         more : List ℕ
-        more = files t (answered (made .answer) [])
+        more = text t order omit (adds .many) (after t order omit n s)
 
-        sooner : (k : ℕ) → k < suc n → Dec (k ≡ n) → ¬ Stops t order omit s (length before) k
-        sooner k l (yes e) = subst (λ (j : ℕ). ¬ Stops t order omit s (length before) j) (sym e) (goes-on n used v mid h room)
-        sooner k l (no e) = h .sooner k (omega arith)
+        -- the calls before these, and these
+        later : (i : ℕ) → Stops t order omit s (length before) (n + i) → Stops t order omit (after t order omit n s) (length mid - used) i
+        later i (inl e) = inl (sym (has-more t order omit isNone n i s quiet) ∙ e)
+        later i (inr l) =
+            inr (omega (
+              arith,
+              l,
+              h .used,
+              ap length (text-more t order omit n i s),
+              length-append (text t order omit n s) (text t order omit i (after t order omit n s)),
+              same,
+              room,
+            ))
 
-    -- one that hands something out has a file
-    some-turn : stop ≡ false → used < next
-    some-turn e = omega (arith, adds .place, added-some t (made .answer) (sym (adds .stops) ∙ e))
+        sooner : (k : ℕ) → k < n + adds .many → Dec (k < n) → ¬ Stops t order omit s (length before) k
+        sooner k l (yes e) = h .sooner k e
+        sooner k l (no e) =
+            let i : ℕ = k - n in
+            let d : k ≡ n + i = omega arith in
+            λ z. adds .sooner i (omega arith) (later i (subst (Stops t order omit s (length before)) d z))
 
 -- ---- the returns of `fill_on`, and a turn of its loop, for every value
 module _ (v : Value) (before : List ℕ) where
@@ -157,12 +163,13 @@ module _ (v : Value) (before : List ℕ) where
     pub turn-on : UpToOn v before stop (going w next over) now
     turn-on ok s p l =
         let (n, x) = h ok s p l in
-        (suc n, upto-turn (v .table) (v .order) (v .omit) ok s (p .reached) before n used u mid x w next stop over now turn same room)
+        let a = adds (v .table) (v .order) (v .omit) ok s (p .reached) before n used u mid x w next stop over now turn same room in
+        (n + a .many, upto-turn (v .table) (v .order) (v .omit) ok s (p .reached) before n used u mid x w next stop over now turn same room)
 
     pub some-on : valueRefusal gaugeSide v ≡ 0 → (s : State) → PausedAt gaugeSide v s → longest ≤ length before → stop ≡ false → used < next
     some-on ok s p l =
         let (n, x) = h ok s p l in
-        some-turn (v .table) (v .order) (v .omit) ok s (p .reached) before n used u mid x w next stop over now turn same room
+        adds (v .table) (v .order) (v .omit) ok s (p .reached) before n used u mid x w next stop over now turn same room .some
 
 -- ---- what `fill` answers
 abbrev pub refusing : ℕ → Filling

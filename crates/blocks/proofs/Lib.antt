@@ -2,6 +2,7 @@
 -- leaves one answer.
 pub mod Chains
 pub mod Calls
+pub mod Batching
 pub mod OneTurn
 pub mod Fillings
 pub mod Deciding

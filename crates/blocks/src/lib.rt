@@ -1,7 +1,7 @@
 // Blocks of files: a lent buffer is filled with the files of the sets that successive calls of the gauge run hand out, as many as have room
 // for sure, and the blocks one after another are the files of the run's list. In each call of the greatest budget a run that omits nothing
-// hands a ladder out or ends; one that omits may be spent, and its block stops there. No public function has a `requires`; nothing outside
-// the lent buffer is kept.
+// hands a ladder out or ends; one that omits may be spent, and its block stops there. The calls are made in batches, so that a value is checked
+// and copied once for many ladders. No public function has a `requires`; nothing outside the lent buffer is kept.
 use preference::GaugeOrder;
 use refusals::Refusal;
 use refusals::Verdict;
@@ -10,24 +10,28 @@ use runs::GaugePicks;
 use runs::GaugeRun;
 use runs::Outcome;
 use runs::Phase;
-use table::Chain;
 use table::Table;
 use writer;
 use writer::Written;
 ghost use mathlib.Core.Path.{_≡_};
 ghost use mathlib.Core.Bool.{false};
-ghost use Prim.Native.Nat.{_≤_};
-ghost use lib.ListN.{length};
+ghost use Prim.Native.Nat.{_+_, _≤_, _<_};
+ghost use lib.ListN.{length, take, drop};
+ghost use Rattle.table.specs.Tables.{padded};
 ghost use Rattle.refusals.specs.Answers.{verdict, number};
 ghost use Rattle.runs.specs.Paused.{gaugeValue, blankValue};
-ghost use Rattle.blocks.specs.Filling.{Filled, filling, CarriesList};
-ghost use Rattle.blocks.specs.private.Turning.{Checked, FillsOn, Put, Turned};
+ghost use Rattle.runs.specs.private.Listing.{wordsOf};
+ghost use Rattle.blocks.specs.Filling.{Filled, filling, CarriesList, longest};
+ghost use Rattle.blocks.specs.private.Turning.{Checked, FillsOn, Put, PutAll, Lent, Turned, shape, ladders};
 
 // The moves asked of one call: the greatest budget.
 const BUDGET: u64 = 1_000_000;
 
 // The longest file that the writer makes: the full 64 by 64 table.
 const LONGEST: usize = 23_484;
+
+// The words lent to a batch at most: 16 ladders of 64 gauges, 128 of 8.
+const WORDS: usize = 1024;
 
 // A block: the run after its calls, the bytes used, and whether the list ended in it; or a refusal.
 pub struct Block {
@@ -66,6 +70,7 @@ fn fill_on(start: GaugeRun, out: &mut [u8]) -> Block
     ensures { λ r. ⌜ FillsOn (gaugeValue start) (now (out .entry)) (filling r) (now (out .exit)) ⌝ }
 {
     let most = out.len();
+    let mut words = [0u64; 1024];
     let mut run = start;
     let mut used: usize = 0;
     let mut turns = most;
@@ -73,7 +78,7 @@ fn fill_on(start: GaugeRun, out: &mut [u8]) -> Block
         if most - used < LONGEST {
             return accept(run, used, false);
         }
-        let turn = list_one(run, out, used);
+        let turn = list_some(run, &mut words, out, used);
         let next = turn.run;
         let place = turn.next;
         if turn.stop {
@@ -135,59 +140,118 @@ fn check_run(run: GaugeRun) -> Verdict
     Verdict::Accepted
 }
 
-// One call of the run, and behind the first `at` bytes the file of the ladder that it hands out, if it does.
-fn list_one(run: GaugeRun, out: &mut [u8], at: usize) -> Turn
-    requires { ⌜ at ≤ length (now out) ⌝ }
+// One batch of calls of the run, and behind the first `at` bytes the files of the ladders that it hands out.
+fn list_some(run: GaugeRun, words: &mut [u64], out: &mut [u8], at: usize) -> Turn
+    requires { ⌜ (length (now words) ≡ 1024) × (at + longest ≤ length (now out)) ⌝ }
     ensures { λ r. ⌜ Turned (gaugeValue run) (now (out .entry)) at (gaugeValue (r .run)) (r .next) (r .stop) (r .over) (now (out .exit)) ⌝ }
 {
-    let step = runs::run_gauges(run, BUDGET);
-    let outcome = step.outcome;
-    let chain = step.chain;
-    let next = step.next;
     let t = run.table;
+    let gauges = t.gauges;
     let cases = t.cases;
+    let room = out.len() - at;
+    let many = lend(gauges, cases, run.omit, room);
+    let from = 0;
+    let batch = runs::list_gauges(run, BUDGET, &mut words[from..many]);
+    let outcome = batch.outcome;
+    let next = batch.next;
+    let place = put_ladders(gauges, cases, words, batch.ladders as usize, out, at);
     match outcome {
-        Outcome::HandedOut => {
-            let place = put_chain(chain, cases, out, at);
-            Turn {
-                run: next,
-                next: place,
-                stop: false,
-                over: false,
-            }
-        }
-        Outcome::Spent => Turn {
-            run: next,
-            next: at,
-            stop: true,
-            over: false,
-        },
-        Outcome::End => Turn {
-            run: next,
-            next: at,
-            stop: true,
-            over: true,
-        },
-        Outcome::Refused(_) => Turn {
-            run: next,
-            next: at,
-            stop: true,
-            over: true,
-        },
+        Outcome::HandedOut => turned(next, place, false, false),
+        Outcome::Spent => turned(next, place, true, false),
+        Outcome::End => turned(next, place, true, true),
+        Outcome::Refused(_) => turned(next, place, true, true),
     }
 }
 
-// A ladder as a file behind the first `at` bytes: it has the table's shape and its own pairs.
-fn put_chain(chain: Chain, cases: u64, out: &mut [u8], at: usize) -> usize
-    requires { ⌜ at ≤ length (now out) ⌝ }
-    ensures { λ r. ⌜ Put (record { gauges = chain .gauges; cases = cases; rows = chain .rows }) (now (out .entry)) at r (now (out .exit)) ⌝ }
+fn turned(run: GaugeRun, next: usize, stop: bool, over: bool) -> Turn
+    ensures { λ r. ⌜ r ≡ record { run = run; next = next; stop = stop; over = over } ⌝ }
 {
-    let rows = chain.rows;
-    let t = Table {
-        gauges: chain.gauges,
-        cases: cases,
-        rows: rows,
-    };
+    Turn {
+        run: run,
+        next: next,
+        stop: stop,
+        over: over,
+    }
+}
+
+// The words for as many ladders as are called for whatever their files: a call follows while the longest file has room, and a ladder of a table
+// has at most 60 bytes and 6 for each pair that there can be. A run that omits may be spent, so it makes one call at a time.
+fn lend(gauges: u64, cases: u64, omit: bool, room: usize) -> usize
+    requires { ⌜ longest ≤ room ⌝ }
+    ensures { λ r. ⌜ Lent gauges cases omit room r ⌝ }
+{
+    // of no table: the batch is refused
+    if gauges == 0 {
+        return 0;
+    }
+    if Table::MOST_GAUGES < gauges {
+        return 0;
+    }
+    if Table::MOST_CASES < cases {
+        return 0;
+    }
+    let g = gauges as usize;
+    if omit {
+        return g;
+    }
+    let size = 60 + g * (6 * (cases as usize));
+    let more = (room - LONGEST) / size;
+    let most = WORDS / g;
+    if more < most {
+        return (more + 1) * g;
+    }
+    most * g
+}
+
+// The files of the first `many` ladders of `words`, one after another behind the first `at` bytes.
+fn put_ladders(
+    gauges: u64,
+    cases: u64,
+    words: &[u64],
+    many: usize,
+    out: &mut [u8],
+    at: usize,
+) -> usize
+    requires { ⌜ (at ≤ length (now out)) × (0 < many → gauges ≤ 64) × (wordsOf gauges many ≤ length (now words)) ⌝ }
+    ensures { λ r. ⌜ PutAll (shape gauges cases) (ladders gauges many (now (words .entry))) (now (out .entry)) at r (now (out .exit)) ⌝ }
+{
+    let g = gauges as usize;
+    let mut place = at;
+    let mut from: usize = 0;
+    let mut left = many;
+    while 0 < left {
+        let rows = ladder_at(words, from, g);
+        let t = Table {
+            gauges: gauges,
+            cases: cases,
+            rows: rows,
+        };
+        place = put_table(t, out, place);
+        from += g;
+        left -= 1;
+    }
+    place
+}
+
+// The ladder of `g` words from a place on.
+fn ladder_at(words: &[u64], from: usize, g: usize) -> [u64; 64]
+    requires { ⌜ (from + g ≤ length (now words)) × (g ≤ 64) ⌝ }
+    ensures { λ r. ⌜ r ≡ padded (take g (drop from (now (words .entry)))) ⌝ }
+{
+    let mut rows = [0u64; 64];
+    let mut i: usize = 0;
+    while i < g {
+        rows[i] = words[from + i];
+        i += 1;
+    }
+    rows
+}
+
+// A table as a file behind the first `at` bytes.
+fn put_table(t: Table, out: &mut [u8], at: usize) -> usize
+    requires { ⌜ at ≤ length (now out) ⌝ }
+    ensures { λ r. ⌜ Put t (now (out .entry)) at r (now (out .exit)) ⌝ }
+{
     let written = writer::write(t, &mut out[at..]);
     match written {
         Written::Length(n) => at + n,

@@ -38,7 +38,7 @@ use Rattle.runs.specs.private.Either.{callOf, CalledOf}
 use Rattle.runs.proofs.Demands.{Started}
 use Rattle.blocks.specs.Filling.{calls, after}
 use Rattle.blocks.proofs.Chains.{handed-within, never-spent}
-use Rattle.blocks.proofs.Calls.{handouts-append, calls-more, after-one, reached-after}
+use Rattle.blocks.proofs.Calls.{handouts-append, calls-more, after-more, reached-after}
 use Rattle.blocks.proofs.PlainBlocks.{plain-started, plain-list}
 use Rattle.boards.specs.Boards.{board, corner}
 use Rattle.boards.proofs.Boards.{Fits8, small-within}
@@ -97,7 +97,8 @@ module _ (v : Value) (r : Step) (called : CalledOf gaugeSide v mostBudget r) whe
   hands-end e b w l d o s p = no-more l d o s p (same-answer l d o s p ∙ e) b w
 
   pub hands-spent : r .answer ≡ spent → (b : ℕ) (w : Value) → Hands v true b w
-  hands-spent e b w l d o s p = absurd (never-spent (v .table) (v .order) (begun l d o s p) s (p .reached) (same-answer l d o s p ∙ e))
+  hands-spent e b w l d o s p =
+      absurd (never-spent (v .table) (v .order) (begun l d o s p) mostBudget (omega arith) (omega arith) s (p .reached) (same-answer l d o s p ∙ e))
 
   pub hands-refused : (n : ℕ) → r .answer ≡ refused n → (b : ℕ) (w : Value) → Hands v true b w
   hands-refused n e b w l d o s p =
@@ -218,7 +219,7 @@ module _ (t : Table) (h : SmallTable t) (n : ℕ) (v : Value) (boards : List ℕ
     board-is = handed-out .2 ∙ set-board t h x (handed-within t (order t) false state x (handed-out .1))
 
     next-state : after t (order t) false (n + 1) fresh ≡ last .next
-    next-state = let e : n + 1 ≡ suc n = omega arith in ap (λ (k : ℕ). after t (order t) false k fresh) e ∙ after-one t (order t) false n fresh
+    next-state = after-more t (order t) false n 1 fresh
 
     listing-next : n < mostLadders → Listing t (n + 1) w (set boards n b)
     listing-next l = record {

@@ -1,11 +1,12 @@
--- How long the file is: of a table at most 23,484 bytes (`write-length`), and that for the full table (`full-length`); of a test at most
--- 60,348 (`test-length`), and that for 64 by 64 entries with the reading -1,000,000 (`longest-length`).
+-- How long the file is: of a table at most 23,484 bytes (`write-length`), and that for the full table (`full-length`), and at most 60 and 6 for each
+-- pair that there can be (`write-six`); of a test at most 60,348 (`test-length`), and that for 64 by 64 entries with the reading -1,000,000
+-- (`longest-length`).
 use Prim.Native.Nat.{ℕ, zero, suc, _+_, _-_, _*_, _/_, _^_, _≤_}
-use mathlib.Core.Path.{_≡_, refl, ap}
+use mathlib.Core.Path.{_≡_, refl, ap, subst}
 use mathlib.Core.Bool.{Bool, true, _&&_}
 use mathlib.Core.List.{List, [], _∷_, _++_}
 use native.Mathlib.Omega.{arith}
-use native.Mathlib.Nat.{mul-le-mul-right}
+use native.Mathlib.Nat.{mul-le-mul-left, mul-le-mul-right, suc-mul}
 use lib.Dec.{leb}
 use lib.IntN.{ℤ, pos, negsuc}
 use lib.ListN.{length, replicate, length-append, getD-replicate}
@@ -79,6 +80,28 @@ pairs-size cs g (r ∷ rs) h =
 pairs-bytes : (cs : ℕ) (rs : List ℕ) → cs ≤ 64 → length rs ≤ 64 → length (linesOf pairText (pairsFrom cs 1 rs)) ≤ 23424
 pairs-bytes cs rs h k = omega (arith, pairs-size cs 1 rs h, widths-bound (length rs) k)
 
+-- at most six bytes for each pair that there can be: both numbers have at most two digits
+widths-two : (n c : ℕ) → n + c ≤ 100 → widths n c ≤ 2 * n
+unfolding widths
+widths-two zero c h = omega arith
+widths-two (suc n) c h = omega (arith, decimal-width 9 1 c (omega arith), widths-two n (suc c) (omega arith))
+
+pairs-six : (cs g : ℕ) (rs : List ℕ) → cs ≤ 64 → g + length rs ≤ 65 → length (linesOf pairText (pairsFrom cs g rs)) ≤ length rs * (6 * cs)
+unfolding pairsFrom
+pairs-six cs g [] h k = omega arith
+pairs-six cs g (r ∷ rs) h k =
+    omega (
+      arith,
+      row-size (gaugeOf g) cs 1 r (pairsFrom cs (suc g) rs),
+      pairs-six cs (suc g) rs h (omega arith),
+      widths-two cs 1 (omega arith),
+      mul-le-mul-left cs two,
+      suc-mul (length rs) (6 * cs),
+    )
+  where
+    two : length (digits g) + 2 ≤ 4
+    two = omega (arith, decimal-width 9 1 g (omega arith))
+
 -- the lines of either kind
 pub lines-bytes : (kind : Kind) (vs : List ℤ) → Suits kind vs → (cs : ℕ) (rs : List ℕ) → cs ≤ 64 → length rs ≤ 64
     → length (linesOf (entryText kind vs) (pairsFrom cs 1 rs)) ≤ 60288
@@ -125,6 +148,15 @@ module _ (t : Table) (ok : Legal t) where
   pub write-length : length (writeFile t) ≤ 23484
   unfolding writeFile
   write-length = omega (arith, beside Pattern [], pairs-bytes (t .cases) (tableRows t) (ok .cases-high) rows-few)
+
+  pub write-six : length (writeFile t) ≤ 60 + t .gauges * (6 * t .cases)
+  unfolding writeFile
+  write-six =
+      let few : 1 + length (tableRows t) ≤ 65 = omega (arith, rows-few) in
+      let lines : length (linesOf pairText (pairs t)) ≤ t .gauges * (6 * t .cases) =
+      subst (λ (n : ℕ). length (linesOf pairText (pairs t)) ≤ n * (6 * t .cases)) (length-rows t ok)
+      (pairs-six (t .cases) 1 (tableRows t) (ok .cases-high) few) in
+      omega (arith, beside Pattern [], lines)
 
   file-bound : (kind : Kind) (vs : List ℤ) → Suits kind vs → length (fileOf kind vs t) ≤ 60348
   file-bound kind vs f = omega (arith, beside kind vs, lines-bytes kind vs f (t .cases) (tableRows t) (ok .cases-high) rows-few)

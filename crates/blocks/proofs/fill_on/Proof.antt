@@ -21,25 +21,25 @@ abbrev Lasts : Value → ℕ → ℕ → ℕ → ℕ → Type 0
 Lasts v room most used turns = valueRefusal gaugeSide v ≡ 0 → (s : State) → PausedAt gaugeSide v s → longest ≤ room → most ≤ used + turns
 
 abbrev Inv-loop : tie.InvT-loop
-Inv-loop out₀ most run₀ used₀ turns₀ out run used turns =
+Inv-loop out₀ most words₀ run₀ used₀ turns₀ out words run used turns =
     (most ≡ length out₀) × (used ≤ length out) × (length out ≡ length out₀) × UpToOn (gaugeValue run₀) out₀ false (going (gaugeValue run) used false) out
-    × Lasts (gaugeValue run₀) (length out₀) most used turns
+    × Lasts (gaugeValue run₀) (length out₀) most used turns × (length words ≡ 1024)
 
 abbrev μ-loop : tie.MeasureT-loop
-μ-loop out₀ most run₀ used₀ turns₀ out run used turns = turns
+μ-loop out₀ most words₀ run₀ used₀ turns₀ out words run used turns = turns
 
 -- ---- places on the way: the loop and the start, from the turn
 abbrev round : tie.After-slice-known2 Inv-loop μ-loop → tie.At-loop Inv-loop μ-loop
-round k = k .before .before .before .before .before .before
+round k = k .before .before .before .before .before .before .before .before
 
 abbrev start : tie.After-slice-known2 Inv-loop μ-loop → tie.Start Inv-loop μ-loop
 start k = round k .before .before
 
-abbrev one : tie.After-slice-known2 Inv-loop μ-loop → tie.After-list-one Inv-loop μ-loop
-one k = k .before .before
+abbrev one : tie.After-slice-known2 Inv-loop μ-loop → tie.After-list-some Inv-loop μ-loop
+one k = k .before .before .before
 
 loop-holds : tie.Need-loop-holds Inv-loop μ-loop
-loop-holds c = (refl, omega arith, refl, upto-start _ _, λ ok s p l. omega arith)
+loop-holds c = (refl, omega arith, refl, upto-start _ _, λ ok s p l. omega arith, refl)
 
 sub-if1 : tie.Need-sub-if1 Inv-loop μ-loop
 sub-if1 c = omega arith
@@ -58,30 +58,37 @@ returns c =
     (full-on (gaugeValue (s .args .start)) (s .args .out .now) false _ (l .loop .out) refl (l .loop .inv .3)
     (λ ok x p far. omega (arith, far, l .loop .inv .0, c .before .if1 .taken)))
 
-list-one-requires : tie.Need-list-one-requires Inv-loop μ-loop
-list-one-requires c κs = omega arith
+slice-aggregate-list-some : tie.Need-slice-aggregate-list-some Inv-loop μ-loop
+slice-aggregate-list-some c = search needs
+
+list-some-requires : tie.Need-list-some-requires Inv-loop μ-loop
+list-some-requires c κs =
+    let l = c .before .before .before .before in
+    let fits : l .loop .used + longest ≤ length (l .loop .out) =
+    omega (arith, c .before .before .if1 .left, l .loop .inv .0, l .loop .inv .1, l .loop .inv .2) in
+    (l .loop .inv .5, fits)
 
 -- ---- the block after the turn
 room : (k : tie.After-slice-known2 Inv-loop μ-loop) → round k .loop .used + longest ≤ length (start k .args .out .now)
-room k = omega (arith, one k .before .before .if1 .left, round k .loop .inv .0, round k .loop .inv .1, round k .loop .inv .2)
+room k = omega (arith, one k .before .before .before .if1 .left, round k .loop .inv .0, round k .loop .inv .1, round k .loop .inv .2)
 
 turned : (k : tie.After-slice-known2 Inv-loop μ-loop)
-    → UpToOn (gaugeValue (start k .args .start)) (start k .args .out .now) (one k .list-one .result .stop)
-    (going (gaugeValue (one k .list-one .result .run)) (one k .list-one .result .next) (one k .list-one .result .over)) (one k .list-one .last .1 .0)
+    → UpToOn (gaugeValue (start k .args .start)) (start k .args .out .now) (one k .list-some .result .stop)
+    (going (gaugeValue (one k .list-some .result .run)) (one k .list-some .result .next) (one k .list-some .result .over)) (one k .list-some .last .1 .1 .0)
 turned k =
     turn-on (gaugeValue (start k .args .start)) (start k .args .out .now) (gaugeValue (round k .loop .run)) (round k .loop .used) (round k .loop .out)
-    (round k .loop .inv .3) _ _ _ _ _ (one k .list-one .ensures) (round k .loop .inv .2) (room k)
+    (round k .loop .inv .3) _ _ _ _ _ (one k .list-some .ensures) (round k .loop .inv .2) (room k)
 
 some : (k : tie.After-slice-known2 Inv-loop μ-loop) → valueRefusal gaugeSide (gaugeValue (start k .args .start)) ≡ 0
     → (x : State) → PausedAt gaugeSide (gaugeValue (start k .args .start)) x → longest ≤ length (start k .args .out .now)
-    → one k .list-one .result .stop ≡ false → round k .loop .used < one k .list-one .result .next
+    → one k .list-some .result .stop ≡ false → round k .loop .used < one k .list-some .result .next
 some k =
     some-on (gaugeValue (start k .args .start)) (start k .args .out .now) (gaugeValue (round k .loop .run)) (round k .loop .used) (round k .loop .out)
-    (round k .loop .inv .3) _ _ _ _ _ (one k .list-one .ensures) (round k .loop .inv .2) (room k)
+    (round k .loop .inv .3) _ _ _ _ _ (one k .list-some .ensures) (round k .loop .inv .2) (room k)
 
 -- the call left the buffer's length
-long : (k : tie.After-slice-known2 Inv-loop μ-loop) → length (one k .list-one .last .1 .0) ≡ length (round k .loop .out)
-long k = one k .list-one .kept .1 .0
+long : (k : tie.After-slice-known2 Inv-loop μ-loop) → length (one k .list-some .last .1 .1 .0) ≡ length (round k .loop .out)
+long k = one k .list-some .kept .1 .1 .0
 
 accept-requires-2 : tie.Need-accept-requires-2 Inv-loop μ-loop
 accept-requires-2 c κs = search needs
@@ -92,7 +99,7 @@ same-length-2 c = let k = c .before .before .before in long k ∙ round k .loop 
 returns-2 : tie.Need-returns-2 Inv-loop μ-loop
 returns-2 c =
     let k = c .before .before .before in
-    subst (λ (f : Filling). FillsOn (gaugeValue (start k .args .start)) (start k .args .out .now) f (one k .list-one .last .1 .0))
+    subst (λ (f : Filling). FillsOn (gaugeValue (start k .args .start)) (start k .args .out .now) f (one k .list-some .last .1 .1 .0))
     (sym (c .accept2 .ensures))
     (stop-on (gaugeValue (start k .args .start)) (start k .args .out .now) _ _ _ refl (turned k) (c .before .if2 .taken))
 
@@ -107,10 +114,11 @@ loop-again c =
     let k = c .before .before in
     let l = round k .loop in (
       refl,
-      omega (arith, long k, one k .list-one .ensures .inside),
+      omega (arith, long k, one k .list-some .ensures .inside),
       long k ∙ l .inv .2,
       going-on (gaugeValue (start k .args .start)) (start k .args .out .now) _ _ _ _ _ (turned k) (c .if2 .left),
-      λ ok x p far. omega (arith, l .inv .4 ok x p far, some k ok x p far (c .if2 .left), one k .before .before .before .loop-test .taken),
+      λ ok x p far. omega (arith, l .inv .4 ok x p far, some k ok x p far (c .if2 .left), one k .before .before .before .before .loop-test .taken),
+      one k .list-some .kept .1 .0 ∙ l .inv .5,
     )
 
 accept-requires-3 : tie.Need-accept-requires-3 Inv-loop μ-loop
@@ -138,7 +146,8 @@ fill-on-spec =
     accept-requires
     same-length
     returns
-    list-one-requires
+    slice-aggregate-list-some
+    list-some-requires
     accept-requires-2
     same-length-2
     returns-2

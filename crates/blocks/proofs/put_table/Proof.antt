@@ -1,18 +1,13 @@
--- `blocks::put_chain` meets its contract: what the writer says of the part of the buffer that it is lent, said of the whole buffer.
+-- `blocks::put_table` meets its contract: what the writer says of the part of the buffer that it is lent, said of the whole buffer.
 use mathlib.Core.Path.{sym, ap, _∙_}
 use Prim.Native.Nat.{_+_, _≤_}
 use native.Mathlib.Omega.{arith}
 use lib.ListN.{length}
 use borrow.Author.Needs.{needs}
-use Rattle.table.specs.declared.Table.{Table}
 use Rattle.writer.specs.Writing.{written}
 use Rattle.blocks.proofs.OneTurn.{put-fits, put-length, put-refused}
-use Rattle.blocks.proofs.put_chain.Statement.{statement}
-use Rattle.blocks.proofs.put_chain.Tie as tie
-
--- the table of the pairs
-table : (c : tie.Start) → Table
-table c = record { gauges = c .args .chain .gauges; cases = c .args .cases; rows = c .args .chain .rows }
+use Rattle.blocks.proofs.put_table.Statement.{statement}
+use Rattle.blocks.proofs.put_table.Tie as tie
 
 sub-write : tie.Need-sub-write
 sub-write c = search needs
@@ -34,13 +29,12 @@ abbrev wrote : tie.After-known-told → tie.After-write
 wrote k = k .before .before .before .before .before
 
 abbrev start : tie.After-write → tie.Start
-start w = w .before .before .before .before
+start w = w .before .before .before
 
 fits : (k : tie.After-known-told) → start (wrote k) .args .at + k .before .written .given .0 .0 ≤ length (start (wrote k) .args .out .now)
-unfolding table
 fits k =
     let s = start (wrote k) in
-    put-fits (table s) (s .args .out .now) (s .args .at) (s .pre) (k .before .written .given .0 .0)
+    put-fits (s .args .t) (s .args .out .now) (s .args .at) (s .pre) (k .before .written .given .0 .0)
     (sym (ap written (k .before .written .given .1)) ∙ wrote k .write .ensures .0)
 
 add-result : tie.Need-add-result
@@ -53,26 +47,24 @@ same-length : tie.Need-same-length
 same-length c = search needs
 
 returns : tie.Need-returns
-unfolding table
 returns c =
     let w = c .before .before .before .before .before in
     let s = start w in
-    put-length (table s) (s .args .out .now) (s .args .at) (s .pre) (c .before .written .given .0 .0) _
+    put-length (s .args .t) (s .args .out .now) (s .args .at) (s .pre) (c .before .written .given .0 .0) _
     (sym (ap written (c .before .written .given .1)) ∙ w .write .ensures .0) (w .write .ensures .1)
 
 same-length-2 : tie.Need-same-length-2
 same-length-2 c = search needs
 
 returns-2 : tie.Need-returns-2
-unfolding table
 returns-2 c =
     let w = c .before .before .before .before in
     let s = start w in
-    put-refused (table s) (s .args .out .now) (s .args .at) (s .pre) (c .enum-told .given .0 .0) _
+    put-refused (s .args .t) (s .args .out .now) (s .args .at) (s .pre) (c .enum-told .given .0 .0) _
     (sym (ap written (c .enum-told .given .1)) ∙ w .write .ensures .0)
 
-pub put-chain-spec : {M : Type 1} → statement M
-put-chain-spec =
+pub put-table-spec : {M : Type 1} → statement M
+put-table-spec =
     tie.close
     (tie.spec
     sub-write
