@@ -146,7 +146,7 @@ RUNS = {"--by-cases", "--needed", "--prefer", "--cutoff"}
 COMMANDS = {  # arguments with the file, how many more, whether the first is a file, options
     "list": (1, 0, True, RUNS | {"--budget", "--part"}),
     "parts": (2, 0, True, RUNS),
-    "count": (1, 0, True, {"--prefer", "--cutoff", "--budget"}),
+    "count": (1, 0, True, {"--prefer", "--cutoff", "--budget", "--part"}),
     "judge": (2, 0, True, {"--cutoff"}),
     "grow": (2, 0, True, {"--prefer", "--cutoff"}),
     "rivals": (2, 0, True, {"--cutoff"}),
@@ -277,7 +277,8 @@ def part_of(line, table):
     return by_cases, order, fields[3] == "needed", picks
 
 
-def do_list(r):
+def listed(r):
+    """The ladders of the list that is asked for, or of the part."""
     if "--part" in r.option and (r.by_cases or r.needed or r.prefer):
         raise Ends(2)
     table = r.table()
@@ -288,7 +289,12 @@ def do_list(r):
     refuse_if(r.budget > BUDGET, 18)
     if r.budget == 0:
         raise Ends(4)
-    return "".join(write((table[0], table[1], s)) for p, s in listing(table, by_cases, order, needed) if p[: len(picks)] == picks)
+    return table, [s for p, s in listing(table, by_cases, order, needed) if p[: len(picks)] == picks]
+
+
+def do_list(r):
+    table, ladders = listed(r)
+    return "".join(write((table[0], table[1], s)) for s in ladders)
 
 
 def do_parts(r):
@@ -316,6 +322,8 @@ def of(n, what):
 
 
 def do_count(r):
+    if "--part" in r.option:
+        return of(len(listed(r)[1]), "ladder") + "\n"
     table = r.table()
     sequences = [p for p, _ in listing(table, False, r.order(table[0]), False)]
     refuse_if(r.budget > BUDGET, 18)

@@ -6,8 +6,18 @@
 
 static void put_number(uint64_t n, const char *of_what) { put_text("%" PRIu64 " %s%s", n, of_what, n == 1 ? "" : "s"); }
 
+/* Of a part its ladders alone: it is listed, and rg_count makes no call. */
+static void answer_count_part(const Request *request) {
+    put_number(count_part(request), "ladder");
+    put_text("\n");
+}
+
 void answer_count(const Request *request) {
     uint64_t table[RG_TABLE_WORDS], order[RG_ORDER_WORDS], count[RG_COUNT_WORDS], budget = budget_of(request);
+    if (request->option[PART]) {
+        answer_count_part(request);
+        return;
+    }
     read_table(request, table);
     order_of(request, table[RG_TABLE_GAUGES], order);
     uint64_t why = rg_count(table, RG_TABLE_WORDS, order, RG_ORDER_WORDS, budget, count, RG_COUNT_WORDS);

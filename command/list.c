@@ -1,6 +1,7 @@
-/* list: every ladder of a table, or of one part of its list. parts: the parts, at least so many where there are as many. */
+/* list: every ladder of a table, or of one part of its list, written or counted. parts: the parts, at least so many where there are as many. */
 #include "planner.h"
 #include <stdlib.h>
+#include <string.h>
 
 #define MOST_PARTS 1000000
 
@@ -11,34 +12,99 @@ static void check_part_options(const Request *request) {
     if (request->option[PREFER]) wrong_usage("the part's line says %s", "what is preferred");
 }
 
-/* The ladders of the part, from its value on; the first that is not of it, or the end, closes it. The whole list is the part of no picks. */
-static void list_part(const Request *request, const uint64_t *table, const Part *part, Run *run, bool whole) {
+/* The ladders of a batch, as many as are asked for at once. */
+#define LADDERS 256
+
+static void put_batch(const uint64_t *batch, const uint64_t *table) {
+    uint64_t chain[RG_CHAIN_WORDS] = {table[RG_TABLE_GAUGES]}, gauges = table[RG_TABLE_GAUGES];
+    for (uint64_t i = 0; i < batch[RG_BATCH_LADDERS]; i++) {
+        memcpy(chain + RG_CHAIN_ROWS, batch + RG_BATCH_WORDS + i * gauges, (size_t)gauges * sizeof *chain);
+        put_chain(chain, table[RG_TABLE_CASES]);
+    }
+}
+
+/* Whether every ladder of a batch is one of the part, where the run was in the part before: the last one is, and a part has no gaps. A hand-out leaves its
+ * pick sequence in the run; a batch that stopped otherwise does not tell. Of the whole list every ladder is one. */
+static bool all_of(const Part *part, const Run *run, const uint64_t *batch) {
+    return part->count == 0 || batch[RG_BATCH_LADDERS] == 0 ||
+           (run->words[RG_RUN_PHASE] == RG_HANDED && starts_with(run->words + RG_RUN_PICKS, part));
+}
+
+/* A listing: of which part of the run's list, whether its ladders are written or counted alone, and how many there were. */
+typedef struct {
+    const Request *request;
+    bool writes, single;
+    Part part;
+    Run run;
+    uint64_t table[RG_TABLE_WORDS];
+    uint64_t ladders;
+} Listing;
+
+/* One call for one ladder: whether the part goes on. Its first ladder that is not of the part, or the end, closes it. */
+static bool list_one(Listing *list) {
+    Run *run = &list->run;
+    uint64_t outcome = call_run(list->request, run);
+    if (outcome == RG_END) return false;
+    if (outcome != RG_HANDED_OUT) return true;
+    if (!starts_with(run->step + RG_STEP_PICKS, &list->part)) return false;
+    if (list->writes) put_chain(run->step + RG_STEP_CHAIN, list->table[RG_TABLE_CASES]);
+    list->ladders++;
+    return true;
+}
+
+/* The same for a batch; where it does not tell which of its ladders are of the part, the run is as it was, and goes on singly. */
+static bool list_many(Listing *list) {
+    static uint64_t batch[RG_BATCH_WORDS + LADDERS * RG_ROWS];
+    Run *run = &list->run;
+    uint64_t before[RG_RUN_WORDS];
+    memcpy(before, run->words, sizeof before);
+    uint64_t outcome = call_batch(list->request, run, batch, RG_BATCH_WORDS + LADDERS * (size_t)list->table[RG_TABLE_GAUGES]);
+    if (outcome == RG_SPENT && run->budget == 0) spent(option_text(list->request, BUDGET), "calls without a move list nothing");
+    list->single = !all_of(&list->part, run, batch);
+    if (list->single) {
+        memcpy(run->words, before, sizeof before);
+        return true;
+    }
+    if (list->writes) put_batch(batch, list->table);
+    list->ladders += batch[RG_BATCH_LADDERS];
+    return outcome != RG_END;
+}
+
+/* The ladders of the part, from its value on: in batches, and its last ones singly. The whole list is the part of no picks. */
+static void list_part(Listing *list, bool whole) {
     Progress progress;
+    bool more = true;
     begin_progress(&progress);
-    for (;;) {
-        uint64_t outcome = call_run(request, run);
-        if (outcome == RG_END) break;
-        if (outcome == RG_SPENT && run->budget == 0) spent(option_text(request, BUDGET), "calls without a move list nothing");
-        if (outcome == RG_HANDED_OUT) {
-            if (!starts_with(run->step + RG_STEP_PICKS, part)) break;
-            put_chain(run->step + RG_STEP_CHAIN, table[RG_TABLE_CASES]);
-            progress.ladders++;
-        }
-        show_progress(&progress, table, whole);
+    while (more) {
+        more = list->single ? list_one(list) : list_many(list);
+        progress.ladders = list->ladders;
+        show_progress(&progress, list->table, whole);
     }
     end_progress(&progress);
 }
 
-void answer_list(const Request *request) {
-    uint64_t table[RG_TABLE_WORDS];
-    Part part = {.count = 0};
-    Run run;
+/* The run that is asked for, or that of the part. */
+static void start_listing(Listing *list) {
+    const Request *request = list->request;
     if (request->option[PART]) check_part_options(request);
-    read_table(request, table);
-    if (request->option[PART]) start_part(request->option[PART], table, &part, &run);
-    else start_run(request, table, &run);
-    run.budget = budget_of(request);
-    list_part(request, table, &part, &run, !request->option[PART] && !request->option[NEEDED]);
+    read_table(request, list->table);
+    if (request->option[PART]) start_part(request->option[PART], list->table, &list->part, &list->run);
+    else start_run(request, list->table, &list->run);
+    list->run.budget = budget_of(request);
+}
+
+void answer_list(const Request *request) {
+    Listing list = {.request = request, .writes = true};
+    start_listing(&list);
+    list_part(&list, !request->option[PART] && !request->option[NEEDED]);
+}
+
+/* count of a part: how many ladders `list` of it writes. */
+uint64_t count_part(const Request *request) {
+    Listing list = {.request = request};
+    start_listing(&list);
+    list_part(&list, false);
+    return list.ladders;
 }
 
 /* The parts so far, in order: each knows the one behind it, so that one can be replaced by several. */

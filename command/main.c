@@ -8,7 +8,7 @@
 static const Command commands[] = {
     {"list", "[FILE]", 1, 0, true, OF_RUNS | SET(BUDGET) | SET(PART), answer_list},
     {"parts", "[FILE] N", 2, 0, true, OF_RUNS, answer_parts},
-    {"count", "[FILE]", 1, 0, true, SET(PREFER) | SET(CUTOFF) | SET(BUDGET), answer_count},
+    {"count", "[FILE]", 1, 0, true, SET(PREFER) | SET(CUTOFF) | SET(BUDGET) | SET(PART), answer_count},
     {"judge", "[FILE] CHAIN", 2, 0, true, SET(CUTOFF), answer_judge},
     {"grow", "[FILE] CHAIN", 2, 0, true, SET(PREFER) | SET(CUTOFF), answer_grow},
     {"rivals", "[FILE] PAIR", 2, 0, true, SET(CUTOFF), answer_rivals},

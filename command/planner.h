@@ -102,6 +102,7 @@ typedef struct {
 void start_run(const Request *request, const uint64_t *table, Run *run);
 uint64_t start_with(const uint64_t *table, const uint64_t *order, bool by_cases, bool needed, Run *run);
 uint64_t call_run(const Request *request, Run *run);
+uint64_t call_batch(const Request *request, Run *run, uint64_t *batch, size_t words);
 bool next_ladder(const Request *request, Run *run);
 uint64_t side_count(const uint64_t *table, bool by_cases);
 
@@ -132,6 +133,7 @@ bool read_proposal(const File *file, uint64_t *proposal);
 
 /* The subcommands. */
 void answer_list(const Request *request);
+uint64_t count_part(const Request *request);
 void answer_parts(const Request *request);
 void answer_count(const Request *request);
 void answer_judge(const Request *request);

@@ -1,4 +1,4 @@
-/* Runs of either side under one roof: a start, a call, the next ladder. */
+/* Runs of either side under one roof: a start, a call, a batch of calls, the next ladder. */
 #include "planner.h"
 
 uint64_t side_count(const uint64_t *table, bool by_cases) { return table[by_cases ? RG_TABLE_CASES : RG_TABLE_GAUGES]; }
@@ -24,6 +24,13 @@ uint64_t call_run(const Request *request, Run *run) {
     uint64_t why = (run->by_cases ? rg_run_cases : rg_run_gauges)(run->words, RG_RUN_WORDS, run->budget, run->step, RG_STEP_WORDS);
     accept(subject_of(request, why, request->command->name), why);
     return run->step[RG_STEP_OUTCOME];
+}
+
+/* A batch of calls, for as many ladders as `batch` has room for; its outcome. */
+uint64_t call_batch(const Request *request, Run *run, uint64_t *batch, size_t words) {
+    uint64_t why = (run->by_cases ? rg_list_cases : rg_list_gauges)(run->words, RG_RUN_WORDS, run->budget, batch, words);
+    accept(subject_of(request, why, request->command->name), why);
+    return batch[RG_BATCH_OUTCOME];
 }
 
 /* Calls until a ladder is handed out; false at the end of the list. */
