@@ -33,7 +33,7 @@ module _ (r m : List ℕ) where
       swap (inr w) = inl (w .0, (w .1, w .2 .0), w .2 .1)
 
   -- "no ladder can be dropped": a member of an irreducible cover holds a pair that no other member holds
-  pub own-pair : (xs : List (List ℕ)) → Irreducible r xs → List·Memᴰ m xs
+  own-pair : (xs : List (List ℕ)) → Irreducible r xs → List·Memᴰ m xs
       → (g : ℕ) × (c : ℕ) × Has r g c × Has m g c × ((x : List ℕ) → List·Memᴰ x xs → Has x g c → x ≡ m)
   own-pair xs i k =
       go (pairs-or r (λ g c. (x : List ℕ) × (List·Memᴰ x xs × (x ≢ m)) × Has x g c) (λ g c. (x : List ℕ) → List·Memᴰ x xs → Has x g c → x ≡ m)

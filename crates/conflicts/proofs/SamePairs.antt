@@ -1,25 +1,17 @@
--- Sets of pairs that hold the same pairs: equally many rows make them equal (`same-rows`), and conflicts and essential pairs are the same in
--- both (`conflict-same`, `essential-same`). A table's 64 rows and its first G hold the same pairs (`table-pairs`).
-use mathlib.Core.Path.{_≡_, sym, subst}
+-- Sets of pairs that hold the same pairs: conflicts and essential pairs are the same in both (`conflict-same`, `essential-same`). A table's 64 rows and
+-- its first G hold the same pairs (`table-pairs`).
+use mathlib.Core.Path.{sym, subst}
 use mathlib.Core.Logic.{_↔_}
 use mathlib.Core.List.{List}
 use Prim.Native.Nat.{ℕ}
 use lib.Dec.{T}
-use lib.ListN.{length}
-use lib.Seq.{ext-getD}
 use Rattle.sets.specs.Sets.{bit}
-use Rattle.sets.proofs.Order.{sub-antisym}
 use Rattle.table.specs.declared.Table.{Table}
-use Rattle.table.specs.Pairs.{row, Has}
+use Rattle.table.specs.Pairs.{Has}
 use Rattle.table.specs.Tables.{Legal, tableRows}
-use Rattle.table.proofs.Places.{place-has, by-place, within-sub}
+use Rattle.table.proofs.Places.{place-has, by-place}
 use Rattle.table.proofs.Legality.{row-tableRows}
 use Rattle.conflicts.specs.Conflicts.{Conflict, Includes, StrictlyContains, Essential}
-
-pub same-rows : (x y : List ℕ) → length x ≡ length y → ((g c : ℕ) → Has x g c ↔ Has y g c) → x ≡ y
-same-rows x y n f =
-    ext-getD 0 x y n (λ i l. sub-antisym (row x i) (row y i)
-    (within-sub y x (record { size = n; inside = λ g c. f g c .0 }) i) (within-sub x y (record { size = sym n; inside = λ g c. f g c .1 }) i))
 
 pub same-back : {r s : List ℕ} → ((g c : ℕ) → Has r g c ↔ Has s g c) → (g c : ℕ) → Has s g c ↔ Has r g c
 same-back f g c = (f g c .1, f g c .0)

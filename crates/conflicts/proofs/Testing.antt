@@ -99,7 +99,7 @@ all-pairs w s f cs = (
 
 -- ---- conflicts included, essential pairs, and sets that hold one
 module _ (w : ℕ) (r : List ℕ) (cs : Cases w r) where
-  pub includes-test : (g c h d : ℕ) → T (isIncluding w r g c h d) ↔ Includes r g c h d
+  includes-test : (g c h d : ℕ) → T (isIncluding w r g c h d) ↔ Includes r g c h d
   unfolding isIncluding
   includes-test g c h d = (
     λ t k e v. conflict-test r g c k e .0 (implies (isConflict r h d k e) (isConflict r g c k e) (all-pairs w r both cs .0 t k e (v .pair))

@@ -4,18 +4,16 @@ use mathlib.Core.Path.{_≡_, refl, sym, ap, ap₂, _∙_, subst}
 use mathlib.Core.Bool.{cond}
 use mathlib.Core.List.{List, [], map}
 use Prim.Native.Nat.{ℕ, zero, suc, _-_, _^_, _≤_, _<_}
-use native.Mathlib.Nat.{min-eq-left}
 use native.Mathlib.Decide.{ℕ-discrete, decLt}
 use native.Mathlib.Omega.{arith}
 use lib.Count.{ones}
-use lib.Dec.{eqb, ltb}
+use lib.Dec.{eqb}
 use lib.ListN.{length, length-map}
 use lib.Pow.{pow-mono}
 use borrow.Author.Tests.{lt-ltb, le-ltb, le-leb, lt-leb, eq-eqb, ne-eqb}
-use Rattle.sets.specs.Sets.{_⊆_, bit, lowest}
+use Rattle.sets.specs.Sets.{_⊆_, lowest}
 use Rattle.sets.proofs.Order.{subset-is, zero-sub}
 use Rattle.sets.proofs.Masks.{lowest-up, below-lowest}
-use Rattle.sets.proofs.OnePlace.{bit-lowest}
 use Rattle.table.specs.Pairs.{row}
 use Rattle.table.specs.Tables.{Legal, tableRows, padded}
 use Rattle.refusals.specs.Answers.{number}
@@ -41,7 +39,7 @@ use Rattle.preference.proofs.Placing.{passes-both}
 use Rattle.preference.proofs.Gathering.{gathered-array}
 use Rattle.search.specs.Finding.{within}
 use Rattle.search.proofs.AfterPicks.{full, Rows, After, after-fresh}
-use Rattle.search.proofs.Within.{row-in, row-out}
+use Rattle.search.proofs.Within.{within-lowest}
 use Rattle.count.specs.Counting.{CountAnswer, refused, spent, counted, mostCalls, dueAnswer, Counts}
 use Rattle.count.specs.private.Below.{callsIn, laddersIn, tallied}
 use Rattle.count.specs.declared.Tally.{Tally}
@@ -126,7 +124,7 @@ module _ (t : Table) (k : List ℕ) (b : ℕ) (g : Given t k) where
   counts-large h = counts-by (refused 18) (sym (due-large b ladders sequences h))
 
   -- there is an answer for every table, preference and budget
-  pub counts-due : Counts t k b (dueAnswer b ladders sequences)
+  counts-due : Counts t k b (dueAnswer b ladders sequences)
   counts-due = counts-by (dueAnswer b ladders sequences) refl
 
   module _ (small : b ≤ mostCalls) where
@@ -161,14 +159,7 @@ module _ (t : Table) (k : List ℕ) (b : ℕ) (g : Given t k) where
 
     -- before any pick every gauge of the table is unpicked
     first-row : (i : ℕ) → row first i ≡ row rows i
-    first-row i = go (decLt i n)
-      where
-        in-table : bit (lowest n) i ≡ ltb i n
-        in-table = bit-lowest n i ∙ ap (ltb i) (min-eq-left (legal .gauges-high))
-
-        go : Dec (i < n) → row first i ≡ row rows i
-        go (yes l) = row-in (lowest n) array i (omega (arith, legal .gauges-high)) (in-table ∙ lt-ltb i n l) ∙ array-row i
-        go (no l) = row-out (lowest n) array i (in-table ∙ le-ltb i n (omega arith)) ∙ sym (row-past rows i (omega (arith, size)))
+    first-row = within-lowest rows array n (legal .gauges-high) size array-row
 
     fresh : After rows [] first (2 ^ 64 - 1)
     fresh = subst (After rows [] first) (lowest-up 64 (omega arith)) (after-fresh rows first first-row)

@@ -2,6 +2,8 @@
 -- moves lead to, the empty one included (`sequence-reached`, `empty-sequence`); spent exactly when there are more sequences than the budget, and a budget
 -- equal to their number is enough; the count is at most the calls, at most (min G L)!, and the number of sets that a run of either side, under any
 -- preference, hands out once a call has answered end, as it does when it is called on; and under every preference it is the same (`ladders-same`).
+--
+-- Pins, which nothing else cites: `sequence-reached`, `empty-sequence`, `refused-budget`.
 use mathlib.Core.Path.{_≡_, refl, sym, ap, ap₂, _∙_}
 use mathlib.Core.Logic.{_↔_}
 use mathlib.Core.List.{List, [], map, List·Memᴰ}
@@ -9,6 +11,7 @@ use Prim.Native.Nat.{ℕ, _+_, _≤_, _<_, min}
 use native.Mathlib.Decide.{ℕ-discrete, decLe}
 use native.Mathlib.Omega.{arith}
 use lib.ListN.{length, length-map}
+use Rattle.basics.proofs.Clash.{clash}
 use Rattle.table.specs.declared.Table.{Table}
 use Rattle.table.specs.Tables.{Legal, tableRows}
 use Rattle.refusals.proofs.Answering.{number-injective}
@@ -30,23 +33,23 @@ use Rattle.lists.proofs.Demand.{run-lists-all}
 use Rattle.preference.specs.Preferences.{preferredRefusal, orderOf}
 use Rattle.count.specs.declared.Count.{Count}
 use Rattle.count.specs.declared.Count.the-variants.{Counted, Spent, Refused}
-use Rattle.count.specs.Counting.{CountAnswer, refused, spent, counted, countAnswer, ReachedPicks, PickSequences, mostCalls, dueAnswer, CountsBy, Counts}
+use Rattle.count.specs.Counting.{CountAnswer, refused, spent, counted, countSays, ReachedPicks, PickSequences, mostCalls, dueAnswer, CountsBy, Counts}
 use Rattle.count.proofs.Nodes.{nodes, leaves-nodes}
 use Rattle.count.proofs.Reached.{reachedInOrder, pick-sequences}
 use Rattle.count.proofs.Answers.{due-large, due-counted, due-spent, nodes-some}
 
 -- ---- one answer
 -- no two answers read alike
-pub count-answer-injective : (x y : Count) → countAnswer x ≡ countAnswer y → x ≡ y
+pub count-answer-injective : (x y : Count) → countSays x ≡ countSays y → x ≡ y
 count-answer-injective (Counted x) (Counted y) e =
     ap Counted (ap₂ (λ (l c : ℕ). record { ladders = l; calls = c }) (cc) (cc))
-count-answer-injective (Counted x) (Spent n) e = let z : _≡_ {A = ℕ} 0 1 = cc in absurd (omega arith)
-count-answer-injective (Counted x) (Refused y) e = let z : _≡_ {A = ℕ} 0 1 = cc in absurd (omega arith)
-count-answer-injective (Spent m) (Counted y) e = let z : _≡_ {A = ℕ} 0 1 = cc in absurd (omega arith)
+count-answer-injective (Counted x) (Spent n) e = clash cc
+count-answer-injective (Counted x) (Refused y) e = clash cc
+count-answer-injective (Spent m) (Counted y) e = clash cc
 count-answer-injective (Spent m) (Spent n) e = ap Spent (cc)
-count-answer-injective (Spent m) (Refused y) e = let z : _≡_ {A = ℕ} 0 1 = cc in absurd (omega arith)
-count-answer-injective (Refused x) (Counted y) e = let z : _≡_ {A = ℕ} 0 1 = cc in absurd (omega arith)
-count-answer-injective (Refused x) (Spent n) e = let z : _≡_ {A = ℕ} 0 1 = cc in absurd (omega arith)
+count-answer-injective (Spent m) (Refused y) e = clash cc
+count-answer-injective (Refused x) (Counted y) e = clash cc
+count-answer-injective (Refused x) (Spent n) e = clash cc
 count-answer-injective (Refused x) (Refused y) e = ap Refused (number-injective x y (cc))
 
 -- ---- the sequences: "each pick sequence the rules can reach, the empty one included"
@@ -99,7 +102,7 @@ module _ (t : Table) (o : List ℕ) (b : ℕ) (a : CountAnswer) (c : CountsBy t 
     is-spent h = c .says ∙ due-spent b ladders calls small h
 
     differ : (l s x : ℕ) → counted l s ≡ spent x → ⊥
-    differ l s x e = let z : _≡_ {A = ℕ} 0 1 = cc in omega arith
+    differ l s x e = clash cc
 
     -- "exactly when the table has more such sequences than the budget, with the budget as the calls"
     pub spent-exactly : (a ≡ spent b) ↔ (b < calls)
@@ -126,7 +129,7 @@ module _ (t : Table) (o : List ℕ) (b : ℕ) (a : CountAnswer) (c : CountsBy t 
   -- a run of either side, under any preference, that has answered end has handed out as many
   pub ladders-run : (s : Side) (p bs : List ℕ) (cs : List Call) → Demand t s p bs cs → (x : Call) → List·Memᴰ x cs → x .answer ≡ end
       → ladders ≡ length (handouts cs)
-  ladders-run s p bs cs d x m e = lists-length (c .ladders) (d .list) (c .listed) (d .listed) ∙ ap length (sym (d .complete x m e))
+  ladders-run s p bs cs d x m e = lists-length (c .ladders) (d .hands .list) (c .listed) (d .hands .listed) ∙ ap length (sym (d .hands .complete x m e))
 
   -- ---- of a legal table and an arrangement of its gauges
   module _ (legal : Legal t) (arranged : IsArrangement (t .gauges) o) where

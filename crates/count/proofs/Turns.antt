@@ -11,13 +11,14 @@ use lib.Count.{ones}
 use lib.Dec.{leb}
 use lib.ListN.{getD, set}
 use borrow.Author.Tests.{le-leb, lt-leb, leb-true, leb-false}
+use Rattle.basics.proofs.Clash.{clash}
 use Rattle.sets.specs.Sets.{meet}
 use Rattle.sets.specs.Lists.{allBelow}
 use Rattle.sets.specs.First.{Without}
 use Rattle.sets.proofs.Tests.{is-true}
 use Rattle.sets.proofs.Tabulated.{all-of, all-fails}
 use Rattle.table.specs.Pairs.{row}
-use Rattle.search.specs.Finding.{First, within}
+use Rattle.search.specs.Finding.{FirstOf, within}
 use Rattle.count.specs.private.Below.{sumBelow, isCandidate, callsIn, laddersIn, tallied}
 use Rattle.count.specs.declared.Tally.{Tally}
 use Rattle.count.specs.declared.Below.{Below}
@@ -61,8 +62,7 @@ module _ (b l c : ℕ) (x : Below) (e : x ≡ tallied b l c) where
           record { fits = leb-true c b w; ladders = ap (λ (y : Below). tallyOf t y .ladders) k; calls = ap (λ (y : Below). tallyOf t y .calls) k }
       go false w =
           let k : Whole t ≡ Spent = sym d ∙ told false w in
-          let z : _≡_ {A = ℕ} 0 1 = cc in
-          absurd (omega arith)
+          clash cc
 
   pub spent-says : x ≡ Spent → b < c
   spent-says d = go (leb c b) refl
@@ -70,8 +70,7 @@ module _ (b l c : ℕ) (x : Below) (e : x ≡ tallied b l c) where
       go : (v : Bool) → leb c b ≡ v → b < c
       go true w =
           let k : Spent ≡ by true = sym d ∙ told true w in
-          let z : _≡_ {A = ℕ} 0 1 = cc in
-          absurd (omega arith)
+          clash cc
       go false w = leb-false c b w
 
 -- ---- the definitions by their clauses
@@ -133,7 +132,7 @@ module _ (u : List ℕ) (left : ℕ) where
 
 -- ---- the loop
 -- the next candidate, or the end, is above the last
-pub next-above : (c : ℕ → Bool) (g h : ℕ) → g < 64 → First c (g + 1) 64 h → g < h
+pub next-above : (c : ℕ → Bool) (g h : ℕ) → g < 64 → FirstOf c (g + 1) 64 h → g < h
 next-above c g h l f = go (decLt h 64)
   where
     go : Dec (h < 64) → g < h
@@ -175,14 +174,14 @@ pub record Turn (rows : List ℕ) (s left b ladders calls g : ℕ) : Type 0 wher
   pub all-ladders : allLadders rows s left ≡ sumBelow (can rows s left) (laddersOf rows s left) 64
 
 -- the lowest candidate from a place on
-high : (c : ℕ → Bool) (from g : ℕ) → First c from 64 g → g ≤ 64
+high : (c : ℕ → Bool) (from g : ℕ) → FirstOf c from 64 g → g ≤ 64
 high c from g f = go (decLt g 64)
   where
     go : Dec (g < 64) → g ≤ 64
     go (yes l) = omega arith
     go (no l) = omega (arith, f .none (omega arith))
 
-module _ (rows : List ℕ) (s left b g : ℕ) (f : First (can rows s left) 0 64 g) (some : 0 < b) where
+module _ (rows : List ℕ) (s left b g : ℕ) (f : FirstOf (can rows s left) 0 64 g) (some : 0 < b) where
   -- the first search finds none: a leaf
   pub leaf : 64 ≤ g → Whole (record { ladders = 1; calls = 1 }) ≡ tallied b (allLadders rows s left) (allCalls rows s left)
   leaf h =
@@ -264,7 +263,7 @@ module _ {rows : List ℕ} {s left b ladders calls g : ℕ} (t : Turn rows s lef
             omega (arith, says .ladders, says .calls, no-more rows s left g),
           )
 
-          pub turn-next : {h : ℕ} → First (can rows s left) (g + 1) 64 h → Turn rows s left b (ladders + y .ladders) (calls + y .calls) h
+          pub turn-next : {h : ℕ} → FirstOf (can rows s left) (g + 1) 64 h → Turn rows s left b (ladders + y .ladders) (calls + y .calls) h
           turn-next {h} f = record {
             place = high (can rows s left) (g + 1) h f;
             here = λ k. f .found k .1;

@@ -21,7 +21,7 @@ use Rattle.table.specs.Pairs.{row}
 use Rattle.table.proofs.Places.{row-past}
 use Rattle.search.specs.Finding.{within}
 use Rattle.search.proofs.SearchLoops.{past-places, empty-remainder}
-use Rattle.search.proofs.Within.{clash, row-in, within-without, of-absent}
+use Rattle.search.proofs.Within.{yes-no, row-in, within-without, of-absent}
 use Rattle.count.specs.private.Below.{isCandidate}
 
 -- a place that is taken out was one of them
@@ -49,7 +49,7 @@ module _ (rows : List ℕ) (s left g : ℕ) (l : g < 64) (e : isCandidate (withi
     where
       go : (b : Bool) → bit s g ≡ b → bit s g ≡ true
       go true h = h
-      go false h = clash (isCandidate (within s rows) left g) e (sym (of-absent rows s left g h))
+      go false h = yes-no (isCandidate (within s rows) left g) e (sym (of-absent rows s left g h))
 
   pub some-unpicked : 1 ≤ ones s
   some-unpicked = omega (arith, ones-minus s g unpicked-here)
@@ -74,5 +74,5 @@ candidate-inside u left g e = go (decLt g (length u)) (decLt g 64)
 
     go : Dec (g < length u) → Dec (g < 64) → g < length u
     go (yes l) d = l
-    go (no l) (yes d) = clash (isCandidate u left g) e (sym (empty-remainder u left 64 g 64 refl d (clear (omega arith))))
-    go (no l) (no d) = clash (isCandidate u left g) e (sym (past-places u left 64 g 64 refl (omega arith)))
+    go (no l) (yes d) = yes-no (isCandidate u left g) e (sym (empty-remainder u left 64 g 64 refl d (clear (omega arith))))
+    go (no l) (no d) = yes-no (isCandidate u left g) e (sym (past-places u left 64 g 64 refl (omega arith)))

@@ -27,10 +27,10 @@ pub data CountAnswer : Type 0 where
   counted : ℕ → ℕ → CountAnswer
 
 -- how the code's answer reads
-abbrev pub countAnswer : Count → CountAnswer
-countAnswer (Counted x) = counted (x .ladders) (x .calls)
-countAnswer (Spent calls) = spent calls
-countAnswer (Refused x) = refused (number x)
+abbrev pub countSays : Count → CountAnswer
+countSays (Counted x) = counted (x .ladders) (x .calls)
+countSays (Spent calls) = spent calls
+countSays (Refused x) = refused (number x)
 
 -- p is the picks of some state of the side s, under the preference o, that some number of moves, 0 included, from a fresh start leads to
 pub record ReachedPicks (s : Side) (o p : List ℕ) : Type 0 where

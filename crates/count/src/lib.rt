@@ -12,7 +12,7 @@ ghost use mathlib.Core.Path.{_≡_};
 ghost use Prim.Native.Nat.{_<_};
 ghost use lib.Count.{ones};
 ghost use Rattle.search.specs.Finding.{within};
-ghost use Rattle.count.specs.Counting.{countAnswer, Counts};
+ghost use Rattle.count.specs.Counting.{countSays, Counts};
 ghost use Rattle.count.specs.private.Below.{belowAll};
 
 // "The budget is 0 to 1,000,000 calls" (02).
@@ -45,7 +45,7 @@ enum Below {
 
 // How many ladders `t` has, by at most `budget` calls that go by an order of its gauges.
 pub fn count_ladders(t: Table, order: GaugeOrder, budget: u64) -> Count
-    ensures { λ r. ⌜ Counts t (order .0) budget (countAnswer r) ⌝ }
+    ensures { λ r. ⌜ Counts t (order .0) budget (countSays r) ⌝ }
 {
     let numbers = order.0;
     let checked = preference::check(t, t.gauges, numbers);

@@ -10,6 +10,7 @@ use Prim.Native.Nat.{ℕ, suc, _+_, _-_, _≤_, _<_}
 use native.Mathlib.Decide.{decLt}
 use native.Mathlib.Omega.{arith}
 use borrow.Author.Tests.{lt-ltb, le-ltb}
+use Rattle.basics.proofs.Clash.{clash}
 use Rattle.sets.specs.Sets.{bit}
 use Rattle.covers.specs.Searching.{Outcome, under, search, searchFrom}
 use Rattle.covers.proofs.Searching.{under-found, under-next, from-found, from-next}
@@ -46,8 +47,8 @@ cover-ended r (some c) = refl
 
 not-ended : (r : ℕ) (x : Option (List ℕ)) → spent ≡ ended r x → ⊥
 unfolding ended
-not-ended r none e = let z : _≡_ {A = ℕ} 0 1 = cc in omega arith
-not-ended r (some c) e = let z : _≡_ {A = ℕ} 0 1 = cc in omega arith
+not-ended r none e = clash cc
+not-ended r (some c) e = clash cc
 
 -- ---- within the budget, or past it
 -- the outcome o, within the budget b, which leaves the rest, and with the cover x, if one is there

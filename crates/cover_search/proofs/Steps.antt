@@ -13,6 +13,7 @@ use native.Mathlib.Omega.{arith}
 use lib.Dec.{T}
 use lib.ListN.{length, getD, drop, set, drop-of-length-le}
 use lib.Seq.{drop-cons}
+use Rattle.basics.proofs.Clash.{clash}
 use Rattle.sets.specs.Sets.{bit}
 use Rattle.sets.specs.First.{First}
 use Rattle.boards.specs.Boards.{places}
@@ -20,26 +21,26 @@ use Rattle.boards.specs.private.Clearing.{minus}
 use Rattle.boards.proofs.Clearing.{uncovered-places, places-first, places-none}
 use Rattle.covers.specs.Searching.{Outcome, under, tryEach, search}
 use Rattle.covers.proofs.Searching.{search-nil, search-zero, search-suc, try-none, try-held, try-other, from-last}
-use Rattle.cover_search.specs.Spending.{Spending, spent, nothing, found, spend, upTo, put, laid, noBoards, told, Finds}
+use Rattle.cover_search.specs.Spending.{Spending, spent, nothing, found, spend, upTo, put, laid, noBoards, toldSearch, Finds}
 use Rattle.cover_search.specs.declared.Search.{Search}
 use Rattle.cover_search.specs.declared.Search.the-variants.{Cover, Nothing, Spent}
 use Rattle.cover_search.proofs.Spending.{as-nothing, as-found, is-whole, under-empty, under-spent, under-covers, under-nothing, up-spent, up-found}
 use Rattle.cover_search.proofs.Spending.{up-next}
 
 -- ---- what an answer says
-pub told-spent : (at : ℕ) (o : Spending) → Spent ≡ told at o → o ≡ spent
+pub told-spent : (at : ℕ) (o : Spending) → Spent ≡ toldSearch at o → o ≡ spent
 told-spent at spent e = refl
-told-spent at (nothing r) e = let z : _≡_ {A = ℕ} 0 1 = cc in absurd (omega arith)
-told-spent at (found r c) e = let z : _≡_ {A = ℕ} 0 1 = cc in absurd (omega arith)
+told-spent at (nothing r) e = clash cc
+told-spent at (found r c) e = clash cc
 
-pub told-nothing : (at : ℕ) (o : Spending) (r : ℕ) → Nothing r ≡ told at o → o ≡ nothing r
-told-nothing at spent r e = let z : _≡_ {A = ℕ} 0 1 = cc in absurd (omega arith)
+pub told-nothing : (at : ℕ) (o : Spending) (r : ℕ) → Nothing r ≡ toldSearch at o → o ≡ nothing r
+told-nothing at spent r e = clash cc
 told-nothing at (nothing x) r e = let z : r ≡ x = cc in ap nothing (sym z)
-told-nothing at (found x c) r e = let z : _≡_ {A = ℕ} 0 1 = cc in absurd (omega arith)
+told-nothing at (found x c) r e = clash cc
 
-pub told-cover : (at : ℕ) (o : Spending) (r n : ℕ) → Cover r n ≡ told at o → (c : List ℕ) × (o ≡ found r c) × (n ≡ at + length c)
-told-cover at spent r n e = let z : _≡_ {A = ℕ} 0 1 = cc in absurd (omega arith)
-told-cover at (nothing x) r n e = let z : _≡_ {A = ℕ} 0 1 = cc in absurd (omega arith)
+pub told-cover : (at : ℕ) (o : Spending) (r n : ℕ) → Cover r n ≡ toldSearch at o → (c : List ℕ) × (o ≡ found r c) × (n ≡ at + length c)
+told-cover at spent r n e = clash cc
+told-cover at (nothing x) r n e = clash cc
 told-cover at (found x c) r n e = let z : r ≡ x = cc in let m : n ≡ at + length c = cc in (c, ap (λ (y : ℕ). found y c) (sym z), m)
 
 put-nil : (at : ℕ) (l : List ℕ) → put at [] l ≡ l
@@ -125,7 +126,7 @@ module _ (ls : List ℕ) (i p left k at b : ℕ) (l : List ℕ) where
         where
           go : (t : Bool) → t ≡ bit ladder p → not t ≡ false → T (bit ladder p)
           go true d e = rw (← d) tt
-          go false d e = let z : _≡_ {A = ℕ} 0 1 = cc in absurd (omega arith)
+          go false d e = clash cc
 
       tries : from i ≡ under ladder below (from (i + 1))
       tries =

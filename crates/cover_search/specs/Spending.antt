@@ -50,11 +50,11 @@ abbrev pub noBoards : List ℕ
 noBoards = replicate 8 0
 
 -- ---- how the code's answer reads, where the cover is put into l from place `at` on, and the list is m then
-abbrev pub told : ℕ → Spending → Search
-told at spent = Spent
-told at (nothing rest) = Nothing rest
-told at (found rest c) = Cover rest (at + length c)
+abbrev pub toldSearch : ℕ → Spending → Search
+toldSearch at spent = Spent
+toldSearch at (nothing rest) = Nothing rest
+toldSearch at (found rest c) = Cover rest (at + length c)
 
 pub record Finds (at : ℕ) (o : Spending) (l : List ℕ) (r : Search) (m : List ℕ) : Type 0 where
-  pub says : r ≡ told at o
+  pub says : r ≡ toldSearch at o
   pub cover : m ≡ laid at o l

@@ -15,6 +15,7 @@ use native.Mathlib.Nat.{not-suc-le-zero}
 use native.Mathlib.Omega.{arith}
 use lib.Dec.{T, T-not}
 use lib.ListN.{length, length-append}
+use Rattle.basics.proofs.Clash.{clash}
 use Rattle.sets.proofs.Tests.{test, is-true, is-false}
 use Rattle.rules.specs.Sequences.{All, Sorted}
 use Rattle.rules.proofs.Sequences.{All-get, mem-split}
@@ -433,8 +434,7 @@ module _ {P L : Type 0} (holds : L → P → Bool) where
       }
         where
           later : Dec (m ≡ k) → suc k ≤ m
-          later (yes d) = let z : some c ≡ none = sym e ∙ ap (λ (x : ℕ). search holds ls x left .cover) d ∙ q in let w : _≡_ {A = ℕ} 0 1 =
-              cc in absurd (omega arith)
+          later (yes d) = let z : some c ≡ none = sym e ∙ ap (λ (x : ℕ). search holds ls x left .cover) d ∙ q in clash cc
           later (no d) = omega arith
 
           r : FoundFrom ls left (suc k) (searchFrom holds ls left (suc k) n)
@@ -510,12 +510,12 @@ module _ {P L : Type 0} (holds : L → P → Bool) where
         go (m, d, r) = r .outcome ∙ ap₂ (λ (x : ℕ) (y : Option (List L)). record { tried = x; cover = y })
             (ap (λ (x : ℕ). triedBelow holds ls left (suc x)) same ∙ tried-suc ls left k) covers
           where
-            clash : (j : ℕ) (x : List L) → search holds ls j left .cover ≡ some x → search holds ls j left .cover ≡ none → ⊥
-            clash j x p q = let z : some x ≡ none = sym p ∙ q in let w : _≡_ {A = ℕ} 0 1 = cc in omega arith
+            not-both : (j : ℕ) (x : List L) → search holds ls j left .cover ≡ some x → search holds ls j left .cover ≡ none → ⊥
+            not-both j x p q = let z : some x ≡ none = sym p ∙ q in clash cc
 
             order : Dec (m < k) → Dec (k < m) → m ≡ k
-            order (yes l) b = absurd (clash m d (r .found) (n m l))
-            order (no l) (yes b) = absurd (clash k c e (r .not-before k b))
+            order (yes l) b = absurd (not-both m d (r .found) (n m l))
+            order (no l) (yes b) = absurd (not-both k c e (r .not-before k b))
             order (no l) (no b) = omega arith
 
             same : m ≡ k

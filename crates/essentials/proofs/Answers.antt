@@ -11,6 +11,7 @@ use native.Mathlib.Omega.{arith}
 use lib.Dec.{T}
 use lib.ListN.{length, length-replicate}
 use borrow.Author.Tests.{ne-eqb}
+use Rattle.basics.proofs.Clash.{clash}
 use Rattle.sets.specs.Sets.{bit}
 use Rattle.sets.proofs.Tests.{is-true}
 use Rattle.sets.proofs.OnePlace.{none-in}
@@ -21,6 +22,7 @@ use Rattle.table.specs.Pairs.{Has}
 use Rattle.table.specs.Tables.{Legal, tableRows, tableRefusal, noRows}
 use Rattle.refusals.specs.Answers.{number, Answer, refused}
 use Rattle.table.proofs.Legality.{legal-of, legal-cases}
+use Rattle.table.proofs.Places.{same-pairs-rows}
 use Rattle.refusals.proofs.Answering.{number-pos, verdict-injective}
 use Rattle.judge.specs.Judging.{Judged}
 use Rattle.judge.specs.declared.Judgement.the-variants.{Yes, No}
@@ -32,7 +34,7 @@ use Rattle.conflicts.proofs.Testing.{has-test}
 use Rattle.essentials.specs.Answers.{pairRefusal, foundPairs, GivesPairs, GivesConflicts, GivesEssentials}
 use Rattle.essentials.specs.private.Unions.{conflictRows, Placed, Outdone}
 use Rattle.essentials.proofs.RowLaws.{length-conflicts, conflict-pairs}
-use Rattle.conflicts.proofs.SamePairs.{same-rows, same-back, conflict-same, essential-same, table-pairs}
+use Rattle.conflicts.proofs.SamePairs.{same-back, conflict-same, essential-same, table-pairs}
 
 -- ---- the check of a pair
 pub pair-refused : (t : Table) (g c : ℕ) (x : Refusal) → number x ≡ tableRefusal t → number x ≡ pairRefusal t g c
@@ -54,7 +56,7 @@ module _ (t : Table) (g c : ℕ) (size : length (t .rows) ≡ 64) where
         go false f = refl
         go true f =
             let h : b ≡ true = has .1 (table-pairs t (legal-of t size e) g c .1 (has-test (tableRows t) g c .0 (rw f tt))) in
-            let z : _≡_ {A = ℕ} 0 1 = cc in absurd (omega arith)
+            clash cc
 
     pub pair-present : b ≡ true → 0 ≡ pairRefusal t g c
     pair-present d =
@@ -131,7 +133,7 @@ module _ (t : Table) (g c : ℕ) (size : length (t .rows) ≡ 64) (f : PairFacts
         none : (h d : ℕ) → Has (t .rows) h d → StrictlyContains (t .rows) h d g c → ⊥
         none h d q x =
             let y : b ≡ true = out .1 (h, d, q, rw (up-g, up-c) x) in
-            let w : _≡_ {A = ℕ} 0 1 = cc in omega arith
+            clash cc
 
     pub essential-no : b ≡ true → Judged (pairRefusal t g c) (Essential (tableRows t) g c) No
     essential-no e = judged-no (pairRefusal t g c) (sym (f .passes)) (λ v. go (essential-same (same-back same) g c v) (out .0 e))
@@ -149,7 +151,7 @@ gives-refused n P x a e d = subst (GivesPairs n P) (sym d) (record {
 })
 
 -- ---- one answer
-pub pairs-unique : (n : ℕ) (P : ℕ → ℕ → Type 0) (a b : Answer (List ℕ)) → GivesPairs n P a → GivesPairs n P b → a ≡ b
+pairs-unique : (n : ℕ) (P : ℕ → ℕ → Type 0) (a b : Answer (List ℕ)) → GivesPairs n P a → GivesPairs n P b → a ≡ b
 pairs-unique n P a b x y = ap₂ (λ (m : ℕ) (v : List ℕ). record { refusal = m; value = v }) number-same (go (ℕ-discrete (a .refusal) 0))
   where
     number-same : a .refusal ≡ b .refusal
@@ -157,7 +159,7 @@ pairs-unique n P a b x y = ap₂ (λ (m : ℕ) (v : List ℕ). record { refusal 
 
     go : Dec (a .refusal ≡ 0) → a .value ≡ b .value
     go (yes z) =
-        same-rows (a .value) (b .value) (x .size ∙ sym (y .size)) (λ h d.
+        same-pairs-rows (a .value) (b .value) (x .size ∙ sym (y .size)) (λ h d.
         (λ u. y .pairs (sym number-same ∙ z) h d .1 (x .pairs z h d .0 u), λ u. x .pairs z h d .1 (y .pairs (sym number-same ∙ z) h d .0 u)))
     go (no z) = x .blank z ∙ sym (y .blank (λ w. z (number-same ∙ w)))
 

@@ -13,6 +13,7 @@ use lib.Count.{trailingZeros}
 use lib.ListN.{length, getD, set, length-set, length-replicate, getD-replicate}
 use lib.Seq.{getD-set-same, getD-set-other}
 use borrow.Author.Tests.{eq-eqb, ne-eqb}
+use Rattle.basics.proofs.Clash.{clash}
 use Rattle.sets.specs.Sets.{bit, meet, isSubset}
 use Rattle.sets.specs.First.{Lowest, Rest, Without}
 use Rattle.sets.proofs.Tests.{test, and-l, and-r, and-i}
@@ -35,7 +36,7 @@ told-yes : {P : Type 0} → P → (true ≡ true) ↔ P
 told-yes p = (λ e. p, λ x. refl)
 
 told-no : {P : Type 0} → (P → ⊥) → (false ≡ true) ↔ P
-told-no n = (λ e. let z : _≡_ {A = ℕ} 0 1 = cc in absurd (omega arith), λ p. absurd (n p))
+told-no n = (λ e. clash cc, λ p. absurd (n p))
 
 module _ (r : List ℕ) (n : ℕ) (store : List ℕ) (ready : Ready r n store) (g k : ℕ) (at : Placed r n g k) where
   -- ---- the pairs of row h
@@ -123,7 +124,7 @@ module _ (r : List ℕ) (n : ℕ) (store : List ℕ) (ready : Ready r n store) (
   row-passed h b below f e j l x = go (ℕ-discrete j h)
     where
       go : Dec (j ≡ h) → ⊥
-      go (yes d) = let y : b ≡ true = f .1 (subst (OutdoneIn r g k) d x) in let z : _≡_ {A = ℕ} 0 1 = cc in omega arith
+      go (yes d) = let y : b ≡ true = f .1 (subst (OutdoneIn r g k) d x) in clash cc
       go (no d) = below j (omega arith) x
 
   pub no-row : (h : ℕ) → ((j : ℕ) → j < h → OutdoneIn r g k j → ⊥) → n ≤ h → (false ≡ true) ↔ Outdone r g k
@@ -165,7 +166,7 @@ module _ (r : List ℕ) (g kept rest after k : ℕ) (b : Bool) (s : Keeping r g 
       essential : Essential r (suc g) (suc k)
       essential = record {
         pair = place-has r g k (next-in (Kept kept) (row r g) rest k (s .passed) l);
-        none = λ h i q v. let y : b ≡ true = f .1 (h, i, q, v) in let z : _≡_ {A = ℕ} 0 1 = cc in omega arith;
+        none = λ h i q v. let y : b ≡ true = f .1 (h, i, q, v) in clash cc;
       }
 
   module _ (kept′ : ℕ) (w : Without kept k kept′) where

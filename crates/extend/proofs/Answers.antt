@@ -4,9 +4,9 @@
 -- rows as an order has them, and back (`may-grow`, `placed-first`); each answer by what led to it (`extends-first`, `extends-refused`,
 -- `extends-no-chain`, `extends-grown`); `Extends` leaves one answer only (`extends-unique`), and no two read alike (`extended-injective`).
 use mathlib.Core.Path.{_≡_, refl, sym, ap, ap₂, _∙_, subst, subst₂}
-use mathlib.Core.Bool.{Bool, true, false, cond}
+use mathlib.Core.Bool.{Bool, true, cond}
 use mathlib.Core.List.{List, map}
-use Prim.Native.Nat.{ℕ, suc, _-_, _^_, _≤_, _<_}
+use Prim.Native.Nat.{ℕ, suc, _-_, _^_, _<_}
 use native.Mathlib.Decide.{ℕ-discrete, decLt}
 use native.Mathlib.Omega.{arith}
 use lib.ListN.{length, take, replicate, length-map}
@@ -30,10 +30,9 @@ use Rattle.table.proofs.Legality.{ChainFacts, chain-facts, length-rows, row-tab
 use Rattle.table.proofs.Places.{row-past, within-sub}
 use Rattle.table.proofs.Padding.{pad-length, pad-getD}
 use Rattle.judge.specs.Judging.{judgement, Judged}
-use Rattle.judge.specs.private.RowTests.{allNested}
 use Rattle.judge.specs.declared.Judgement.{Judgement}
 use Rattle.judge.specs.declared.Judgement.the-variants.{Yes, No, Refused}
-use Rattle.judge.proofs.NestedTest.{chain-of-test, test-of-chain}
+use Rattle.judge.proofs.NestedTest.{chain-dec}
 use Rattle.lists.specs.Arrangements.{IsArrangement, placeOf}
 use Rattle.lists.specs.ByNumber.{pickSeq}
 use Rattle.lists.specs.Lists.{gaugeSide, listKey}
@@ -82,11 +81,12 @@ module _ (t : Table) (s : Chain) (k : Given t s) where
   same-rows : take (t .gauges) (s .rows) ≡ chainRows s
   same-rows = ap (λ (n : ℕ). take n (s .rows)) (sym (facts .count))
 
-  pub first-turn : (left : ℕ) → left ≡ lowest 64 → Picked (tableRows t) (take (t .gauges) (s .rows)) (t .gauges) (t .rows) (s .rows) left (replicate 64 0) 0
-  first-turn left e =
-      picked-start (tableRows t) (take (t .gauges) (s .rows)) (t .rows) (s .rows) (t .gauges) left (legal-rows t (facts .legal))
-      (length-rows t (facts .legal)) (k .size) (k .size-chain)
-      (λ i. sym (row-tableRows t (facts .legal) i)) (λ i. sym (ap (λ (x : List ℕ). row x i) same-rows ∙ row-chainRows t s facts (k .size-chain) i)) e
+  pub first-turn : (unpicked left : ℕ) → unpicked ≡ lowest (t .gauges) → left ≡ lowest 64
+      → Picked (tableRows t) (take (t .gauges) (s .rows)) (t .gauges) (t .rows) unpicked (s .rows) left (replicate 64 0) 0
+  first-turn unpicked left u e =
+      picked-start (tableRows t) (take (t .gauges) (s .rows)) (t .rows) (s .rows) (t .gauges) unpicked left (legal-rows t (facts .legal))
+      (length-rows t (facts .legal)) (k .size-chain)
+      (λ i. sym (row-tableRows t (facts .legal) i)) (λ i. sym (ap (λ (x : List ℕ). row x i) same-rows ∙ row-chainRows t s facts (k .size-chain) i)) u e
 
   pub last-turn : (rows : List ℕ) → rows ≡ padded (chainOf (tableRows t) (grow (tableRows t) (take (t .gauges) (s .rows)))) → FirstByNumber t s rows
   last-turn rows e = record {
@@ -303,16 +303,12 @@ grown-unique t o s a b x y =
         ∙ sym (y .rows .held)
 
 pub extends-unique : (t : Table) (k : List ℕ) (s : Chain) (a b : Answer Chain) → Extends t k s a → Extends t k s b → a ≡ b
-extends-unique t k s a b x y = go (ℕ-discrete (growRefusal t k s) 0) (allNested (chainRows s) (length (chainRows s))) refl
+extends-unique t k s a b x y = go (ℕ-discrete (growRefusal t k s) 0) (chain-dec (chainRows s))
   where
-    go : Dec (growRefusal t k s ≡ 0) → (test : Bool) → allNested (chainRows s) (length (chainRows s)) ≡ test → a ≡ b
-    go (no z) test e = x .checked z ∙ sym (y .checked z)
-    go (yes z) true e =
-        grown-unique t (orderOf (t .gauges) k) s a b (x .grown z (chain-of-test (chainRows s) e)) (y .grown z (chain-of-test (chainRows s) e))
-    go (yes z) false e = x .no-chain z not-chain ∙ sym (y .no-chain z not-chain)
-      where
-        not-chain : ¬ IsChain (chainRows s)
-        not-chain h = let w : true ≡ false = sym (test-of-chain (chainRows s) h) ∙ e in let v : _≡_ {A = ℕ} 0 1 = cc in omega arith
+    go : Dec (growRefusal t k s ≡ 0) → Dec (IsChain (chainRows s)) → a ≡ b
+    go (no z) d = x .checked z ∙ sym (y .checked z)
+    go (yes z) (yes c) = grown-unique t (orderOf (t .gauges) k) s a b (x .grown z c) (y .grown z c)
+    go (yes z) (no c) = x .no-chain z c ∙ sym (y .no-chain z c)
 
 -- no two answers read alike
 pub extended-injective : (r q : Extended) → extended r ≡ extended q → r ≡ q

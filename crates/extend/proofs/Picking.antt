@@ -1,7 +1,7 @@
 -- The turns of extending, on a table whose rows are r and a chain whose rows are s: the picks made so far are a front of `grow` of crate
--- `lists`, whose chain is the first maximal one that contains s, and the arrays are what these picks leave (`Picked`). A turn picks what
+-- `lists`, whose chain is the first maximal one that contains s, and what the loop holds is what these picks leave (`Picked`). A turn picks what
 -- `grow` picks next (`picked-next`); where nothing fits, or no turn is left, the picks are all of `grow` (`picked-end`, `picked-all`).
-use mathlib.Core.Path.{_≡_, refl, sym, ap, ap₂, _∙_, subst, fun-ext}
+use mathlib.Core.Path.{_≡_, refl, sym, ap, ap₂, _∙_, subst, subst₂, fun-ext}
 use mathlib.Core.Bool.{Bool, true, false, _&&_, _||_, cond}
 use mathlib.Core.List.{List, [], _∷_, _++_, head?, append-nil}
 use Prim.Native.Nat.{ℕ, suc, _+_, _-_, _≤_, _<_}
@@ -12,84 +12,83 @@ use lib.Bits.{bitAnd}
 use lib.ListN.{length, set, length-set, replicate}
 use lib.Seq.{append-snoc, getD-set-same, getD-set-other}
 use Rattle.table.specs.Tables.{padded}
-use Rattle.sets.specs.Sets.{meet, isSubset}
+use Rattle.sets.specs.Sets.{meet, isSubset, lowest}
+use Rattle.sets.specs.First.{Without}
 use Rattle.sets.specs.Lists.{allBelow}
 use Rattle.sets.proofs.Tests.{and-l, is-false}
 use Rattle.sets.proofs.Order.{is-subset, zero-sub}
 use Rattle.table.specs.Pairs.{row}
+use Rattle.table.specs.Unions.{unionOf}
+use Rattle.table.proofs.Unions.{union-first, union-subset}
 use Rattle.lists.specs.PickSequence.{isIn}
 use Rattle.lists.specs.Picks.{remainder, select}
 use Rattle.lists.specs.ByNumber.{candidate}
 use Rattle.lists.specs.OnTable.{chainOf}
 use Rattle.lists.proofs.Selecting.{head-select, nil-select}
+use Rattle.lists.proofs.Remainders.{remainder-left}
 use Rattle.lists.proofs.Candidates.{cand-of}
 use Rattle.lists.proofs.ChainRows.{length-chainOf, chainOf-snoc}
 use Rattle.lists.proofs.Growing.{covers, fitting, growFrom, grow, grow-end, grow-more}
-use Rattle.search.specs.Finding.{remainderIn, candidateIn, First}
+use Rattle.search.specs.Finding.{remainderIn, FirstOf, within}
 use Rattle.table.proofs.Padding.{pad-set}
 use Rattle.search.proofs.ChainArrays.{chain-none}
-use Rattle.search.proofs.AfterPicks.{full, Rows, After, after-fresh, snoc-hit, snoc-miss, remains-unpicked, candidate-in, after-pick}
-use Rattle.extend.specs.private.PickSteps.{unionTo, fitsIn}
-use Rattle.extend.proofs.PickLoops.{union-subset}
+use Rattle.search.proofs.Within.{length-within, within-lowest, within-without}
+use Rattle.search.proofs.AfterPicks.{full, Rows, After, after-fresh, snoc-hit, snoc-miss, candidate-wide, after-pick}
+use Rattle.extend.specs.private.PickSteps.{fitsIn}
 
--- ---- what the arrays hold after some turns
-pub record Picked (r s : List ℕ) (n : ℕ) (unpicked owed : List ℕ) (left : ℕ) (rows : List ℕ) (turns : ℕ) : Type 0 where
+-- ---- what the arrays hold after some turns: `outer` has the table's rows, and `unpicked` the places of the gauges that are not picked
+pub record Picked (r s : List ℕ) (n : ℕ) (outer : List ℕ) (unpicked : ℕ) (owed : List ℕ) (left : ℕ) (rows : List ℕ) (turns : ℕ) : Type 0 where
   pub table : Rows r
   pub count : length r ≡ n
+  pub same : (i : ℕ) → row outer i ≡ row r i
   pub picks : List ℕ
-  pub after : After r picks unpicked left
+  pub after : After r picks (within unpicked outer) left
   pub owes : (i : ℕ) → row owed i ≡ cond (isIn i picks) 0 (row s i)
   pub built : rows ≡ padded (chainOf r picks)
-  pub size : length unpicked ≡ 64
   pub size-owed : length owed ≡ 64
   pub front : picks ++ growFrom r s picks (n - turns) ≡ grow r s
 
-pub picked-start : (r s unpicked owed : List ℕ) (n left : ℕ) → Rows r → length r ≡ n → length unpicked ≡ 64 → length owed ≡ 64
-    → ((i : ℕ) → row unpicked i ≡ row r i) → ((i : ℕ) → row owed i ≡ row s i) → left ≡ full → Picked r s n unpicked owed left (replicate 64 0) 0
+pub picked-start : (r s outer owed : List ℕ) (n unpicked left : ℕ) → Rows r → length r ≡ n → length owed ≡ 64
+    → ((i : ℕ) → row outer i ≡ row r i) → ((i : ℕ) → row owed i ≡ row s i) → unpicked ≡ lowest n → left ≡ full
+    → Picked r s n outer unpicked owed left (replicate 64 0) 0
 unfolding grow isIn
-picked-start r s unpicked owed n left ok c z zo h ho e = record {
+picked-start r s outer owed n unpicked left ok c zo h ho u e = record {
   table = ok;
   count = c;
+  same = h;
   picks = [];
-  after = subst (After r [] unpicked) (sym e) (after-fresh r unpicked h);
+  after =
+      subst₂ (λ (x y : ℕ). After r [] (within x outer) y) (sym u) (sym e)
+      (after-fresh r (within (lowest n) outer) (within-lowest r outer n (omega (arith, ok .few)) c h));
   owes = ho;
   built = chain-none r (ok .few);
-  size = z;
   size-owed = zo;
   front = ap (growFrom r s []) (omega arith);
 }
 
-module _ (r s : List ℕ) (n : ℕ) (unpicked owed : List ℕ) (left : ℕ) (rows : List ℕ) (turns : ℕ) (k : Picked r s n unpicked owed left rows turns) where
+module _ (r s : List ℕ) (n : ℕ) (outer : List ℕ) (unpicked : ℕ) (owed : List ℕ) (left : ℕ) (rows : List ℕ) (turns : ℕ)
+    (k : Picked r s n outer unpicked owed left rows turns) where
   abbrev p : List ℕ
   p = k .picks
 
   -- the union of what is owed is included where every row of s that is not picked is
-  owed-subset : (z : ℕ) → isSubset (unionTo owed n) z ≡ allBelow (λ i. isIn i p || isSubset (row s i) z) n
+  owed-subset : (z : ℕ) → isSubset (unionOf owed 0 n) z ≡ allBelow (λ i. isIn i p || isSubset (row s i) z) n
   owed-subset z =
-      union-subset owed n z
+      ap (λ (x : ℕ). isSubset x z) (union-first owed n (omega (arith, k .count, k .table .few))) ∙ union-subset owed n z
       ∙ ap (λ (f : ℕ → Bool). allBelow f n) (fun-ext (λ i. ap (λ (x : ℕ). isSubset x z) (k .owes i) ∙ go (isIn i p) i))
     where
       go : (b : Bool) (i : ℕ) → isSubset (cond b 0 (row s i)) z ≡ (b || isSubset (row s i) z)
       go true i = is-subset 0 z (zero-sub z)
       go false i = refl
 
-  fresh-of : (g : ℕ) → T (candidate r p g) → isIn g p ≡ false
-  fresh-of g t = is-false (isIn g p) (cand-of r p g t .fresh)
+  own : (g : ℕ) → meet (row outer g) left ≡ remainder r p g
+  own g = ap₂ meet (k .same g) (k .after .remains) ∙ sym (remainder-left r full p g (k .table .inside g))
 
-  fits-is : (g : ℕ) → fitsIn unpicked left n (unionTo owed n) g ≡ fitting r s p g
+  fits-is : (g : ℕ) → fitsIn outer unpicked left (unionOf owed 0 n) g ≡ fitting r s p g
   unfolding fitsIn fitting covers
   fits-is g =
-      ap (λ (b : Bool). b && isSubset (unionTo owed n) (remainderIn unpicked left g))
-      (ap (λ (m : ℕ). candidateIn unpicked left m g) (sym (k .count)) ∙ candidate-in r p unpicked left (k .table) (k .after) g)
-      ∙ go (candidate r p g) refl
-    where
-      go : (b : Bool) → candidate r p g ≡ b
-          → (b && isSubset (unionTo owed n) (remainderIn unpicked left g)) ≡ (b && allBelow (λ i. isIn i p || isSubset (row s i) (remainder r p g)) (length r))
-      go true e =
-          owed-subset (remainderIn unpicked left g)
-          ∙ ap₂ (λ (z m : ℕ). allBelow (λ i. isIn i p || isSubset (row s i) z) m)
-          (remains-unpicked r p unpicked left (k .table) (k .after) g (fresh-of g (rw e tt))) (sym (k .count))
-      go false e = refl
+      ap₂ (λ (a b : Bool). a && b) (candidate-wide r p (within unpicked outer) left (k .table) (k .after) g)
+      (owed-subset (remainderIn outer left g) ∙ ap₂ (λ (z m : ℕ). allBelow (λ i. isIn i p || isSubset (row s i) z) m) (own g) (sym (k .count)))
 
   -- no turn is left
   pub picked-all : n ≤ turns → rows ≡ padded (chainOf r (grow r s))
@@ -101,9 +100,9 @@ module _ (r s : List ℕ) (n : ℕ) (unpicked owed : List ℕ) (left : ℕ) (row
       none : 0 ≡ n - turns
       none = omega arith
 
-  module _ (u g : ℕ) (e : u ≡ unionTo owed n) (f : First (fitsIn unpicked left n u) 0 n g) (more : turns < n) where
-    at : (i : ℕ) → fitsIn unpicked left n u i ≡ fitting r s p i
-    at i = ap (λ (x : ℕ). fitsIn unpicked left n x i) e ∙ fits-is i
+  module _ (u g : ℕ) (e : u ≡ unionOf owed 0 n) (f : FirstOf (fitsIn outer unpicked left u) 0 n g) (more : turns < n) where
+    at : (i : ℕ) → fitsIn outer unpicked left u i ≡ fitting r s p i
+    at i = ap (λ (x : ℕ). fitsIn outer unpicked left x i) e ∙ fits-is i
 
     low : (i : ℕ) → i < g → T (fitting r s p i) → ⊥
     low i h t = subst T (sym (at i) ∙ f .least i (omega arith) h) t
@@ -124,28 +123,32 @@ module _ (r s : List ℕ) (n : ℕ) (unpicked owed : List ℕ) (left : ℕ) (row
         stop = ap (growFrom r s p) turn ∙ grow-end r s p (n - (turns + 1)) (ap head? nothing)
 
     -- g is picked
-    module _ (h : g < n) where
+    module _ (h : g < n) (rest : ℕ) (w : Without unpicked g rest) where
       fit : T (fitting r s p g)
       fit = subst T (at g) (rw (f .found h .1) tt)
 
       new : isIn g p ≡ false
       unfolding fitting
-      new = fresh-of g (and-l (candidate r p g) (covers r s p g) fit)
+      new = is-false (isIn g p) (cand-of r p g (and-l (candidate r p g) (covers r s p g) fit) .fresh)
 
-      own : bitAnd (row unpicked g) left ≡ remainder r p g
-      unfolding meet
-      own = remains-unpicked r p unpicked left (k .table) (k .after) g new
+      few : g < 64
+      few = omega (arith, k .count, k .table .few)
 
-      pub picked-next : Picked r s n (set unpicked g 0) (set owed g 0) (bitAnd (row unpicked g) left) (set rows g (bitAnd (row unpicked g) left)) (turns + 1)
+      own-row : row (within unpicked outer) g ≡ row outer g
+      own-row = k .after .entry g ∙ ap (λ (b : Bool). cond b 0 (row r g)) new ∙ sym (k .same g)
+
+      pub picked-next : Picked r s n outer rest (set owed g 0) (bitAnd (row outer g) left) (set rows g (bitAnd (row outer g) left)) (turns + 1)
       unfolding meet
       picked-next = record {
         table = k .table;
         count = k .count;
+        same = k .same;
         picks = p ++ (g ∷ []);
-        after = after-pick r p unpicked left g new (omega (arith, k .size, k .count, k .table .few)) (k .after);
+        after =
+            subst₂ (After r (p ++ (g ∷ []))) (sym (within-without unpicked g rest outer few w)) (ap (λ (x : ℕ). meet x left) own-row)
+            (after-pick r p (within unpicked outer) left g new (omega (arith, few, length-within unpicked outer)) (k .after));
         owes = λ i. owe i (ℕ-discrete i g);
         built = build;
-        size = length-set unpicked g 0 ∙ k .size;
         size-owed = length-set owed g 0 ∙ k .size-owed;
         front = append-snoc p g (growFrom r s (p ++ (g ∷ [])) (n - (turns + 1))) ∙ ap (λ (q : List ℕ). p ++ q) (sym grown) ∙ k .front;
       }
@@ -157,12 +160,12 @@ module _ (r s : List ℕ) (n : ℕ) (unpicked owed : List ℕ) (left : ℕ) (row
 
           owe : (i : ℕ) → Dec (i ≡ g) → row (set owed g 0) i ≡ cond (isIn i (p ++ (g ∷ []))) 0 (row s i)
           owe i (yes d) =
-              ap (row (set owed g 0)) d ∙ getD-set-same owed g 0 0 (omega (arith, k .size-owed, k .count, k .table .few))
+              ap (row (set owed g 0)) d ∙ getD-set-same owed g 0 0 (omega (arith, k .size-owed, few))
               ∙ sym (ap (λ (b : Bool). cond b 0 (row s i)) (snoc-hit p g i d))
           owe i (no d) = getD-set-other owed g i 0 0 d ∙ k .owes i ∙ sym (ap (λ (b : Bool). cond b 0 (row s i)) (snoc-miss p g i d))
 
-          build : set rows g (bitAnd (row unpicked g) left) ≡ padded (chainOf r (p ++ (g ∷ [])))
+          build : set rows g (bitAnd (row outer g) left) ≡ padded (chainOf r (p ++ (g ∷ [])))
           build =
-              ap₂ (λ (x : List ℕ) (v : ℕ). set x g v) (k .built) own
+              ap₂ (λ (x : List ℕ) (v : ℕ). set x g v) (k .built) (own g)
               ∙ pad-set (chainOf r p) g (remainder r p g) (omega (arith, length-chainOf r p, k .count))
               ∙ ap padded (sym (chainOf-snoc r p g (rw new tt) (omega (arith, k .count))))

@@ -10,6 +10,7 @@ use refusals::Refusal;
 use refusals::Verdict;
 use search;
 use sets;
+use table;
 use table::Chain;
 use table::Table;
 ghost use mathlib.Core.Path.{_≡_};
@@ -18,11 +19,11 @@ ghost use Rattle.table.specs.Chains.{IsChain};
 ghost use Rattle.table.specs.Tables.{chainRows, blankChain};
 ghost use Rattle.table.proofs.Legality.{ChainFacts};
 ghost use Rattle.refusals.specs.Answers.{refused};
-ghost use Rattle.search.specs.Finding.{First};
+ghost use Rattle.search.specs.Finding.{FirstOf};
 ghost use Rattle.preference.specs.Preferences.{orderOf};
 ghost use Rattle.extend.specs.Extending.{extended, growRefusal, FirstRows, Extends};
 ghost use Rattle.extend.specs.private.FirstByNumber.{FirstByNumber};
-ghost use Rattle.extend.specs.private.PickSteps.{unionTo, fitsIn};
+ghost use Rattle.extend.specs.private.PickSteps.{fitsIn};
 
 // A maximal chain, or a refusal with the blank chain. `extended` in specs/Extending.antt reads it.
 pub struct Extended {
@@ -61,14 +62,9 @@ pub fn extend_chain(t: Table, order: GaugeOrder, s: Chain) -> Extended
 fn refuse(why: Refusal) -> Extended
     ensures { λ r. ⌜ extended r ≡ refused why blankChain ⌝ }
 {
-    let rows = [0u64; 64];
-    let chain = Chain {
-        gauges: 0,
-        rows: rows,
-    };
     Extended {
         verdict: Verdict::Refused(why),
-        chain: chain,
+        chain: table::blank_chain(),
     }
 }
 
@@ -104,20 +100,21 @@ fn first_rows(t: Table, s: Chain) -> [u64; 64]
     ensures { λ r. ⌜ FirstByNumber t s r ⌝ }
 {
     let n = t.gauges as usize;
-    let mut unpicked = t.rows;
+    let outer = t.rows;
+    let mut unpicked = sets::lowest(t.gauges);
     let mut owed = s.rows;
     let mut left = sets::lowest(Table::MOST_CASES);
     let mut rows = [0u64; 64];
     let mut turns = 0;
     while turns < n {
-        let all_owed = union_to(&owed, n);
-        let g = next_fitting(&unpicked, left, n, all_owed);
+        let all_owed = table::union_of(&owed, 0, n);
+        let g = next_fitting(&outer, unpicked, left, n, all_owed);
         if n <= g {
             return rows;
         }
-        left = unpicked[g] & left;
+        left = outer[g] & left;
         rows[g] = left;
-        unpicked[g] = 0;
+        unpicked = sets::without(unpicked, g as u64);
         owed[g] = 0;
         turns += 1;
     }
@@ -125,13 +122,13 @@ fn first_rows(t: Table, s: Chain) -> [u64; 64]
 }
 
 // The lowest place of a gauge that fits, of the first `n`; `n` where there is none.
-fn next_fitting(unpicked: &[u64; 64], left: u64, n: usize, owed: u64) -> usize
+fn next_fitting(rows: &[u64; 64], unpicked: u64, left: u64, n: usize, owed: u64) -> usize
     requires { ⌜ n ≤ 64 ⌝ }
-    ensures { λ r. ⌜ First (fitsIn (now (unpicked .entry)) left n owed) 0 n r ⌝ }
+    ensures { λ r. ⌜ FirstOf (fitsIn (now (rows .entry)) unpicked left owed) 0 n r ⌝ }
 {
     let mut g = 0;
     while g < n {
-        if fits(unpicked, left, n, owed, g) {
+        if fits(rows, unpicked, left, owed, g) {
             return g;
         }
         g += 1;
@@ -140,26 +137,12 @@ fn next_fitting(unpicked: &[u64; 64], left: u64, n: usize, owed: u64) -> usize
 }
 
 // Whether the gauge at place `g` is a candidate whose remainder contains `owed`.
-fn fits(unpicked: &[u64; 64], left: u64, n: usize, owed: u64, g: usize) -> bool
+fn fits(rows: &[u64; 64], unpicked: u64, left: u64, owed: u64, g: usize) -> bool
     requires { ⌜ g < 64 ⌝ }
-    ensures { λ r. ⌜ r ≡ fitsIn (now (unpicked .entry)) left n owed g ⌝ }
+    ensures { λ r. ⌜ r ≡ fitsIn (now (rows .entry)) unpicked left owed g ⌝ }
 {
-    if !sets::subset(owed, unpicked[g] & left) {
+    if !sets::subset(owed, rows[g] & left) {
         return false;
     }
-    search::is_candidate(unpicked, left, n, g)
-}
-
-// The cases of the first `n` rows.
-fn union_to(rows: &[u64; 64], n: usize) -> u64
-    requires { ⌜ n ≤ 64 ⌝ }
-    ensures { λ r. ⌜ r ≡ unionTo (now (rows .entry)) n ⌝ }
-{
-    let mut seen: u64 = 0;
-    let mut i = 0;
-    while i < n {
-        seen = seen | rows[i];
-        i += 1;
-    }
-    seen
+    search::is_candidate_of(rows, unpicked, left, g)
 }

@@ -3,7 +3,7 @@ use mathlib.Core.Path.{_≡_, refl, sym}
 use mathlib.Core.Bool.{true, false}
 use mathlib.Core.List.{List, [], _∷_}
 use Prim.Native.Nat.{ℕ}
-use native.Mathlib.Omega.{arith}
+use Rattle.basics.proofs.Clash.{clash}
 use Rattle.sets.specs.Sets.{meet, isSubset, isProperSubset}
 use Rattle.sets.specs.Lists.{allBelow}
 use Rattle.table.specs.Pairs.{Within}
@@ -11,7 +11,8 @@ use Rattle.table.specs.Chains.{IsChain, IsMaximal}
 use Rattle.table.proofs.Legality.{within-rows}
 use Rattle.table.proofs.Places.{sub-within}
 use Rattle.table.specs.Tables.{rowsWithin}
-use Rattle.judge.specs.private.RowTests.{nested, nestedWith, allNested, narrowed, widest, allWidest}
+use Rattle.judge.specs.WidestRows.{narrowed, widest}
+use Rattle.judge.specs.private.RowTests.{nested, nestedWith, allNested, allWidest}
 use Rattle.judge.proofs.NestedTest.{chain-of-test, test-of-chain}
 use Rattle.judge.proofs.WidestTest.{test-of-maximal}
 
@@ -32,7 +33,7 @@ k6-within = sub-within k2 k6 refl (within-rows k2 k6 refl)
 
 pub k6-no-chain : ¬ IsChain k6
 unfolding allNested nestedWith nested allBelow isSubset meet
-k6-no-chain c = let z : true ≡ false = sym (test-of-chain k6 c) in let w : _≡_ {A = ℕ} 0 1 = cc in omega arith
+k6-no-chain c = let z : true ≡ false = sym (test-of-chain k6 c) in clash cc
 
 -- "K7 .. a chain, no ladder"
 pub k7-within : Within k2 k7
@@ -45,4 +46,4 @@ k7-chain = chain-of-test k7 refl
 
 pub k7-not-maximal : ¬ IsMaximal k2 k7
 unfolding allWidest widest narrowed allBelow isProperSubset isSubset meet
-k7-not-maximal m = let z : true ≡ false = sym (test-of-maximal k2 k7 k7-within k7-chain m) in let w : _≡_ {A = ℕ} 0 1 = cc in omega arith
+k7-not-maximal m = let z : true ≡ false = sym (test-of-maximal k2 k7 k7-within k7-chain m) in clash cc

@@ -1,5 +1,5 @@
--- The test of nested rows decides `IsChain`.
-use mathlib.Core.Path.{_≡_, refl, sym, subst}
+-- The test of nested rows decides `IsChain` (`chain-dec`).
+use mathlib.Core.Path.{_≡_, refl, sym, _∙_, subst}
 use mathlib.Core.Logic.{inl, inr}
 use mathlib.Core.Bool.{Bool, true, false, _||_}
 use mathlib.Core.List.{List}
@@ -8,6 +8,7 @@ use native.Mathlib.Decide.{decLt}
 use native.Mathlib.Omega.{arith}
 use lib.Dec.{T}
 use lib.ListN.{length}
+use Rattle.basics.proofs.Clash.{clash}
 use Rattle.sets.specs.Sets.{_⊆_, isSubset}
 use Rattle.sets.proofs.Tests.{is-true}
 use Rattle.sets.proofs.Order.{subset-is, is-subset, zero-sub}
@@ -59,3 +60,10 @@ module _ (s : List ℕ) where
   test-of-chain c =
       is-true (allNested s (length s)) (all-of (nestedWith s (length s)) (length s) (λ i l.
       all-of (λ j. nested (row s i) (row s j)) (length s) (λ j k. is-nested (row s i) (row s j) (chain-nested s c i j))))
+
+  pub chain-dec : Dec (IsChain s)
+  chain-dec = go (allNested s (length s)) refl
+    where
+      go : (b : Bool) → allNested s (length s) ≡ b → Dec (IsChain s)
+      go true e = yes (chain-of-test e)
+      go false e = no (λ c. let z : true ≡ false = sym (test-of-chain c) ∙ e in clash cc)

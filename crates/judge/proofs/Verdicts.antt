@@ -1,8 +1,8 @@
 -- What each answer of the two judges says.
 --
--- In order: a refusal, a yes and a no (`judged-refused`); a judge has one answer (`judged-unique`), and no two read alike (`judgement-injective`);
--- the answers of `judge_chain` by the test of nested rows (`chain-yes`, `chain-no`), and of `judge_maximal` by that of widest rows
--- (`maximal-no-chain`, `maximal-yes`, `maximal-no`).
+-- In order: a refusal, a yes and a no (`judged-refused`), and what is decided is judged (`judged-dec`); a judge has one answer (`judged-unique`), and no
+-- two read alike (`judgement-injective`); the answers of `judge_chain` by the test of nested rows (`chain-yes`, `chain-no`), and of `judge_maximal` by that
+-- of widest rows (`maximal-no-chain`, `maximal-yes`, `maximal-no`), so that it is decided whether a chain is maximal (`maximal-dec`).
 use mathlib.Core.Path.{_≡_, refl, sym, ap, ap₂, _∙_, subst, fun-ext}
 use mathlib.Core.Bool.{Bool, true, false}
 use mathlib.Core.List.{List}
@@ -10,6 +10,7 @@ use Prim.Native.Nat.{ℕ, zero, suc, _≤_, _<_, _^_}
 use native.Mathlib.Omega.{arith}
 use lib.Dec.{eqb}
 use lib.ListN.{length}
+use Rattle.basics.proofs.Clash.{clash}
 use Rattle.sets.specs.Lists.{allBelow}
 use Rattle.table.specs.Pairs.{row}
 use Rattle.table.specs.Chains.{IsChain, IsMaximal}
@@ -21,7 +22,8 @@ use Rattle.refusals.specs.declared.Refusal.{Refusal}
 use Rattle.refusals.proofs.Answering.{number-pos, number-injective}
 use Rattle.table.proofs.Legality.{ChainFacts, chain-facts, length-chainRows, row-chainRows, chain-within, row-tableRows}
 use Rattle.judge.specs.Judging.{judgement, Judged}
-use Rattle.judge.specs.private.RowTests.{nested, nestedWith, allNested, widest, allWidest}
+use Rattle.judge.specs.WidestRows.{widest}
+use Rattle.judge.specs.private.RowTests.{nested, nestedWith, allNested, allWidest}
 use Rattle.judge.specs.declared.Judgement.{Judgement}
 use Rattle.judge.specs.declared.Judgement.the-variants.{Yes, No, Refused}
 use Rattle.judge.proofs.NestedTest.{chain-of-test, test-of-chain}
@@ -30,15 +32,19 @@ use Rattle.judge.proofs.WidestTest.{maximal-of-test, test-of-maximal}
 pub judged-refused : {P : Type 0} (x : Refusal) (n : ℕ) → number x ≡ n → Judged n P (Refused x)
 judged-refused x n e = record {
   refusal = e;
-  yes = λ d. let z : _≡_ {A = ℕ} 0 1 = cc in absurd (omega arith);
+  yes = λ d. clash cc;
   no = λ z. absurd (omega (arith, number-pos x));
 }
 
 pub judged-yes : {P : Type 0} (n : ℕ) → n ≡ 0 → P → Judged n P Yes
-judged-yes n e p = record { refusal = sym e; yes = λ d. p; no = λ z d. let w : _≡_ {A = ℕ} 0 1 = cc in absurd (omega arith) }
+judged-yes n e p = record { refusal = sym e; yes = λ d. p; no = λ z d. clash cc }
 
 pub judged-no : {P : Type 0} (n : ℕ) → n ≡ 0 → ¬ P → Judged n P No
-judged-no n e p = record { refusal = sym e; yes = λ d. let w : _≡_ {A = ℕ} 0 1 = cc in absurd (omega arith); no = λ z d. p }
+judged-no n e p = record { refusal = sym e; yes = λ d. clash cc; no = λ z d. p }
+
+pub judged-dec : {P : Type 0} (n : ℕ) → n ≡ 0 → Dec P → (j : Judgement) × Judged n P j
+judged-dec n e (yes p) = (Yes, judged-yes n e p)
+judged-dec n e (no p) = (No, judged-no n e p)
 
 -- a judge has one answer
 pub judged-unique : (n : ℕ) (P : Type 0) (r q : Judgement) → Judged n P r → Judged n P q → r ≡ q
@@ -60,7 +66,7 @@ judgement-injective r q e =
     judged : (z : Judgement) → judgement z .refusal ≡ judgement r .refusal → judgement z .value ≡ judgement r .value
         → Judged (judgement r .refusal) (judgement r .value ≡ true) z
     judged z n v =
-        record { refusal = n; yes = λ d. sym v ∙ d; no = λ k d p. let w : false ≡ true = sym d ∙ v ∙ p in let x : _≡_ {A = ℕ} 0 1 = cc in omega arith }
+        record { refusal = n; yes = λ d. sym v ∙ d; no = λ k d p. let w : false ≡ true = sym d ∙ v ∙ p in clash cc }
 
 -- the tests look at rows one by one, so they are the same of the 64 rows and of the first G
 nested-same : (s z : List ℕ) (n : ℕ) → ((i : ℕ) → row s i ≡ row z i) → allNested s n ≡ allNested z n
@@ -94,7 +100,7 @@ module _ (t : Table) (s : Chain) (e : chainRefusal t s ≡ 0) (n : length (t .ro
   is-chain a d h = chain-of-test (chainRows s) (sym (chain-test a d) ∙ h)
 
   no-chain : (a : Bool) → a ≡ allNested (s .rows) (t .gauges) → a ≡ false → ¬ IsChain (chainRows s)
-  no-chain a d h c = let z : true ≡ false = sym (test-of-chain (chainRows s) c) ∙ sym (chain-test a d) ∙ h in let w : _≡_ {A = ℕ} 0 1 = cc in omega arith
+  no-chain a d h c = let z : true ≡ false = sym (test-of-chain (chainRows s) c) ∙ sym (chain-test a d) ∙ h in clash cc
 
   pub chain-yes : (a : Bool) → a ≡ allNested (s .rows) (t .gauges) → a ≡ true → Judged (chainRefusal t s) (IsChain (chainRows s)) Yes
   chain-yes a d h = judged-yes (chainRefusal t s) e (is-chain a d h)
@@ -124,5 +130,13 @@ module _ (t : Table) (s : Chain) (e : chainRefusal t s ≡ 0) (n : length (t .ro
     maximal-no h =
         judged-no (chainRefusal t s) e (λ x.
         let z : true ≡ false = sym (test-of-maximal (tableRows t) (chainRows s) (chain-within t s facts m) (is-chain a da ha) x) ∙ sym wide-test ∙ h in
-        let w : _≡_ {A = ℕ} 0 1 = cc in
-        omega arith)
+        clash cc)
+
+  pub maximal-dec : Dec (IsMaximal (tableRows t) (chainRows s))
+  maximal-dec = go (allNested (s .rows) (t .gauges)) refl (allWidest (t .rows) (s .rows) (t .gauges)) refl
+    where
+      go : (a : Bool) → allNested (s .rows) (t .gauges) ≡ a → (b : Bool) → allWidest (t .rows) (s .rows) (t .gauges) ≡ b
+          → Dec (IsMaximal (tableRows t) (chainRows s))
+      go false p b q = no (λ x. no-chain false (sym p) refl (x .chain))
+      go true p true q = yes (maximal-yes true true (sym p) refl (sym q) refl .yes refl)
+      go true p false q = no (maximal-no true false (sym p) refl (sym q) refl .no e refl)

@@ -16,6 +16,7 @@ use lib.Count.{ones, ones-le}
 use lib.ListN.{length, set, length-set}
 use lib.Seq.{ext-getD, getD-set-same, getD-set-other}
 use borrow.Author.Tests.{eqb-true, eq-eqb}
+use Rattle.basics.proofs.Clash.{clash}
 use Rattle.sets.specs.Sets.{meet, _⊆_, isProperSubset}
 use Rattle.sets.proofs.Tests.{is-true}
 use Rattle.sets.proofs.Order.{sub-refl, sub-trans, sub-antisym, sub-dec, meet-left, meet-right, meet-glb, zero-sub, ones-mono, ones-strict, proper-is}
@@ -25,7 +26,8 @@ use Rattle.table.specs.Pairs.{row, Within}
 use Rattle.table.specs.Chains.{IsChain, IsMaximal}
 use Rattle.table.proofs.Places.{row-past, within-sub, sub-within}
 use Rattle.table.proofs.Nesting.{Nested, chain-nested, nested-chain}
-use Rattle.judge.specs.private.RowTests.{narrowed, widest, allWidest}
+use Rattle.judge.specs.WidestRows.{narrowed, widest}
+use Rattle.judge.specs.private.RowTests.{allWidest}
 use Rattle.judge.proofs.NestedTest.{as-true}
 
 -- ---- the widest row is the greatest lower bound of the table's row and the rows strictly above
@@ -57,7 +59,7 @@ module _ (s : List ℕ) (x i : ℕ) where
       go : Dec (j ≡ n) → (b : Bool) → isProperSubset (row s i) (row s n) ≡ b → (j < n → widest s x i n ⊆ row s j) → widest s x i (suc n) ⊆ row s j
       go (yes d) true f ih = rw (step-yes n f, d) (meet-right (widest s x i n) (row s n))
       go (yes d) false f ih =
-          let z : true ≡ false = sym e ∙ ap (λ (m : ℕ). isProperSubset (row s i) (row s m)) d ∙ f in let w : _≡_ {A = ℕ} 0 1 = cc in absurd (omega arith)
+          let z : true ≡ false = sym e ∙ ap (λ (m : ℕ). isProperSubset (row s i) (row s m)) d ∙ f in clash cc
       go (no d) true f ih =
           rw (step-yes n f) (sub-trans (meet (widest s x i n) (row s n)) (widest s x i n) (row s j) (meet-left (widest s x i n) (row s n)) (ih (omega arith)))
       go (no d) false f ih = rw (step-no n f) (ih (omega arith))

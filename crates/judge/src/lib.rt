@@ -1,5 +1,6 @@
 // The two judges: whether a set of pairs is a chain of its table, and whether it is a maximal chain (01: a ladder). Each takes any
-// table and any chain, however malformed, and refuses 10 to 13 in 01's order. At most 64 * 64 steps on sets of cases.
+// table and any chain, however malformed, and refuses 10 to 13 in 01's order. At most 64 * 64 steps on sets of cases. Beside them, for the second
+// and for others: how wide a row of a chain can be.
 use refusals::Refusal;
 use refusals::Verdict;
 use sets;
@@ -11,7 +12,11 @@ ghost use Prim.Native.Nat.{_≤_, _<_};
 ghost use Rattle.table.specs.Chains.{IsChain, IsMaximal};
 ghost use Rattle.table.specs.Tables.{tableRows, chainRows, chainRefusal};
 ghost use Rattle.judge.specs.Judging.{Judged};
-ghost use Rattle.judge.specs.private.RowTests.{nested as isNested, nestedWith, allNested, narrowed as narrowedTo, widest as widestRow, allWidest};
+ghost use Rattle.judge.specs.WidestRows.{narrowed as narrowedTo, widestOf};
+ghost use Rattle.judge.specs.private.RowTests.{nested as isNested, nestedWith, allNested, allWidest};
+
+// The rows that a table and a chain hold.
+const ROWS: usize = Table::MOST_GAUGES as usize;
 
 // What a judge answers. `judgement` in specs/Judging.antt reads it.
 pub enum Judgement {
@@ -54,6 +59,26 @@ pub fn judge_maximal(t: Table, s: Chain) -> Judgement
         return Judgement::Yes;
     }
     Judgement::No
+}
+
+// The widest that row `i` can be within `most`, among the first `n` rows; `most` where there is no row `i`, or not `n` rows.
+pub fn widest(rows: &[u64; 64], most: u64, i: usize, n: usize) -> u64
+    ensures { λ r. ⌜ r ≡ widestOf (now (rows .entry)) most i n ⌝ }
+{
+    if ROWS <= i {
+        return most;
+    }
+    if ROWS < n {
+        return most;
+    }
+    let own = rows[i];
+    let mut wide = most;
+    let mut j = 0;
+    while j < n {
+        wide = narrowed(wide, own, rows[j]);
+        j += 1;
+    }
+    wide
 }
 
 // Any two of the first `n` rows are nested.
@@ -111,21 +136,6 @@ fn all_widest(outer: &[u64; 64], rows: &[u64; 64], n: usize) -> bool
         i += 1;
     }
     true
-}
-
-// The widest that row `i` can be, from the table's row on.
-fn widest(rows: &[u64; 64], most: u64, i: usize, n: usize) -> u64
-    requires { ⌜ (n ≤ 64) × (i < 64) ⌝ }
-    ensures { λ r. ⌜ r ≡ widestRow (now (rows .entry)) most i n ⌝ }
-{
-    let own = rows[i];
-    let mut wide = most;
-    let mut j = 0;
-    while j < n {
-        wide = narrowed(wide, own, rows[j]);
-        j += 1;
-    }
-    wide
 }
 
 // `wide` narrowed to `other` where that strictly contains `own`.

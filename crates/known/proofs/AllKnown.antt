@@ -13,6 +13,7 @@ use native.Mathlib.Omega.{arith}
 use lib.Dec.{T}
 use lib.Count.{onesIn, ones}
 use lib.ListN.{length, getElem?}
+use Rattle.basics.proofs.Clash.{clash}
 use Rattle.sets.specs.Sets.{meet, isSubset, isProperSubset}
 use Rattle.sets.specs.Lists.{tabulate, allBelow}
 use Rattle.sets.proofs.Tabulated.{all-at}
@@ -72,8 +73,8 @@ goesOn ends = false
 
 no-end : (g : Given) → T (goesOn g) → g ≢ ends
 unfolding goesOn
-no-end nothing t e = let z : _≡_ {A = ℕ} 0 1 = cc in omega arith
-no-end (hands p) t e = let z : _≡_ {A = ℕ} 0 1 = cc in omega arith
+no-end nothing t e = clash cc
+no-end (hands p) t e = clash cc
 no-end ends t e = t
 
 -- the move after i moves
@@ -102,7 +103,7 @@ holds K10 = (shape k10 _ _ refl refl refl refl, refl, refl, refl, refl)
 
 -- what stands at a place of a list is in it
 at-place : (l : List Known) (n : ℕ) {k : Known} → getElem? l n ≡ some k → List·Memᴰ k l
-at-place [] n e = let z : _≡_ {A = ℕ} 0 1 = cc in absurd (omega arith)
+at-place [] n e = clash cc
 at-place (x ∷ l) zero {k} e = List·Memᴰ·head (let z : x ≡ k = cc in sym z)
 at-place (x ∷ l) (suc n) e = List·Memᴰ·tail (at-place l n e)
 

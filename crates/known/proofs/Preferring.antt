@@ -2,7 +2,7 @@
 -- in the order of the preference; for a table written out it is computed, and so are the pick sequences.
 use mathlib.Core.Path.{_≡_, refl, subst}
 use mathlib.Core.List.{List, [], _∷_, map}
-use Prim.Native.Nat.{ℕ, suc, _<_}
+use Prim.Native.Nat.{ℕ, suc}
 use lib.Count.{onesIn, ones}
 use lib.Dec.{T, eqb, eqb→eq}
 use lib.ListN.{length}

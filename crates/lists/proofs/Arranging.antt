@@ -82,7 +82,7 @@ module _ (n : ℕ) (o : List ℕ) (a : IsArrangement n o) where
   length-arrange x = arrange-moves .size x
 
   -- row i stands at its place
-  pub row-place : (x : List ℕ) (i : ℕ) → i < n → row (arrange o x) (placeOf o i) ≡ row x i
+  row-place : (x : List ℕ) (i : ℕ) → i < n → row (arrange o x) (placeOf o i) ≡ row x i
   row-place x i l = arrange-moves .at x (placeOf o i) (place-below n o a i l) ∙ ap (row x) (index-place n o a i l)
 
   -- ---- one undoes the other

@@ -65,7 +65,7 @@ module _ (rows : List ℕ) where
       go (yes e) = rw (row-hit q g p i e) (sub-refl (R q g))
       go (no e) = rw (row-miss q g p i e) (sub-trans (C (q ++ (g ∷ [])) p i) (R (q ++ (g ∷ [])) i) (R q g) (row-le (q ++ (g ∷ [])) p i) (step-right rows q g i))
 
-  pub rows-nested : (q p : List ℕ) (i j : ℕ) → Nested (C q p i) (C q p j)
+  rows-nested : (q p : List ℕ) (i j : ℕ) → Nested (C q p i) (C q p j)
   rows-nested q [] i j = inl (rw (row-none q i) (zero-sub (C q [] j)))
   rows-nested q (g ∷ p) i j = go (ℕ-discrete i g) (ℕ-discrete j g) (rows-nested (q ++ (g ∷ [])) p i j)
     where

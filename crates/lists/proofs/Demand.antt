@@ -8,6 +8,8 @@
 --
 -- Elsewhere: that the limits are attained, `limits-attained` in crate `known`; the lists themselves, BothSides.antt and PreferredSides.antt; "the
 -- arrangement 1, 2, 3 and on", Plain.antt.
+--
+-- Pins, which nothing else cites: `demand-gap`.
 use mathlib.Core.Path.{_≡_, refl, sym, ap, _∙_, subst}
 use mathlib.Core.Logic.{_↔_}
 use mathlib.Core.List.{List, _∷_, _++_, map, List·Memᴰ, Memᴰ·map, Memᴰ·of-map}
@@ -94,15 +96,17 @@ module _ (t : Table) (l : Legal t) (s : Side) (f : Fair t s) (o : List ℕ) (a :
 
   pub demand3 : (bs : List ℕ) → Demand t s o bs (callsOn s o bs)
   demand3 bs = record {
-    only18 = all-only18 (moveOn s o) (handOut s) bs fresh;
-    whole = all-whole (moveOn s o) (handOut s) bs fresh;
-    spent = all-spent (moveOn s o) (handOut s) bs fresh;
-    rules = refl;
-    list = listed;
-    listed = preferred-list t s f o a;
+    hands = record {
+      only18 = all-only18 (moveOn s o) (handOut s) bs fresh;
+      whole = all-whole (moveOn s o) (handOut s) bs fresh;
+      spent = all-spent (moveOn s o) (handOut s) bs fresh;
+      rules = refl;
+      list = listed;
+      listed = preferred-list t s f o a;
+      front = front-placed bs;
+      complete = complete-placed bs;
+    };
     few = list-few t l listed (preferred-list t s f o a);
-    front = front-placed bs;
-    complete = complete-placed bs;
     start = start-placed bs;
     gap = λ sooner later c y e h. gap-placed bs sooner later c e;
   }
@@ -124,16 +128,16 @@ module _ (t : Table) (l : Legal t) (s : Side) (f : Fair t s) (o : List ℕ) (a :
       → mostSets t < length bs → handouts (callsOn s o bs) ≡ xs
   run-lists-all xs x bs enough h =
       let c = run-ends bs enough h in
-      let d = demand3 bs in
+      let d = demand3 bs .hands in
       d .complete (c .0) (c .1) (c .2) ∙ list-unique (d .list) xs (d .listed) x
 
 -- the demand leaves one list of calls to each list of budgets
 pub demand-unique : (t : Table) (s : Side) (o bs : List ℕ) (cs ds : List Call) → Demand t s o bs cs → Demand t s o bs ds → cs ≡ ds
-demand-unique t s o bs cs ds a b = a .rules ∙ sym (b .rules)
+demand-unique t s o bs cs ds a b = a .hands .rules ∙ sym (b .hands .rules)
 
 -- also by what it says of each call alone
 pub demand-each : (t : Table) (s : Side) (o bs : List ℕ) (cs : List Call) → Demand t s o bs cs → cs ≡ callsOn s o bs
-demand-each t s o bs cs d = one-list (moveOn s o) (handOut s) bs fresh cs (d .only18) (d .whole)
+demand-each t s o bs cs d = one-list (moveOn s o) (handOut s) bs fresh cs (d .hands .only18) (d .hands .whole)
 
 -- the limit after a hand-out, as a user reads it off a list of calls
 pub demand-gap : (t : Table) (s : Side) (o bs : List ℕ) (sooner later : List Call) (c : Call) (y : List ℕ) → Demand t s o bs (sooner ++ (c ∷ later))

@@ -12,6 +12,7 @@ use lib.Dec.{T, eqb, eqb→eq}
 use lib.ListN.{length}
 use lib.Count.{ones}
 use borrow.Author.Tests.{eq-eqb}
+use Rattle.basics.proofs.Clash.{clash}
 use Rattle.sets.specs.Sets.{meet, _⊆_}
 use Rattle.sets.proofs.Order.{sub-trans, sub-zero, zero-sub, ones-eq, ones-empty, ones-zero}
 use Rattle.lists.specs.PickSequence.{isIn}
@@ -46,7 +47,7 @@ module _ (rows : List ℕ) where
 
       none : (b : Bool) → b ≡ true → 0 < cond b 0 (ones (R q h)) → ⊥
       none true e l = not-suc-le-zero l
-      none false e l = let z : _≡_ {A = ℕ} 0 1 = cc in omega arith
+      none false e l = clash cc
 
       go : T (isIn h q) ⊎ T (not (isIn h q)) → T (eqb (meet x (R q h)) x) ⊎ T (not (eqb (meet x (R q h)) x)) → Un q h × (x ⊆ R q h)
       go (inl m) d = absurd (none (isIn h q || not (eqb (meet x (R q h)) x)) (rw (is-true (isIn h q) m)) l)

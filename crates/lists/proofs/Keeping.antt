@@ -8,13 +8,12 @@ use mathlib.Core.List.{List, _++_, map, List·Memᴰ, Memᴰ·map, Memᴰ·of-ma
 use Prim.Native.Nat.{ℕ}
 use lib.ListN.{length}
 use Rattle.table.specs.declared.Table.{Table}
-use Rattle.table.specs.Tables.{tableRows}
 use Rattle.rules.specs.Machine.{State, fresh, Move}
 use Rattle.rules.specs.ByNumber.{move}
 use Rattle.rules.specs.Calls.{end, Call, callsBy, handouts}
 use Rattle.rules.proofs.Reports.{all-only18, all-whole, all-spent, one-list}
 use Rattle.rules.specs.Sequences.{Sorted}
-use Rattle.rules.specs.Keeping.{moveKeeping, kept}
+use Rattle.rules.specs.Keeping.{moveKeeping, keptSets}
 use Rattle.rules.proofs.Kept.{kept-sorted}
 use Rattle.rules.proofs.Keeping.{kept-front, kept-complete, kept-ends, all-kept}
 use Rattle.rules.proofs.Renaming.{renamedCall, calls-renamed, keeping-follows, keeping-out, handouts-renamed}
@@ -57,13 +56,13 @@ module _ (t : Table) (s : Side) (f : Fair t s) (o : List ℕ) (a : IsArrangement
   abbrev listed : List (List ℕ)
   listed = sideList t arranged (prefer-fair t s f o a)
 
-  front-placed : (bs : List ℕ) → (rest : List (List ℕ)) × (handouts (callsKeeping s o keep bs) ++ rest ≡ kept keep listed)
+  front-placed : (bs : List ℕ) → (rest : List (List ℕ)) × (handouts (callsKeeping s o keep bs) ++ rest ≡ keptSets keep listed)
   front-placed bs =
       let r = kept-front (candidates rows) (handOut arranged) keep (length rows) (candidate-tree rows) bs in
       (r .0, ap (λ (x : List (List ℕ)). x ++ r .0) (handouts-placed bs) ∙ r .1)
 
   complete-placed : (bs : List ℕ) (c : Call) → List·Memᴰ c (callsKeeping s o keep bs) → c .answer ≡ end
-      → handouts (callsKeeping s o keep bs) ≡ kept keep listed
+      → handouts (callsKeeping s o keep bs) ≡ keptSets keep listed
   complete-placed bs c m e =
       let k = Memᴰ·of-map (renamedCall (indexAt o)) (made bs) (subst (λ (cs : List Call). List·Memᴰ c cs) (keeping-placed bs) m) in
       handouts-placed bs
@@ -102,7 +101,7 @@ module _ (t : Table) (s : Side) (f : Fair t s) (o : List ℕ) (a : IsArrangement
 
 -- "in the same order": the kept part of a list ascends as the list does
 pub kept-ascends : (keep : List ℕ → Bool) (r : List ℕ) (key : List ℕ → List ℕ) (xs : List (List ℕ)) → SideList r key xs
-    → Sorted (Earlier key) (kept keep xs)
+    → Sorted (Earlier key) (keptSets keep xs)
 kept-ascends keep r key xs l = kept-sorted keep (Earlier key) xs (l .ascends)
 
 -- one list of calls

@@ -6,12 +6,12 @@ use mathlib.Core.Path.{_≡_, refl, sym, ap, ap₂, _∙_}
 use mathlib.Core.Bool.{Bool, true, false, not, _&&_, _||_, cond}
 use mathlib.Core.List.{List, [], _∷_, _++_, map}
 use Prim.Native.Nat.{ℕ, zero, suc, _<_}
-use native.Mathlib.Decide.{ℕ-discrete, decLt}
+use native.Mathlib.Decide.{ℕ-discrete}
 use native.Mathlib.Omega.{arith}
-use lib.Dec.{T, eqb, ltb}
-use lib.ListN.{length, getD, List·getD-append}
+use lib.Dec.{T, eqb}
+use lib.ListN.{length, List·getD-append}
 use borrow.Author.Tests.{eq-eqb, ne-eqb, lt-ltb}
-use Rattle.sets.specs.Sets.{meet, isProperSubset}
+use Rattle.sets.specs.Sets.{meet}
 use Rattle.sets.specs.Lists.{allBelow}
 use Rattle.sets.proofs.Tabulated.{all-at, all-of}
 use Rattle.table.specs.Pairs.{row}
@@ -53,7 +53,7 @@ chosen-snoc f (y ∷ l) x = rw (chosen-snoc f l x) (go (f y) (f x))
     go false true = refl
     go false false = refl
 
-pub select-same : (f g : ℕ → Bool) (n : ℕ) → ((i : ℕ) → i < n → f i ≡ g i) → select f n ≡ select g n
+select-same : (f g : ℕ → Bool) (n : ℕ) → ((i : ℕ) → i < n → f i ≡ g i) → select f n ≡ select g n
 unfolding select
 select-same f g zero h = refl
 select-same f g (suc n) h = rw (h n (omega arith), select-same f g n (λ i l. h i (omega arith)))
@@ -151,7 +151,7 @@ module _ (n : ℕ) (o : List ℕ) (a : IsArrangement n o) where
     rows = arrange o r
 
     -- ---- remainders
-    pub common-placed : (q : List ℕ) (x : ℕ) → AllBelow n q → common r (map num q) x ≡ common rows q x
+    common-placed : (q : List ℕ) (x : ℕ) → AllBelow n q → common r (map num q) x ≡ common rows q x
     unfolding common
     common-placed [] x h = refl
     common-placed (i ∷ q) x h =

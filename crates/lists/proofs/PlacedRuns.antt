@@ -7,14 +7,14 @@
 -- Elsewhere: calls that follow one another so, crate `rules`, Renaming.antt.
 use mathlib.Core.Path.{_≡_, refl, sym, ap, ap₂, _∙_, subst}
 use mathlib.Core.Logic.{_↔_}
-use mathlib.Core.Bool.{cond}
 use mathlib.Core.Option.{Option, none, some}
-use mathlib.Core.List.{List, [], _∷_, _++_, head?, map, append-nil}
+use mathlib.Core.List.{List, [], _∷_, _++_, head?, map}
 use Prim.Native.Nat.{ℕ, _≤_, _<_}
 use native.Mathlib.Decide.{ℕ-discrete}
 use native.Mathlib.Omega.{arith}
 use lib.ListN.{length}
 use lib.Seq.{ext-getD}
+use Rattle.basics.proofs.Clash.{clash}
 use Rattle.table.specs.Pairs.{row}
 use Rattle.rules.specs.Machine.{Phase, Down, Handed, Back, Ended, State, at, fresh, hands, Cut, empty, cut, cutLast, takeBack, down, back}
 use Rattle.rules.specs.ByNumber.{above, step}
@@ -23,10 +23,8 @@ use Rattle.rules.specs.ByNumber.{move}
 use Rattle.rules.specs.private.Fitting.{ValidFrom, Valid, Fits}
 use Rattle.rules.proofs.Sequences.{All-append}
 use Rattle.rules.proofs.Progress.{move-fits}
-use Rattle.rules.proofs.Reach.{reachable}
 use Rattle.rules.proofs.Renaming.{renamed, renamedPhase, map-snoc, Below, Renames, moves-renamed, Follows, SameOut, after-renamed}
 use Rattle.lists.specs.Arrangements.{IsArrangement, placeOf}
-use Rattle.lists.specs.Picks.{common}
 use Rattle.lists.specs.ByNumber.{candidates}
 use Rattle.lists.specs.Preferred.{candidatesBy}
 use Rattle.lists.specs.Lists.{Side}
@@ -52,22 +50,22 @@ fits-below r q Ended h = record { picks = subst (AllBelow (length r)) (sym h) tt
 
 -- ---- a move hands out the picks that there are
 take-hands : (c : Cut) (p : List ℕ) → takeBack c .given ≡ hands p → ⊥
-take-hands empty p e = let z : _≡_ {A = ℕ} 0 1 = cc in omega arith
-take-hands (cut q g) p e = let z : _≡_ {A = ℕ} 0 1 = cc in omega arith
+take-hands empty p e = clash cc
+take-hands (cut q g) p e = clash cc
 
 pub step-hands : (kids : List ℕ → List ℕ) (q : List ℕ) (f : Phase) (p : List ℕ) → step kids q f .given ≡ hands p → p ≡ q
 step-hands kids q Down p = go (head? (kids q))
   where
     go : (o : Option ℕ) → down q o .given ≡ hands p → p ≡ q
     go none e = cc
-    go (some g) e = let z : _≡_ {A = ℕ} 0 1 = cc in absurd (omega arith)
+    go (some g) e = clash cc
 step-hands kids q Handed p = λ e. absurd (take-hands (cutLast q) p e)
 step-hands kids q (Back g) p = go (head? (above g (kids q)))
   where
     go : (o : Option ℕ) → back q o .given ≡ hands p → p ≡ q
     go none e = absurd (take-hands (cutLast q) p e)
-    go (some h) e = let z : _≡_ {A = ℕ} 0 1 = cc in absurd (omega arith)
-step-hands kids q Ended p = λ e. let z : _≡_ {A = ℕ} 0 1 = cc in absurd (omega arith)
+    go (some h) e = clash cc
+step-hands kids q Ended p = λ e. clash cc
 
 -- ---- chains
 module _ (n : ℕ) (o : List ℕ) (a : IsArrangement n o) (r : List ℕ) (e : length r ≡ n) where
@@ -130,7 +128,7 @@ module _ (s : Side) (o : List ℕ) (counted : length (s .rows) ≡ s .count) (a 
   pub hand-out-placed : (q : List ℕ) → AllBelow n q → handOut s (map (indexAt o) q) ≡ handOut (prefer o s) q
   hand-out-placed q b = ap (s .byGauges) (chain-placed n o a (s .rows) counted q b)
 
-  pub renames : Renames n (indexAt o) (placeOf o) (candidates rows) (candidatesBy o (s .rows))
+  renames : Renames n (indexAt o) (placeOf o) (candidates rows) (candidatesBy o (s .rows))
   renames = record {
     back-to = place-index n o a;
     inside = candidates-below n o a (s .rows) counted;

@@ -2,7 +2,7 @@
 -- place by its index (`sequence-placed`), and so its places are the sequence of the arranged set (`places-placed`).
 --
 -- In order: the best of a list, by place; scores; what is taken, one after the other; the whole sequence.
-use mathlib.Core.Path.{_≡_, refl, sym, ap, ap₂, _∙_}
+use mathlib.Core.Path.{_≡_, refl, sym, ap, _∙_}
 use mathlib.Core.Bool.{Bool, true, false, cond}
 use mathlib.Core.List.{List, [], _∷_, _++_, map}
 use Prim.Native.Nat.{ℕ, zero, suc, _≤_, _<_}
@@ -10,14 +10,12 @@ use native.Mathlib.Decide.{ℕ-discrete}
 use native.Mathlib.Omega.{arith}
 use lib.Dec.{eqb, ltb}
 use lib.ListN.{length, List·getD-append}
-use lib.Count.{ones}
 use borrow.Author.Tests.{eq-eqb, ne-eqb}
-use Rattle.table.specs.Pairs.{row}
 use Rattle.rules.proofs.Sequences.{All-append}
 use Rattle.rules.proofs.Trees.{by-last, length-snoc}
 use Rattle.rules.proofs.Renaming.{map-snoc}
 use Rattle.lists.specs.Arrangements.{IsArrangement, placeOf}
-use Rattle.lists.specs.PickSequence.{isIn, score}
+use Rattle.lists.specs.PickSequence.{score}
 use Rattle.lists.specs.ByNumber.{best, takeFrom, pickSeq}
 use Rattle.lists.specs.Preferred.{bestFrom, bestIn, takeBy, pickSeqBy, placesOf}
 use Rattle.lists.specs.private.Arranging.{indexAt, arrange}
@@ -108,7 +106,7 @@ in-places f [] h = absurd (omega arith)
 in-places f (y ∷ l) h = from-places f y l
 
 -- ---- what a pick sequence takes is below the number of rows
-pub take-below : (s q : List ℕ) (k : ℕ) → AllBelow (length s) (takeFrom s q k)
+take-below : (s q : List ℕ) (k : ℕ) → AllBelow (length s) (takeFrom s q k)
 take-below s q zero = rw (take-none s q) tt
 take-below s q (suc k) = go (ℕ-discrete (score s q (next s q)) 0) (take-below s (q ++ (next s q ∷ [])) k)
   where

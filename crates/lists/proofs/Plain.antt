@@ -6,7 +6,7 @@ use mathlib.Core.Path.{_≡_, refl, sym, ap, ap₂, _∙_, subst, fun-ext}
 use mathlib.Core.Logic.{_⊎_, inl, inr, _↔_}
 use mathlib.Core.Bool.{Bool}
 use mathlib.Core.List.{List, [], _∷_, map}
-use Prim.Native.Nat.{ℕ, _<_}
+use Prim.Native.Nat.{ℕ}
 use lib.ListN.{length}
 use Rattle.table.specs.declared.Table.{Table}
 use Rattle.table.specs.Chains.{IsMaximal}
@@ -19,7 +19,7 @@ use Rattle.rules.specs.Keeping.{moveKeeping}
 use Rattle.rules.specs.private.Fitting.{Fits}
 use Rattle.rules.proofs.Renaming.{renamed, renamedPhase, renamedGiven, renamedMove, renamedCall, Below, Follows, SameOut, call-stays}
 use Rattle.rules.proofs.Renaming.{keeping-follows, keeping-out, calls-renamed, state-renamed}
-use Rattle.lists.specs.Arrangements.{IsArrangement, placeOf, plain}
+use Rattle.lists.specs.Arrangements.{IsArrangement, plain}
 use Rattle.lists.specs.Preferred.{candidatesBy, pickSeqBy, placesOf}
 use Rattle.lists.specs.Lists.{Earlier, SideList, Side, gaugeSide, caseSide, listKey, PreferredList, baseKey, BaseList, GaugeList, CaseList}
 use Rattle.lists.specs.Growing.{FirstContaining}
@@ -27,7 +27,7 @@ use Rattle.lists.specs.OnTable.{chainOf, handOut, moveOn, ReachedOn, cal
 use Rattle.lists.specs.Keeping.{callsKeeping}
 use Rattle.lists.specs.ByNumber.{pickSeq, candidates, sequenceOf}
 use Rattle.lists.specs.private.Arranging.{indexAt, arrange, unarrange, prefer}
-use Rattle.lists.proofs.Standing.{place-index, index-plain, plain-arrangement}
+use Rattle.lists.proofs.Standing.{index-plain, plain-arrangement}
 use Rattle.lists.proofs.Arranging.{arrange-plain, unarrange-arrange}
 use Rattle.lists.proofs.CandidateTree.{reached-fits}
 use Rattle.lists.proofs.ChainRows.{length-chainOf}
@@ -36,9 +36,6 @@ use Rattle.lists.proofs.BothSides.{Fair, gauge-fair, case-fair, sideLis
 use Rattle.lists.proofs.PlacedCandidates.{AllBelow, candidates-placed, candidates-below}
 use Rattle.lists.proofs.PlacedSequences.{sequence-placed, sequence-below, places-placed}
 use Rattle.lists.proofs.PlacedRuns.{step-hands, Good, good-below, follows, same-out, reached-placed}
-
-pub place-plain : (n i : ℕ) → i < n → placeOf (plain n) i ≡ i
-place-plain n i l = ap (placeOf (plain n)) (sym (index-plain n i l)) ∙ place-index n (plain n) (plain-arrangement n) i l
 
 indices-plain : (n : ℕ) (q : List ℕ) → AllBelow n q → map (indexAt (plain n)) q ≡ q
 indices-plain n [] h = refl
@@ -62,7 +59,7 @@ sequence-plain n x e =
     sequence-placed n (plain n) (plain-arrangement n) x e
     ∙ indices-plain n (pickSeq (arrange (plain n) x)) (sequence-below n (plain n) (plain-arrangement n) x e) ∙ ap pickSeq (arrange-plain n x e)
 
-pub places-plain : (n : ℕ) (x : List ℕ) → length x ≡ n → placesOf (plain n) x ≡ pickSeq x
+places-plain : (n : ℕ) (x : List ℕ) → length x ≡ n → placesOf (plain n) x ≡ pickSeq x
 places-plain n x e = places-placed n (plain n) (plain-arrangement n) x e ∙ ap pickSeq (arrange-plain n x e)
 
 -- ---- lists and growing

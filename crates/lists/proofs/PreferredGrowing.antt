@@ -7,7 +7,6 @@ use Prim.Native.Nat.{ℕ}
 use lib.ListN.{length}
 use Rattle.table.specs.Pairs.{Within}
 use Rattle.table.specs.Chains.{IsChain, IsMaximal}
-use Rattle.rules.specs.Sequences.{Before}
 use Rattle.lists.specs.Arrangements.{IsArrangement}
 use Rattle.lists.specs.ByNumber.{pickSeq}
 use Rattle.lists.specs.Preferred.{placesOf}

@@ -4,7 +4,6 @@
 use mathlib.Core.Path.{_≡_, sym, ap, _∙_}
 use mathlib.Core.List.{List}
 use Prim.Native.Nat.{ℕ}
-use lib.ListN.{length}
 use Rattle.table.specs.declared.Table.{Table}
 use Rattle.table.specs.Chains.{IsMaximal}
 use Rattle.table.specs.Tables.{tableRows}
@@ -33,7 +32,7 @@ module _ (t : Table) (s : Side) (f : Fair t s) (o : List ℕ) (a : IsArrangement
         );
   }
 
-  pub key-placed : (x : List ℕ) → IsMaximal (tableRows t) x → listKey s o x ≡ sequenceOf (prefer o s) x
+  key-placed : (x : List ℕ) → IsMaximal (tableRows t) x → listKey s o x ≡ sequenceOf (prefer o s) x
   key-placed x m = places-placed (s .count) o a (s .view x) (f .over x m .0 .within .size ∙ f .counted)
 
   pub preferred-list : PreferredList t s o (sideList t (prefer o s) prefer-fair)

@@ -15,6 +15,7 @@ use native.Mathlib.Decide.{ℕ-discrete, decLt}
 use native.Mathlib.Omega.{arith}
 use lib.Dec.{T, not-T, ltb}
 use lib.ListN.{length, length-append}
+use Rattle.basics.proofs.Clash.{clash}
 use Rattle.rules.specs.Sequences.{All}
 use Rattle.rules.specs.ByNumber.{above}
 use Rattle.rules.proofs.Sequences.{Ascending, All-get, All-of, Sorted-append}
@@ -23,8 +24,8 @@ use Rattle.sets.proofs.Tests.{is-false}
 use Rattle.lists.proofs.Unpicked.{Un, free, free-suc}
 
 snoc-not-nil : (l : List ℕ) (g : ℕ) → l ++ (g ∷ []) ≡ [] → ⊥
-snoc-not-nil [] g e = let z : _≡_ {A = ℕ} 0 1 = cc in omega arith
-snoc-not-nil (x ∷ l) g e = let z : _≡_ {A = ℕ} 0 1 = cc in omega arith
+snoc-not-nil [] g e = clash cc
+snoc-not-nil (x ∷ l) g e = clash cc
 
 pub select-nil : (f : ℕ → Bool) (n i : ℕ) → select f n ≡ [] → i < n → T (f i) → ⊥
 unfolding select

@@ -50,14 +50,6 @@ place-stands (x ∷ o) i h = go (ℕ-discrete i x) (place-stands o i)
     go (yes e) ih = rw (place-hit i x o e) (omega arith, sym e)
     go (no e) ih = let k = ih (omega (arith, times-miss i x o e)) in rw (place-miss i x o e) (omega (arith, k .0), k .1)
 
-place-absent : (o : List ℕ) (i : ℕ) → times i o ≡ 0 → length o ≤ placeOf o i
-place-absent [] i h = omega arith
-place-absent (x ∷ o) i h = go (ℕ-discrete i x) (place-absent o i)
-  where
-    go : Dec (i ≡ x) → (times i o ≡ 0 → length o ≤ placeOf o i) → suc (length o) ≤ placeOf (x ∷ o) i
-    go (yes e) ih = absurd (omega (arith, times-hit i x o e))
-    go (no e) ih = omega (arith, place-miss i x o e, ih (sym (times-miss i x o e) ∙ h))
-
 times-at : (o : List ℕ) (k : ℕ) → k < length o → 1 ≤ times (indexAt o k) o
 times-at [] k h = absurd (not-suc-le-zero h)
 times-at (x ∷ o) zero h = omega (arith, times-hit x x o refl)
@@ -165,16 +157,6 @@ module _ (n : ℕ) (o : List ℕ) (a : IsArrangement n o) where
 
   pub place-index : (k : ℕ) → k < n → placeOf o (indexAt o k) ≡ k
   place-index k h = place-only o k (omega (arith, a .size)) (a .once (indexAt o k) (index-below k h))
-
-  -- an index that is not below n has no place
-  pub place-past : (i : ℕ) → n ≤ i → n ≤ placeOf o i
-  place-past i l = go (ℕ-discrete (times i o) 0)
-    where
-      go : Dec (times i o ≡ 0) → n ≤ placeOf o i
-      go (yes e) = omega (arith, a .size, place-absent o i e)
-      go (no e) =
-          let k : (placeOf o i < length o) × (indexAt o (placeOf o i) ≡ i) = place-stands o i (omega arith) in
-          absurd (omega (arith, in-range i (subst (λ (x : ℕ). List·Memᴰ x o) (k .1) (mem-at o (placeOf o i) (k .0)))))
 
   pub index-injective : (j k : ℕ) → j < n → k < n → indexAt o j ≡ indexAt o k → j ≡ k
   index-injective j k h l e = sym (place-index j h) ∙ ap (placeOf o) e ∙ place-index k l

@@ -1,16 +1,15 @@
 -- The list of the pairs of a set: each pair of it, each once, by gauge and then case (`pairs-listed`), and no other list is that
 -- (`pair-list-unique`). The test of a pair decides `Has`.
 use mathlib.Core.Path.{_≡_, refl, sym, ap, subst, subst₂}
-use mathlib.Core.Logic.{_⊎_, inl, inr, _↔_}
-use mathlib.Core.Bool.{Bool}
-use mathlib.Core.List.{List, [], _∷_, _++_, map, List·Memᴰ, List·Memᴰ·head, List·Memᴰ·tail, List·Memᴰ·not-nil, List·Memᴰ·append-cases}
+use mathlib.Core.Logic.{_⊎_, inl, inr}
+use mathlib.Core.List.{List, [], _∷_, _++_, map, List·Memᴰ, List·Memᴰ·not-nil, List·Memᴰ·append-cases}
 use mathlib.Core.List.{Memᴰ·append-left, Memᴰ·append-right, Memᴰ·cast, Memᴰ·map, Memᴰ·of-map}
-use Prim.Native.Nat.{ℕ, zero, suc, _+_, _-_, _≤_, _<_}
+use Prim.Native.Nat.{ℕ, zero, suc, _+_, _≤_, _<_}
 use native.Mathlib.Omega.{arith}
 use lib.Dec.{T}
 use Rattle.sets.specs.Sets.{bit}
 use Rattle.table.specs.Pairs.{row, Has, Cases}
-use Rattle.table.proofs.Places.{has-place, place-has, by-place}
+use Rattle.table.proofs.Places.{place-has, by-place}
 use Rattle.sets.proofs.OnePlace.{none-in}
 use Rattle.rules.specs.Sequences.{All, Sorted}
 use Rattle.rules.proofs.Sequences.{Ascending, All-of, Sorted-append, sorted-unique}

@@ -7,6 +7,7 @@ use Prim.Native.Nat.{ℕ, zero, suc, _+_, _-_, _≤_}
 use native.Mathlib.Nat.{zero-add, suc-add}
 use native.Mathlib.Decide.{decLe}
 use native.Mathlib.Omega.{arith}
+use Rattle.basics.proofs.Clash.{clash}
 use Rattle.rules.specs.Machine.{Down, Ended, State, at, fresh}
 use Rattle.rules.specs.ByNumber.{move, after, Reached}
 use Rattle.rules.specs.Calls.{end, Call, callsBy}
@@ -26,7 +27,7 @@ module _ (kids : List ℕ → List ℕ) where
   stays-ended (suc k) = stays-ended k
 
   module _ (n : ℕ) (t : Tree kids n) where
-    pub leads-end : (q : List ℕ) → Valid kids q → (k : ℕ) × (after kids k (at q Down) ≡ at [] Ended)
+    leads-end : (q : List ℕ) → Valid kids q → (k : ℕ) × (after kids k (at q Down) ≡ at [] Ended)
     leads-end q v = go (decLe (here .count) (last .count))
       where
         here : Reached kids (at q Down)
@@ -48,7 +49,7 @@ module _ (kids : List ℕ → List ℕ) where
             sym (here .leads) ∙ ap (λ (j : ℕ). after kids j fresh) (sym e) ∙ after-add (last .count) (here .count - last .count) fresh
             ∙ ap (after kids (here .count - last .count)) (last .leads) ∙ stays-ended (here .count - last .count) in
             let f = ap (λ (x : State). x .phase) d in
-            let z : _≡_ {A = ℕ} 0 1 = cc in absurd (omega arith)
+            clash cc
 
     -- one move a call
     pub keeping-ends : (out : List ℕ → List ℕ) (keep : List ℕ → Bool) (q : List ℕ) → Valid kids q

@@ -4,6 +4,8 @@
 -- In order: the list of a part is unique (`part-unique`), and has each set once (`part-once`); it exists for every sequence, as the side's list without
 -- the other sets (`part-list`); the empty sequence names the whole list (`whole-part`, `part-whole`); the lists of parts exist and are unique
 -- (`part-lists`, `part-lists-unique`); a maximal chain is of one part only (`one-part`); the theorem.
+--
+-- Pins, which nothing else cites: `part-once`, `part-lists-unique`, `one-part`.
 use mathlib.Core.Path.{_≡_, refl, sym, ap₂, _∙_, subst}
 use mathlib.Core.Logic.{_⊎_, inl, inr, _↔_, _≢_}
 use mathlib.Core.List.{List, [], _∷_, _++_, List·Memᴰ, List·Memᴰ·head, List·Memᴰ·tail, List·Memᴰ·not-nil, List·Memᴰ·cases-cons}
@@ -15,7 +17,7 @@ use Rattle.table.specs.declared.Table.{Table}
 use Rattle.table.specs.Chains.{IsMaximal}
 use Rattle.table.specs.Tables.{tableRows}
 use Rattle.rules.specs.Sequences.{All, Sorted}
-use Rattle.rules.specs.Keeping.{kept}
+use Rattle.rules.specs.Keeping.{keptSets}
 use Rattle.rules.proofs.Sequences.{All-of, All-get, Sorted-append, Sorted-map, before-irrefl, before-trans, sorted-unique}
 use Rattle.rules.proofs.Kept.{mem-kept, kept-sorted}
 use Rattle.lists.specs.Lists.{Earlier, Side, listKey, PreferredList}
@@ -48,9 +50,9 @@ module _ (t : Table) (s : Side) (o : List ℕ) where
       → (a b c : List (List ℕ)) (x y : List ℕ) → xs ≡ a ++ (x ∷ (b ++ (y ∷ c))) → x ≢ y
   part-once p xs l a b c x y e = at-places (λ (u v : List ℕ). u ≢ v) a b c x y (subst (Sorted (λ (u v : List ℕ). u ≢ v)) e (l .once))
 
-  pub part-list : (p : List ℕ) (xs : List (List ℕ)) → PreferredList t s o xs → PartList t s o p (kept (isOf s o p) xs)
+  pub part-list : (p : List ℕ) (xs : List (List ℕ)) → PreferredList t s o xs → PartList t s o p (keptSets (isOf s o p) xs)
   part-list p xs l =
-      part-listed p (kept (isOf s o p) xs)
+      part-listed p (keptSets (isOf s o p) xs)
       (λ x.
       let k = mem-kept (isOf s o p) xs x in (
         λ m. (l .members x .0 (k .0 m .0), starts-test p (picksOf s o x) .0 (is-true (isOf s o p x) (k .0 m .1))),
@@ -69,7 +71,7 @@ module _ (t : Table) (s : Side) (o : List ℕ) where
   -- ---- the lists of parts
   abbrev pub keptLists : List (List ℕ) → List (List ℕ) → List (List (List ℕ))
   keptLists xs [] = []
-  keptLists xs (p ∷ ps) = kept (isOf s o p) xs ∷ keptLists xs ps
+  keptLists xs (p ∷ ps) = keptSets (isOf s o p) xs ∷ keptLists xs ps
 
   pub part-lists : (xs : List (List ℕ)) → PreferredList t s o xs → (ps : List (List ℕ)) → PartLists t s o ps (keptLists xs ps)
   part-lists xs l [] = tt

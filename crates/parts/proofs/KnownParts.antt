@@ -2,6 +2,8 @@
 -- ladders each, by indices 0, 1 and 2 (`k2-split`, `k2-parts`), and these lists, one after the other, are its gauge list (`k2-joined`). Split once more it
 -- has six parts of one ladder (`k2-split-again`), and then splitting changes nothing (`k2-split-whole`). Calls that list the first part: two leave it open,
 -- the third closes it (`k2-open`, `k2-closed`).
+--
+-- Pins, which nothing else cites: `k2-split-again`, `k2-split-whole`, `k2-closed`, `k2-open`.
 use mathlib.Core.Path.{_≡_, refl, subst}
 use mathlib.Core.Bool.{Bool, true, false}
 use mathlib.Core.List.{List, [], _∷_, _++_}
@@ -50,7 +52,7 @@ whole : PreferredList k2 (gaugeSide k2) (plain 3) (first ++ (second ++ third))
 unfolding candidates select candidate rulesOut common isIn isProperSubset isSubset meet allBelow chainOf chainRow tabulate arrange unarrange placeOf
 whole = preferred-list k2 (gaugeSide k2) (gauge-fair k2 legal) (plain 3) (plain-arrangement 3)
 
-pub k2-split : splitTimes (gaugeSide k2) (plain 3) 1 ≡ firstPicks
+k2-split : splitTimes (gaugeSide k2) (plain 3) 1 ≡ firstPicks
 unfolding candidatesBy chosen candidateBy rulesOutBy common isIn isProperSubset isSubset meet allBelow tabulate placeOf
 k2-split = refl
 
@@ -63,7 +65,7 @@ pub k2-split-whole : splitTimes (gaugeSide k2) (plain 3) 3 ≡ splitTimes (gauge
 unfolding candidatesBy chosen candidateBy rulesOutBy common isIn isProperSubset isSubset meet allBelow tabulate placeOf
 k2-split-whole = refl
 
-pub k2-parts : PartLists k2 (gaugeSide k2) (plain 3) firstPicks (first ∷ second ∷ third ∷ [])
+k2-parts : PartLists k2 (gaugeSide k2) (plain 3) firstPicks (first ∷ second ∷ third ∷ [])
 unfolding startsWith pickSeqBy takeBy bestIn bestFrom score isIn ones onesIn tabulate
 k2-parts = part-lists k2 (gaugeSide k2) (plain 3) (first ++ (second ++ third)) whole firstPicks
 

@@ -5,7 +5,7 @@ use mathlib.Core.Path.{_≡_, refl, sym, ap, ap₂, _∙_, subst}
 use mathlib.Core.Bool.{Bool, true, false, _||_}
 use mathlib.Core.List.{List, [], _∷_, _++_, map, List·Memᴰ, List·Memᴰ·head, List·Memᴰ·tail, head-eq-of-cons-eq, tail-eq-of-cons-eq}
 use Prim.Native.Nat.{ℕ}
-use native.Mathlib.Omega.{arith}
+use Rattle.basics.proofs.Clash.{clash}
 use Rattle.rules.specs.Sequences.{All}
 use Rattle.rules.specs.Machine.{Ended, State, Move, at}
 use Rattle.rules.specs.ByNumber.{move}
@@ -37,7 +37,7 @@ module _ (mv : State → Move) (out : List ℕ → List ℕ) (good : State → T
   pub calls-in : (bs : List ℕ) (s : State) → good s → (a b : List (List ℕ)) → ahead s ≡ a ++ b
       → All (λ (x : List ℕ). test x ≡ true) a → All (λ (x : List ℕ). test x ≡ false) b
       → Lists a (ofPart test (callsBy mv out bs s)) (isOver test (callsBy mv out bs s))
-  calls-in [] s g a b e p q = record { front = (a, refl); complete = λ z. let y : _≡_ {A = ℕ} 0 1 = cc in absurd (omega arith) }
+  calls-in [] s g a b e p q = record { front = (a, refl); complete = λ z. clash cc }
   calls-in (k ∷ bs) s g a b e p q =
       let l = law k s g in
       go (callBy mv out k s .answer) a (l .keeps ∙ e) p (l .ended) (λ a′. calls-in bs (callBy mv out k s .next) (l .stays) a′ b)
@@ -67,7 +67,7 @@ module _ (mv : State → Move) (out : List ℕ → List ℕ) (good : State → T
             complete = λ o. ap₂ (λ (u : List ℕ) (m : List (List ℕ)). u ∷ m) i (h .complete o);
           })
       go end [] d p z on = record { front = ([], refl); complete = λ _. refl }
-      go end (y ∷ a) d p z on = let w : _≡_ {A = List (List ℕ)} [] (y ∷ (a ++ b)) = sym (z refl) ∙ d in let v : _≡_ {A = ℕ} 0 1 = cc in absurd (omega arith)
+      go end (y ∷ a) d p z on = let w : _≡_ {A = List (List ℕ)} [] (y ∷ (a ++ b)) = sym (z refl) ∙ d in clash cc
 
 -- ---- renamed calls answer the same
 module _ (test : List ℕ → Bool) (f : ℕ → ℕ) where

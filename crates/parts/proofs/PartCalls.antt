@@ -18,7 +18,7 @@ use Rattle.rules.specs.Machine.{Down, at}
 use Rattle.rules.specs.ByNumber.{move}
 use Rattle.rules.specs.Calls.{Call, callsBy}
 use Rattle.rules.specs.ByNumber.{callsFrom}
-use Rattle.rules.specs.Keeping.{moveKeeping, kept}
+use Rattle.rules.specs.Keeping.{moveKeeping, keptSets}
 use Rattle.rules.proofs.Sequences.{All-of, All-get}
 use Rattle.rules.proofs.Trees.{Tree}
 use Rattle.rules.proofs.Calls.{ahead}
@@ -47,26 +47,26 @@ use Rattle.parts.proofs.Places.{AtPlaces, valid-low, reached-at, starts
 
 -- ---- the kept part of a list
 module _ (keep : List ℕ → Bool) where
-  pub kept-append : (a b : List (List ℕ)) → kept keep (a ++ b) ≡ kept keep a ++ kept keep b
+  pub kept-append : (a b : List (List ℕ)) → keptSets keep (a ++ b) ≡ keptSets keep a ++ keptSets keep b
   kept-append [] b = refl
   kept-append (x ∷ a) b = go (keep x) (kept-append a b)
     where
-      go : (k : Bool) → kept keep (a ++ b) ≡ kept keep a ++ kept keep b
-          → cond k (x ∷ kept keep (a ++ b)) (kept keep (a ++ b)) ≡ cond k (x ∷ kept keep a) (kept keep a) ++ kept keep b
+      go : (k : Bool) → keptSets keep (a ++ b) ≡ keptSets keep a ++ keptSets keep b
+          → cond k (x ∷ keptSets keep (a ++ b)) (keptSets keep (a ++ b)) ≡ cond k (x ∷ keptSets keep a) (keptSets keep a) ++ keptSets keep b
       go true ih = ap (λ (l : List (List ℕ)). x ∷ l) ih
       go false ih = ih
 
-  kept-all : (l : List (List ℕ)) → All (λ (x : List ℕ). keep x ≡ true) l → kept keep l ≡ l
+  kept-all : (l : List (List ℕ)) → All (λ (x : List ℕ). keep x ≡ true) l → keptSets keep l ≡ l
   kept-all [] h = refl
   kept-all (x ∷ l) h = rw (h .0) (ap (λ (m : List (List ℕ)). x ∷ m) (kept-all l (h .1)))
 
-  kept-none : (l : List (List ℕ)) → All (λ (x : List ℕ). keep x ≡ false) l → kept keep l ≡ []
+  kept-none : (l : List (List ℕ)) → All (λ (x : List ℕ). keep x ≡ false) l → keptSets keep l ≡ []
   kept-none [] h = refl
   kept-none (x ∷ l) h = rw (h .0) (kept-none l (h .1))
 
   -- those that are kept, between others
   kept-between : (h a b : List (List ℕ)) → All (λ (x : List ℕ). keep x ≡ false) h → All (λ (x : List ℕ). keep x ≡ true) a
-      → All (λ (x : List ℕ). keep x ≡ false) b → kept keep (h ++ (a ++ b)) ≡ a
+      → All (λ (x : List ℕ). keep x ≡ false) b → keptSets keep (h ++ (a ++ b)) ≡ a
   kept-between h a b n y m =
       kept-append h (a ++ b)
       ∙ ap₂ (λ (u v : List (List ℕ)). u ++ v) (kept-none h n) (kept-append a b ∙ ap₂ (λ (u v : List (List ℕ)). u ++ v) (kept-all a y) (kept-none b m))
@@ -156,9 +156,9 @@ module _ (t : Table) (s : Side) (f : Fair t s) (o : List ℕ) (a : IsArrangement
       ∙ ap (map out) (near .whole)
 
   -- the list of the part: the sets of the leaves below it
-  part-is : kept (isOf s o p) whole ≡ map out mine
+  part-is : keptSets (isOf s o p) whole ≡ map out mine
   part-is =
-      ap (kept (isOf s o p)) (sym pieces)
+      ap (keptSets (isOf s o p)) (sym pieces)
       ∙ kept-between (isOf s o p) (map out (near .sooner)) (map out mine) (map out after) none-sooner all-yes none-after
 
   part-listed : PartList t s o p (map out mine)
@@ -217,20 +217,20 @@ module _ (t : Table) (s : Side) (f : Fair t s) (o : List ℕ) (a : IsArrangement
         (keeping-follows (follows s o (f .counted) a) out (handOut s) keep keep (λ x h l e. ap keep (same-out s o (f .counted) a .same-out x h l e)))
         (keeping-out keep (same-out s o (f .counted) a)) bs (at q Down) (here .valid)
 
-    kept-test : (b : Bool) (l : List (List ℕ)) → All (λ (x : List ℕ). isOf s o p x ≡ b) l → All (λ (x : List ℕ). isOf s o p x ≡ b) (kept keep l)
+    kept-test : (b : Bool) (l : List (List ℕ)) → All (λ (x : List ℕ). isOf s o p x ≡ b) l → All (λ (x : List ℕ). isOf s o p x ≡ b) (keptSets keep l)
     kept-test b l h =
-        All-of (λ (x : List ℕ). isOf s o p x ≡ b) (kept keep l) (λ x m. All-get (λ (y : List ℕ). isOf s o p y ≡ b) (mem-kept keep l x .0 m .0) h)
+        All-of (λ (x : List ℕ). isOf s o p x ≡ b) (keptSets keep l) (λ x m. All-get (λ (y : List ℕ). isOf s o p y ≡ b) (mem-kept keep l x .0 m .0) h)
 
     kept-lists : (bs : List ℕ)
-        → Lists (kept keep (map out mine)) (ofPart (isOf s o p) (callsKeepingIn s o keep p bs)) (isOver (isOf s o p) (callsKeepingIn s o keep p bs))
+        → Lists (keptSets keep (map out mine)) (ofPart (isOf s o p) (callsKeepingIn s o keep p bs)) (isOver (isOf s o p) (callsKeepingIn s o keep p bs))
     kept-lists bs =
         rw (keeping-placed bs, of-renamed (isOf s o p) (indexAt o) (kept-made bs), over-renamed (isOf s o p) (indexAt o) (kept-made bs))
         (calls-in (moveKeeping (move kids) out keep) out (Good kids out n tree) (aheadKept kids out keep n tree) (isOf s o p)
-        (keeping-law kids out n tree keep) bs (at q Down) (here .valid) (kept keep (map out mine)) (kept keep (map out after))
-        (ahead-is kids out keep n tree (at q Down) ∙ ap (kept keep) (maps-append out mine after) ∙ kept-append keep (map out mine) (map out after))
+        (keeping-law kids out n tree keep) bs (at q Down) (here .valid) (keptSets keep (map out mine)) (keptSets keep (map out after))
+        (ahead-is kids out keep n tree (at q Down) ∙ ap (keptSets keep) (maps-append out mine after) ∙ kept-append keep (map out mine) (map out after))
         (kept-test true (map out mine) all-yes) (kept-test false (map out after) none-after))
 
-    pub part-keeping : (bs : List ℕ) → PartDemand t s o p (kept keep) (callsKeepingIn s o keep p bs)
+    pub part-keeping : (bs : List ℕ) → PartDemand t s o p (keptSets keep) (callsKeepingIn s o keep p bs)
     part-keeping bs = record { list = map out mine; listed = part-listed; front = kept-lists bs .front; complete = kept-lists bs .complete }
 
     -- some list of calls closes the part

@@ -4,8 +4,8 @@
 use mathlib.Core.Path.{_≡_, refl, sym, ap, _∙_, subst}
 use mathlib.Core.List.{List, [], _++_, map, List·Memᴰ, Memᴰ·of-map}
 use Prim.Native.Nat.{ℕ}
-use native.Mathlib.Omega.{arith}
 use lib.ListN.{length}
+use Rattle.basics.proofs.Clash.{clash}
 use Rattle.table.specs.declared.Table.{Table}
 use Rattle.table.specs.Chains.{IsMaximal}
 use Rattle.table.specs.Tables.{tableRows}
@@ -49,9 +49,9 @@ module _ (s : Side) (o : List ℕ) (counted : length (s .rows) ≡ s .count) (a 
     where
       down-phase : (g : Phase) → renamedPhase (indexAt o) g ≡ Down → g ≡ Down
       down-phase Down e = refl
-      down-phase Handed e = let z : _≡_ {A = ℕ} 0 1 = cc in absurd (omega arith)
-      down-phase (Back i) e = let z : _≡_ {A = ℕ} 0 1 = cc in absurd (omega arith)
-      down-phase Ended e = let z : _≡_ {A = ℕ} 0 1 = cc in absurd (omega arith)
+      down-phase Handed e = clash cc
+      down-phase (Back i) e = clash cc
+      down-phase Ended e = clash cc
 
       from : Placed s o counted a (at p Down) → AtPlaces p
       from x = record {

@@ -6,9 +6,9 @@ use mathlib.Core.Bool.{Bool, true, false, _&&_}
 use mathlib.Core.List.{List, [], _∷_, _++_, map, append-assoc, head-eq-of-cons-eq, tail-eq-of-cons-eq}
 use Prim.Native.Nat.{ℕ}
 use native.Mathlib.Decide.{ℕ-discrete}
-use native.Mathlib.Omega.{arith}
 use lib.Dec.{eqb}
 use borrow.Author.Tests.{eq-eqb, ne-eqb}
+use Rattle.basics.proofs.Clash.{clash}
 use Rattle.rules.specs.Sequences.{Before}
 use Rattle.lists.specs.Arrangements.{placeOf}
 use Rattle.parts.specs.Parts.{StartsWith, Parted, PartedIn}
@@ -34,7 +34,7 @@ starts-trans p q r a b = record {
 pub starts-test : (p q : List ℕ) → (startsWith p q ≡ true) ↔ StartsWith p q
 unfolding startsWith
 starts-test [] q = (λ e. starts-nil q, λ h. refl)
-starts-test (x ∷ p) [] = (λ e. let z : _≡_ {A = ℕ} 0 1 = cc in absurd (omega arith), λ h. let e = h .is in let z : _≡_ {A = ℕ} 0 1 = cc in absurd (omega arith))
+starts-test (x ∷ p) [] = (λ e. clash cc, λ h. let e = h .is in clash cc)
 starts-test (x ∷ p) (y ∷ q) = go (ℕ-discrete x y) (starts-test p q)
   where
     go : Dec (x ≡ y) → (startsWith p q ≡ true) ↔ StartsWith p q → ((eqb x y && startsWith p q) ≡ true) ↔ StartsWith (x ∷ p) (y ∷ q)
@@ -44,7 +44,7 @@ starts-test (x ∷ p) (y ∷ q) = go (ℕ-discrete x y) (starts-test p q)
       λ h. rw (eq-eqb x y d) (ih .1 (record { rest = h .rest; is = tail-eq-of-cons-eq (h .is) })),
     )
     go (no d) ih = (
-      λ e. let f : _≡_ {A = Bool} false true = rw (ne-eqb x y d) at e in let z : _≡_ {A = ℕ} 0 1 = cc in absurd (omega arith),
+      λ e. let f : _≡_ {A = Bool} false true = rw (ne-eqb x y d) at e in clash cc,
       λ h. absurd (d (sym (head-eq-of-cons-eq (h .is)))),
     )
 
@@ -60,7 +60,7 @@ pub map-append : (f : ℕ → ℕ) (a b : List ℕ) → map f (a ++ b) ≡ map f
 map-append f [] b = refl
 map-append f (x ∷ a) b = ap (λ (l : List ℕ). f x ∷ l) (map-append f a b)
 
-pub parted-before : (p q a b : List ℕ) → Parted p q → Before (p ++ a) (q ++ b)
+parted-before : (p q a b : List ℕ) → Parted p q → Before (p ++ a) (q ++ b)
 parted-before [] q a b h = absurd h
 parted-before (x ∷ p) [] a b h = absurd h
 parted-before (x ∷ p) (y ∷ q) a b (inl l) = inl l

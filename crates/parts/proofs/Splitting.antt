@@ -109,7 +109,7 @@ module _ (t : Table) (s : Side) (o : List ℕ) where
     covers = λ x m h. (q, List·Memᴰ·head refl, h);
   }
 
-  pub splits-within : (q : List ℕ) (a : List (List ℕ)) (p : List ℕ) (b ps : List (List ℕ)) → Splits t s o q (a ++ (p ∷ b)) → Splits t s o p ps
+  splits-within : (q : List ℕ) (a : List (List ℕ)) (p : List ℕ) (b ps : List (List ℕ)) → Splits t s o q (a ++ (p ∷ b)) → Splits t s o p ps
       → Splits t s o q (a ++ (ps ++ b))
   splits-within q a p b ps c d = record {
     reached = in-pieces Reached (c .reached) (d .reached);
@@ -164,7 +164,7 @@ module _ (t : Table) (s : Side) (f : Fair t s) (o : List ℕ) (a : IsArrangement
     q = x .places
 
     -- a candidate, by place
-    pub candidate-place : (g : ℕ) → List·Memᴰ g (candidatesBy o (s .rows) p) → (i : ℕ) × List·Memᴰ i (candidates rows q) × (num i ≡ g)
+    candidate-place : (g : ℕ) → List·Memᴰ g (candidatesBy o (s .rows) p) → (i : ℕ) × List·Memᴰ i (candidates rows q) × (num i ≡ g)
     candidate-place g m = Memᴰ·of-map num (candidates rows q) (subst (λ (l : List ℕ). List·Memᴰ g l) (candidates-at s o (f .counted) a p x) m)
 
     pub candidate-reached : (g : ℕ) → List·Memᴰ g (candidatesBy o (s .rows) p) → ReachedOn s o (at (p ++ (g ∷ [])) Down)
@@ -265,7 +265,7 @@ module _ (t : Table) (s : Side) (f : Fair t s) (o : List ℕ) (a : IsArrangement
           mine h m = subst (λ (l : List ℕ). List·Memᴰ h l) (sym e) m
 
   -- ---- from the empty sequence on
-  pub splits-whole : Splits t s o [] ([] ∷ [])
+  splits-whole : Splits t s o [] ([] ∷ [])
   splits-whole = splits-itself t s o [] (record { count = 0; leads = refl })
 
   pub splits-more : (q : List ℕ) (b : List (List ℕ)) (p : List ℕ) (c : List (List ℕ)) → Splits t s o q (b ++ (p ∷ c))
@@ -280,7 +280,7 @@ module _ (t : Table) (s : Side) (f : Fair t s) (o : List ℕ) (a : IsArrangement
       subst (Splits t s o q) (append-assoc b (splitAt s o p) (splitAll s o ps))
       (all-behind q (b ++ splitAt s o p) ps (subst (Splits t s o q) (sym (append-assoc b (splitAt s o p) ps)) (splits-more q b p ps d)))
 
-  pub splits-all : (q : List ℕ) (ps : List (List ℕ)) → Splits t s o q ps → Splits t s o q (splitAll s o ps)
+  splits-all : (q : List ℕ) (ps : List (List ℕ)) → Splits t s o q ps → Splits t s o q (splitAll s o ps)
   splits-all q ps d = all-behind q [] ps d
 
   pub splits-times : (d : ℕ) → Splits t s o [] (splitTimes s o d)

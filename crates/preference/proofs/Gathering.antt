@@ -4,7 +4,7 @@
 -- stands for no state goes on standing for none, and picks by place become picks by number again (`numbers-of-picks`).
 use mathlib.Core.Path.{_≡_, refl, sym, ap, ap₂, _∙_}
 use mathlib.Core.Logic.{_⊎_, inl, inr, _↔_, _≢_}
-use mathlib.Core.Bool.{Bool, cond}
+use mathlib.Core.Bool.{cond}
 use mathlib.Core.List.{List, [], _∷_, map, List·Memᴰ, List·Memᴰ·head, List·Memᴰ·tail}
 use Prim.Native.Nat.{ℕ, zero, suc, _+_, _-_, _≤_, _<_, min}
 use native.Mathlib.Nat.{not-suc-le-zero, le-of-suc-le-suc, min-eq-left}
@@ -12,15 +12,14 @@ use native.Mathlib.Decide.{ℕ-discrete, decLe, decLt}
 use native.Mathlib.Omega.{arith}
 use lib.Dec.{ltb}
 use lib.ListN.{length, take, getD, set, length-set, length-map, length-replicate, List·getD-eq-default}
-use lib.Seq.{ext-getD, take-all, getD-take, length-take-le, getD-set-same, getD-set-other}
+use lib.Seq.{ext-getD, getD-take, getD-set-same, getD-set-other}
 use borrow.Author.Tests.{eq-eqb, ne-eqb, lt-ltb, le-ltb}
 use Rattle.sets.specs.Lists.{tabulate}
 use Rattle.sets.proofs.Tabulated.{length-tabulate, getD-tabulate}
 use Rattle.table.specs.Pairs.{row}
 use Rattle.table.specs.Tables.{noRows, padded}
 use Rattle.table.proofs.Places.{row-past}
-use Rattle.table.proofs.Padding.{pad-length, pad-getD, pad-ext}
-use Rattle.rules.specs.Sequences.{All}
+use Rattle.table.proofs.Padding.{pad-getD, pad-ext}
 use Rattle.lists.specs.Arrangements.{IsArrangement, placeOf}
 use Rattle.lists.specs.private.Arranging.{indexAt, arrange, unarrange}
 use Rattle.lists.proofs.Standing.{in-range, index-below, index-place, place-index}
@@ -122,7 +121,7 @@ gathered-is n rows numbers few long size =
     f = λ i. rowNumbered rows (getD numbers i 0)
 
 -- by a preference, the first n rows alone
-pub gathered-rows : (n : ℕ) (o rows : List ℕ) → IsArrangement n o → arrange o rows ≡ arrange o (take n rows)
+gathered-rows : (n : ℕ) (o rows : List ℕ) → IsArrangement n o → arrange o rows ≡ arrange o (take n rows)
 gathered-rows n o rows a = rows-agree o rows (take n rows) (λ i m. sym (getD-take n rows i 0 (in-range n o a i m)))
 
 -- so the array has the arranged rows, and zeros behind them
@@ -255,9 +254,6 @@ module _ (n : ℕ) (o : List ℕ) (a : IsArrangement n o) (few : n ≤ 64) where
       onto e =
           let d : g - 1 ≡ indexAt o i = omega (arith, e) in
           own-place g (λ z. omega (arith, e, z)) (omega (arith, e, index-below n o a i h)) ∙ ap suc (ap (placeOf o) d ∙ place-index n o a i h)
-
-  pub zero-entry : (l : List ℕ) (g : ℕ) → g ≡ 0 → renumber l n g ≡ 0
-  zero-entry l g z = renumber-zero l n g z
 
   -- and by the order, the number at a place
   pub number-entry : (i : ℕ) → i < n → renumber (numbersOf o) n (suc i) ≡ suc (indexAt o i)

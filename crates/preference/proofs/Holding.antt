@@ -1,22 +1,20 @@
 -- Preferences as 64 numbers: the test says that they hold an arrangement (`preference-is`), by row index with zeros behind it.
 use mathlib.Core.Path.{_≡_, refl, sym, ap, ap₂, _∙_, subst}
 use mathlib.Core.Logic.{_⊎_, inl, inr, _↔_, _≢_}
-use mathlib.Core.Bool.{Bool, true, false, _&&_, _||_}
+use mathlib.Core.Bool.{Bool, _||_}
 use mathlib.Core.List.{List, [], _∷_, map, List·Memᴰ, List·Memᴰ·cases-cons}
 use Prim.Native.Nat.{ℕ, zero, suc, _-_, _≤_, _<_}
-use native.Mathlib.Nat.{not-suc-le-zero, le-of-suc-le-suc}
 use native.Mathlib.Decide.{ℕ-discrete, decLt}
 use native.Mathlib.Omega.{arith}
 use lib.Dec.{T, eqb, eqb→eq, ltb, ltb→lt}
 use lib.ListN.{length, take, getD, replicate, length-map, List·getD-eq-default}
 use lib.Seq.{take-at, getD-take, length-take-le}
-use borrow.Author.Tests.{lt-ltb, le-ltb}
+use borrow.Author.Tests.{lt-ltb}
 use Rattle.sets.specs.Lists.{tabulate, allBelow}
-use Rattle.sets.proofs.Tests.{and-l, and-r, and-i, or-e, or-l, or-r, eq→eqb, is-true}
+use Rattle.sets.proofs.Tests.{and-l, and-r, and-i, or-e, or-r, eq→eqb}
 use Rattle.sets.proofs.Tabulated.{all-at, all-of, length-tabulate}
-use Rattle.table.specs.Tables.{padded}
 use Rattle.table.proofs.Padding.{pad-getD, pad-ext}
-use Rattle.rules.specs.Sequences.{All, Sorted}
+use Rattle.rules.specs.Sequences.{All}
 use Rattle.rules.proofs.Sequences.{All-of, distinct-length}
 use Rattle.lists.specs.Arrangements.{times, IsArrangement}
 use Rattle.lists.specs.private.Arranging.{indexAt}
@@ -66,7 +64,7 @@ module _ (n : ℕ) (k : List ℕ) (few : n ≤ 64) (long : length k ≡ 64) wher
   held-front p i l =
       ap (λ (x : List ℕ). getD x i 0) (p .held) ∙ pad-getD (map suc (orderOf n k)) i ∙ numbers-at (orderOf n k) i (omega (arith, length-order))
 
-  pub held-rest : IsPreference n k → (i : ℕ) → n ≤ i → getD k i 0 ≡ 0
+  held-rest : IsPreference n k → (i : ℕ) → n ≤ i → getD k i 0 ≡ 0
   held-rest p i l =
       ap (λ (x : List ℕ). getD x i 0) (p .held) ∙ pad-getD (map suc (orderOf n k)) i
       ∙ List·getD-eq-default (map suc (orderOf n k)) 0 (omega (arith, length-map (orderOf n k) suc, length-order))

@@ -12,9 +12,9 @@ use native.Mathlib.Decide.{ℕ-discrete, decLt}
 use native.Mathlib.Omega.{arith}
 use lib.Dec.{T, not-T}
 use borrow.Author.Tests.{eq-eqb, ne-eqb}
-use lib.ListN.{length, take, getD, set, replicate, length-set, length-map, length-replicate, getD-replicate, List·getD-eq-default}
+use lib.ListN.{length, getD, set, length-set, length-map, length-replicate, getD-replicate, List·getD-eq-default}
 use lib.Seq.{getD-set-same, getD-set-other}
-use Rattle.sets.specs.Lists.{tabulate}
+use Rattle.basics.proofs.Clash.{clash}
 use Rattle.sets.proofs.Tests.{is-true, is-false}
 use Rattle.sets.proofs.Tabulated.{length-tabulate, getD-tabulate}
 use Rattle.table.specs.declared.Table.{Table}
@@ -162,7 +162,7 @@ module _ (n : ℕ) (order places : List ℕ) (i : ℕ) (few : n ≤ 64) (long : 
           free k h (ℕ-discrete (getD places k 0) 0)
           ∙ sym (List·getD-eq-default (map suc (inverse o)) 0 (omega (arith, length-map (inverse o) suc, long-places)))
 
-  pub marked-preference : T (zerosFrom n order) → IsPreference n order
+  marked-preference : T (zerosFrom n order) → IsPreference n order
   marked-preference z = record {
     arranged = marked-arranged;
     held = held-of n order few long (λ j h. m .range j (omega arith) .0) (zeros-at n order z);
@@ -187,7 +187,7 @@ pub no-zeros : (n : ℕ) (order : List ℕ) → n ≤ 64 → length order ≡ 64
 no-zeros n order few long b e d p =
     let t : T (isPreference n order) = of-preference n order few long p in
     let z : zerosFrom n order ≡ true = is-true (zerosFrom n order) (zeros-in n order t) in
-    let y : _≡_ {A = ℕ} 0 1 = cc in omega arith
+    clash cc
 
 pub too-many : (n : ℕ) (order : List ℕ) → 64 < n → length order ≡ 64 → (r : Placed) → r ≡ nowhere → r ≡ placedAs n order
 unfolding placedAs
@@ -235,7 +235,7 @@ module _ (n : ℕ) (order : List ℕ) (r : Placed) (is : r ≡ placedAs n order)
       go : (b : Bool) → b ≡ true → cond b (record { ok = true; places = numbersOf (inverse (orderOf n order)) }) nowhere .places
           ≡ numbersOf (inverse (orderOf n order))
       go true d = refl
-      go false d = let z : _≡_ {A = ℕ} 0 1 = cc in absurd (omega arith)
+      go false d = clash cc
 
   pub places-none : r .ok ≡ false → isPreference n order ≡ false
   places-none e = sym ok-is ∙ e
@@ -265,10 +265,6 @@ module _ (t : Table) (n : ℕ) (k : List ℕ) where
 
   pub both-pass : tableRefusal t ≡ 0 → isPreference n k ≡ true → preferredRefusal t n k ≡ 0
   both-pass z d = sym (order-next z 0 (sym (ap (λ (b : Bool). cond b 0 27) d)))
-
-  -- the other two cases
-  pub table-refused : 0 < tableRefusal t → preferredRefusal t n k ≡ tableRefusal t
-  table-refused l = sym (table-first (tableRefusal t) l refl)
 
   pub preference-refused : tableRefusal t ≡ 0 → isPreference n k ≡ false → preferredRefusal t n k ≡ 27
   preference-refused z d = sym (order-next z 27 (sym (ap (λ (b : Bool). cond b 0 27) d)))

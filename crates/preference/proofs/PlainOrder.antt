@@ -3,21 +3,20 @@
 use mathlib.Core.Path.{_≡_, refl, sym, ap, _∙_, subst}
 use mathlib.Core.Bool.{Bool, true, false, _&&_}
 use mathlib.Core.List.{List, map}
-use Prim.Native.Nat.{ℕ, zero, suc, _+_, _-_, _≤_, _<_, min}
+use Prim.Native.Nat.{ℕ, suc, _+_, _-_, _≤_, _<_, min}
 use native.Mathlib.Nat.{min-eq-left}
 use native.Mathlib.Numerals.{add-one}
 use native.Mathlib.Decide.{ℕ-discrete, decLt}
 use native.Mathlib.Omega.{arith}
-use lib.Dec.{T, eqb, eqb→eq}
+use lib.Dec.{eqb, eqb→eq}
 use lib.ListN.{length, getD, length-map, List·getD-eq-default}
 use lib.Seq.{ext-getD}
 use borrow.Author.Tests.{lt-ltb, le-ltb, eq-eqb, ne-eqb}
 use Rattle.sets.specs.Lists.{tabulate, allBelow}
 use Rattle.sets.proofs.Tests.{is-true}
 use Rattle.sets.proofs.Tabulated.{length-tabulate, getD-tabulate, all-at, all-none}
-use Rattle.table.proofs.Padding.{pad-length, pad-getD, pad-ext}
+use Rattle.table.proofs.Padding.{pad-length, pad-getD}
 use Rattle.lists.specs.Arrangements.{IsArrangement, plain}
-use Rattle.lists.specs.private.Arranging.{indexAt}
 use Rattle.lists.proofs.Standing.{length-plain, index-plain, plain-arrangement}
 use Rattle.preference.specs.Preferences.{isPreference, orderOf, numbersOf, plainNumbers}
 use Rattle.preference.specs.Placing.{isPlain}

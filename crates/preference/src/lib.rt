@@ -2,6 +2,7 @@
 // the code that goes by number: rows gathered in the order of a preference, numbers turned into places and back. An order holds 64 numbers,
 // those of an arrangement, the most trusted first, and zeros behind. No function that another crate can call has a `requires`, and none changes
 // lent memory.
+use basics;
 use refusals::Refusal;
 use refusals::Verdict;
 use table;
@@ -150,7 +151,7 @@ pub fn renumber_one(numbers: &[u8; 64], n: usize, g: usize) -> usize
     if MOST < g {
         return 0;
     }
-    wide(numbers[g - 1])
+    basics::index(numbers[g - 1])
 }
 
 // The same of a pick.
@@ -192,7 +193,7 @@ fn place_first(order: &[u8; 64], n: usize) -> Placed
     let mut places = [0u8; 64];
     let mut i: usize = 0;
     while i < n {
-        let g = wide(order[i]);
+        let g = basics::index(order[i]);
         if g == 0 {
             return not_placed();
         }
@@ -270,10 +271,4 @@ fn plain_number(i: u8, lift: u8) -> u8
         return i + 1;
     }
     0
-}
-
-fn wide(number: u8) -> usize
-    ensures { λ r. ⌜ r ≡ number ⌝ }
-{
-    number as usize
 }

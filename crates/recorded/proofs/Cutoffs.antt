@@ -14,6 +14,7 @@ use native.Mathlib.Omega.{arith}
 use lib.Dec.{T, eqb, leb, leb→le}
 use lib.IntN.{pos, natAbs}
 use lib.ListN.{length, getD-replicate, length-replicate, List·getD-eq-default}
+use Rattle.basics.proofs.Clash.{clash}
 use Rattle.sets.specs.Sets.{bit}
 use Rattle.sets.proofs.OnePlace.{none-in}
 use Rattle.sets.proofs.Tests.{and-l}
@@ -21,6 +22,7 @@ use Rattle.table.specs.Pairs.{row, Has}
 use Rattle.table.specs.Tables.{inRange, noRows, blankTable, made}
 use Rattle.table.specs.declared.Table.{Table}
 use Rattle.table.specs.declared.Made.{Made}
+use Rattle.table.proofs.Places.{same-pairs-rows}
 use Rattle.refusals.specs.Answers.{Answer, verdict}
 use Rattle.recorded.specs.Tests.{readingOf, LegalTest, testRefusal, tableOf, cutoffRefusal, tableAt}
 use Rattle.recorded.specs.Cutoffs.{CutoffClaims}
@@ -28,7 +30,6 @@ use Rattle.recorded.specs.declared.Kind.the-variants.{Pattern, Integer}
 use Rattle.recorded.specs.declared.Test.{Test}
 use Rattle.recorded.proofs.Legality.{test-legal, fullTest, full-reading, full-legal}
 use Rattle.recorded.proofs.Reaching.{raise-within, table-pairs, zero-no-pair}
-use Rattle.recorded.proofs.Equal.{same-pairs-rows}
 
 -- ---- a cutoff and a test that are not refused
 passed : (b : Bool) (n : ℕ) → cond b n 21 ≡ 0 → (b ≡ true) × (n ≡ 0)
@@ -60,7 +61,7 @@ raised t e low high h g c p = go (eqb (cutoffRefusal t high) 0) refl p
     go false d q = absurd (none-blank g c q)
 
 -- the table of a legal test
-pub legal-claims : (t : Test) → LegalTest t → (cutoff : ℕ) → 1 ≤ cutoff → CutoffClaims t cutoff (tableOf t cutoff .rows)
+legal-claims : (t : Test) → LegalTest t → (cutoff : ℕ) → 1 ≤ cutoff → CutoffClaims t cutoff (tableOf t cutoff .rows)
 legal-claims t ok cutoff l = record {
   reached = table-pairs t ok cutoff;
   listed-zero = λ g c. zero-no-pair t ok cutoff g c l;
@@ -85,7 +86,7 @@ module _ (t : Test) (cutoff : ℕ) (rows : List ℕ) (claims : CutoffClaims t cu
   pair-reading k p = claims .reached g c .0 p .1 k
 
   pub entry-pair : t .kind ≡ Pattern → Has (t .entries) g c → Has rows g c
-  entry-pair k h = claims .reached g c .1 (h, λ i. let z : _≡_ {A = ℕ} 0 1 = cc in absurd (omega arith))
+  entry-pair k h = claims .reached g c .1 (h, λ i. clash cc)
 
   pub zero-pairless : t .kind ≡ Integer → readingOf t g c ≡ pos 0 → ¬ Has rows g c
   zero-pairless k z = claims .listed-zero g c k z

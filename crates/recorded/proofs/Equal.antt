@@ -1,4 +1,4 @@
--- Comparing two tests. In order: lists that agree so far (the loops of `same_rows` and `same_readings`), and readings by their bits; two tests by their
+-- Comparing two tests. In order: readings that agree so far (`Agreeing` of crate `table`), and readings by their bits; two tests by their
 -- parts (the answers of `same_parts`); equal tests, by 02's words, are the same value where they are legal (`equal-value`); the answers of
 -- `equal_tests`, one law for each; one answer (`compared-unique`).
 --
@@ -7,22 +7,21 @@ use mathlib.Core.Path.{_≡_, refl, sym, ap, ap₂, _∙_, subst}
 use mathlib.Core.Bool.{Bool, true, false}
 use mathlib.Core.List.{List}
 use mathlib.Core.Logic.{_↔_, _⊎_, inl, inr}
-use Prim.Native.Nat.{ℕ, suc, _+_, _-_, _*_, _/_, _%_, _≤_, _<_}
-use native.Mathlib.Nat.{not-suc-le-zero}
+use Prim.Native.Nat.{ℕ, suc, _+_, _-_, _*_, _/_, _%_, _≤_}
 use native.Mathlib.Decide.{ℕ-discrete}
 use native.Mathlib.Omega.{arith}
 use lib.Dec.{T}
 use lib.IntN.{ℤ, pos}
-use lib.ListN.{length, getD}
+use lib.ListN.{length}
 use lib.Seq.{ext-getD}
 use mir.Syntax.{w32}
 use mir.Val.{SFits, toZ, ofZ}
 use mir.Facts.{toZ-ofZ}
 use borrow.Author.Tests.{ne-eqb}
 use Rattle.sets.specs.Sets.{bit}
-use Rattle.sets.proofs.Order.{bits-sub, sub-antisym}
-use Rattle.table.specs.Pairs.{row, Has}
-use Rattle.table.proofs.Places.{has-place, place-has}
+use Rattle.table.specs.Pairs.{row}
+use Rattle.table.proofs.Places.{has-place, place-has, same-pairs-rows}
+use Rattle.table.proofs.Agreement.{part-differs, Agreeing}
 use Rattle.refusals.specs.Answers.{number}
 use Rattle.refusals.specs.declared.Refusal.{Refusal}
 use Rattle.refusals.specs.declared.Verdict.{Verdict}
@@ -37,29 +36,9 @@ use Rattle.recorded.specs.declared.Test.{Test}
 use Rattle.recorded.specs.declared.Compared.{Compared}
 use Rattle.recorded.proofs.Legality.{test-legal, zero-or-entry}
 
--- ---- the first i of the n elements agree
-pub record Agreeing {A : Type 0} (d : A) (n : ℕ) (a b : List A) (i : ℕ) : Type 0 where
-  pub most : i ≤ n
-  pub agree : (j : ℕ) → j < i → getD a j d ≡ getD b j d
-
-pub agree-none : {A : Type 0} (d : A) (n : ℕ) (a b : List A) → Agreeing d n a b 0
-agree-none d n a b = record { most = omega arith; agree = λ j h. absurd (not-suc-le-zero h) }
-
-pub agree-more : {A : Type 0} {d : A} {n : ℕ} {a b : List A} {i : ℕ} → Agreeing d n a b i → i < n → getD a i d ≡ getD b i d → Agreeing d n a b (i + 1)
-agree-more {d = d} {a = a} {b = b} {i = i} r h e = record { most = omega arith; agree = λ j k. go j k (ℕ-discrete j i) }
-  where
-    go : (j : ℕ) → j < i + 1 → Dec (j ≡ i) → getD a j d ≡ getD b j d
-    go j k (yes p) = ap (λ (x : ℕ). getD a x d) p ∙ e ∙ ap (λ (x : ℕ). getD b x d) (sym p)
-    go j k (no p) = r .agree j (omega arith)
-
-no-yes : {A : Type 0} → false ≡ true → A
-no-yes e = let z : _≡_ {A = ℕ} 0 1 = cc in absurd (omega arith)
-
+-- ---- readings, place by place
 pub same-all : {A : Type 0} (d : A) (n : ℕ) (a b : List A) (i : ℕ) → length a ≡ n → length b ≡ n → Agreeing d n a b i → n ≤ i → (true ≡ true) ↔ (a ≡ b)
 same-all d n a b i p q r h = (λ x. ext-getD d a b (p ∙ sym q) (λ j k. r .agree j (omega arith)), λ x. refl)
-
-pub same-not : {A : Type 0} (d : A) (a b : List A) (i : ℕ) → (getD a i d ≡ getD b i d → ⊥) → (false ≡ true) ↔ (a ≡ b)
-same-not d a b i n = (λ x. no-yes x, λ e. absurd (n (ap (λ (l : List _). getD l i d) e)))
 
 -- the code compares readings by their bits
 pub bits-is : (x y : ℤ) → SFits w32 x → SFits w32 y → ofZ w32 x ≡ ofZ w32 y → x ≡ y
@@ -78,15 +57,9 @@ kind-is Integer Integer e = refl
 test-is : (a b : Test) → a .kind ≡ b .kind → a .gauges ≡ b .gauges → a .cases ≡ b .cases → a .entries ≡ b .entries → a .readings ≡ b .readings → a ≡ b
 test-is a b k g c e v = λ i. record { kind = k i; gauges = g i; cases = c i; entries = e i; readings = v i }
 
-pub part-differs : {B : Type 0} (f : Test → B) (a b : Test) → ¬ (f a ≡ f b) → (false ≡ true) ↔ (a ≡ b)
-part-differs f a b n = (λ x. no-yes x, λ e. absurd (n (ap f e)))
-
 module _ (a b : Test) where
   pub other-kind : (m n : ℕ) → m ≡ kindNumber (a .kind) → n ≡ kindNumber (b .kind) → (m ≡ n → ⊥) → (false ≡ true) ↔ (a ≡ b)
   other-kind m n p q f = part-differs (λ (t : Test). kindNumber (t .kind)) a b (λ e. f (p ∙ e ∙ sym q))
-
-  pub other-entries : (t : Bool) → (t ≡ true) ↔ (a .entries ≡ b .entries) → t ≡ false → (false ≡ true) ↔ (a ≡ b)
-  other-entries t i f = part-differs (λ (x : Test). x .entries) a b (λ e. let y : t ≡ true = i .1 e in let z : _≡_ {A = ℕ} 0 1 = cc in omega arith)
 
   pub by-readings : (m n : ℕ) → m ≡ kindNumber (a .kind) → n ≡ kindNumber (b .kind) → m ≡ n → a .gauges ≡ b .gauges → a .cases ≡ b .cases
       → (t : Bool) → (t ≡ true) ↔ (a .entries ≡ b .entries) → t ≡ true → (u : Bool) → (u ≡ true) ↔ (a .readings ≡ b .readings) → (u ≡ true) ↔ (a ≡ b)
@@ -94,17 +67,6 @@ module _ (a b : Test) where
     λ x. test-is a b (kind-is (a .kind) (b .kind) (sym p ∙ k ∙ q)) g c (i .0 y) (j .0 x),
     λ e. j .1 (ap (λ (x : Test). x .readings) e),
   )
-
--- ---- the same entries, the same rows
-row-within : (r s : List ℕ) → ((g c : ℕ) → Has r g c → Has s g c) → (i k : ℕ) → T (bit (row r i) k) → T (bit (row s i) k)
-row-within r s f i k t = has-place s i k (f (suc i) (suc k) (place-has r i k t))
-
-pub same-pairs-rows : (r s : List ℕ) → length r ≡ length s → ((g c : ℕ) → Has r g c ↔ Has s g c) → r ≡ s
-same-pairs-rows r s e f =
-    ext-getD 0 r s e (λ i h.
-    sub-antisym (row r i) (row s i)
-    (bits-sub (row r i) (row s i) (row-within r s (λ g c. f g c .0) i))
-    (bits-sub (row s i) (row r i) (row-within s r (λ g c. f g c .1) i)))
 
 -- ---- equal tests
 pub same-equal : (a b : Test) → a ≡ b → EqualTests a b

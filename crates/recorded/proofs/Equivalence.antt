@@ -4,16 +4,17 @@
 use mathlib.Core.Path.{_≡_, refl, sym, ap, _∙_}
 use mathlib.Core.Logic.{_↔_}
 use Prim.Native.Nat.{ℕ, _≤_}
-use native.Mathlib.Omega.{arith}
 use lib.IntN.{pos}
+use Rattle.basics.proofs.Clash.{clash}
 use Rattle.table.specs.Pairs.{Has}
+use Rattle.table.proofs.Places.{same-pairs-rows}
 use Rattle.recorded.specs.Tests.{readingOf, LegalTest, tableOf}
 use Rattle.recorded.specs.Equality.{EqualTests}
 use Rattle.recorded.specs.declared.Kind.the-variants.{Pattern, Integer}
 use Rattle.recorded.specs.declared.Test.{Test}
 use Rattle.recorded.proofs.Legality.{pattern-zero}
 use Rattle.recorded.proofs.Reaching.{table-legal, zero-no-pair}
-use Rattle.recorded.proofs.Equal.{same-pairs-rows, same-equal, equal-same}
+use Rattle.recorded.proofs.Equal.{same-equal, equal-same}
 
 -- ---- an equivalence
 pub equal-refl : (a : Test) → EqualTests a a
@@ -53,7 +54,7 @@ pattern-equal a b la lb ka kb g c e = record {
 }
 
 pub kinds-unequal : (a b : Test) → a .kind ≡ Pattern → b .kind ≡ Integer → ¬ EqualTests a b
-kinds-unequal a b ka kb e = let k : a .kind ≡ b .kind = e .kind in let z : _≡_ {A = ℕ} 0 1 = cc in omega arith
+kinds-unequal a b ka kb e = let k : a .kind ≡ b .kind = e .kind in clash cc
 
 -- ---- "a listed zero differing from an absent entry": an entry of one that the other lacks, whatever its reading
 pub entry-unequal : (a b : Test) (g c : ℕ) → Has (a .entries) g c → ¬ Has (b .entries) g c → ¬ EqualTests a b

@@ -13,6 +13,7 @@ use lib.Dec.{T, eqb, le→leb, leb→le, eqb·suc-zero}
 use lib.IntN.{ℤ, pos, negsuc, natAbs}
 use lib.ListN.{length, replicate, length-replicate, getD-replicate, List·getD-eq-default}
 use borrow.Author.Tests.{ne-eqb, eq-eqb, lt-ltb, lt-leb}
+use Rattle.basics.proofs.Clash.{clash}
 use Rattle.sets.specs.Sets.{bit, lowest}
 use Rattle.sets.specs.Lists.{allBelow}
 use Rattle.sets.proofs.OnePlace.{bit-lowest}
@@ -33,7 +34,7 @@ abs-zero (pos n) e = ap pos e
 abs-zero (negsuc n) e = absurd (omega arith)
 
 apart : Pattern ≡ Integer → ⊥
-apart e = let z : _≡_ {A = ℕ} 0 1 = ap number e in omega arith
+apart e = clash (ap number e)
   where
     number : Kind → ℕ
     number Pattern = 0

@@ -1,7 +1,7 @@
 -- Signed words: what a 32-bit number is when it is read back, and its magnitude. The laws take the code's term x with `x ≡ v`.
 use mathlib.Core.Path.{_≡_, refl, sym, ap, _∙_, subst}
 use mathlib.Core.Bool.{true, false}
-use Prim.Native.Nat.{ℕ, zero, suc}
+use Prim.Native.Nat.{zero, suc}
 use native.Mathlib.Omega.{arith}
 use lib.Dec.{T, leb·suc-zero}
 use lib.IntN.{ℤ, pos, negsuc, natAbs, negℤ, _-ℤ_, +ℤ-idl}
@@ -9,6 +9,7 @@ use lib.Signed.{ltZ, nonNeg}
 use mir.Syntax.{w32, w64}
 use mir.Val.{SFits, Fits, toZ, ofZ}
 use mir.Facts.{toZ-ofZ, sfits-widen, fits-natAbs}
+use Rattle.basics.proofs.Clash.{clash}
 
 pub wide : (v : ℤ) → SFits w32 v → SFits w64 v
 wide v h = sfits-widen tt h
@@ -22,12 +23,12 @@ neg-fits (pos (suc n)) h = record { sfits = omega (arith, h .sfits) }
 neg-fits (negsuc n) h = record { sfits = omega (arith, h .sfits) }
 
 neg-below : (v : ℤ) → ltZ v (pos 0) ≡ true → T (nonNeg (negℤ v))
-neg-below (pos n) h = let z : _≡_ {A = ℕ} 0 1 = cc (leb·suc-zero n) in absurd (omega arith)
+neg-below (pos n) h = clash (cc (leb·suc-zero n))
 neg-below (negsuc n) h = tt
 
 not-below : (v : ℤ) → ltZ v (pos 0) ≡ false → T (nonNeg v)
 not-below (pos n) h = tt
-not-below (negsuc n) h = let z : _≡_ {A = ℕ} 0 1 = cc in absurd (omega arith)
+not-below (negsuc n) h = clash cc
 
 abs-neg : (v : ℤ) → natAbs (negℤ v) ≡ natAbs v
 abs-neg (pos zero) = refl

@@ -286,7 +286,7 @@ fn same_entries(a: Test, b: Test) -> bool
 {
     let entries = a.entries;
     let others = b.entries;
-    same_rows(&entries, &others)
+    table::same_rows(&entries, &others)
 }
 
 // Whether two tests have the same readings.
@@ -296,21 +296,6 @@ fn same_values(a: Test, b: Test) -> bool
     let readings = a.readings;
     let values = b.readings;
     same_readings(&readings, &values)
-}
-
-// Whether two lists of rows are the same.
-fn same_rows(a: &[u64; 64], b: &[u64; 64]) -> bool
-    requires { ⌜ (length (now a) ≡ 64) × (length (now b) ≡ 64) ⌝ }
-    ensures { λ r. ⌜ ((r ≡ true) ↔ (now (a .entry) ≡ now (b .entry))) ⌝ }
-{
-    let mut i: usize = 0;
-    while i < ROWS {
-        if a[i] != b[i] {
-            return false;
-        }
-        i += 1;
-    }
-    true
 }
 
 // Whether two lists of readings are the same.

@@ -1,5 +1,7 @@
 -- The pass over the picks: what stands behind the first i of them (`Going`), one pick more, a pick that cannot have been made, the end, and
 -- the answers; `replays-unique` says that there is one answer. Arrays are read by place: nothing is asked of what stands in them.
+--
+-- Pins, which nothing else cites: `replays-unique`.
 use mathlib.Core.Path.{_≡_, refl, sym, ap, ap₂, _∙_, subst}
 use mathlib.Core.Bool.{Bool, true, false, not, _&&_, _||_}
 use mathlib.Core.List.{List, [], _∷_, _++_}
@@ -33,7 +35,7 @@ use Rattle.lists.proofs.Remainders.{remainder-left}
 use Rattle.lists.proofs.Candidates.{Cand, mem-candidates}
 use Rattle.lists.proofs.CandidateTree.{candidate-tree}
 use Rattle.lists.proofs.Replaying.{Stands, stands-none, stands-twin, stands-fewer, twin-needed}
-use Rattle.search.proofs.Within.{clash}
+use Rattle.search.proofs.Within.{yes-no}
 use Rattle.search.proofs.AfterPicks.{full}
 use Rattle.replay.specs.Picked.{arrayRows, Picked, Made, notMade, Replays}
 use Rattle.replay.specs.private.Steps.{Judges, NoneAgainst}
@@ -45,7 +47,7 @@ pub full-is : full ≡ 2 ^ 64 - 1
 full-is = lowest-up 64 (omega arith)
 
 un-of : (x : Bool) → not x ≡ true → x ≡ false
-un-of true e = clash (not true) e refl
+un-of true e = yes-no (not true) e refl
 un-of false e = refl
 
 un-is : (p : List ℕ) (j : ℕ) → isIn j p ≡ false → Un p j
@@ -53,8 +55,8 @@ un-is p j e = rw e tt
 
 both : (x y : Bool) → (x && y) ≡ true → (x ≡ true) × (y ≡ true)
 both true true e = (refl, refl)
-both true false e = clash false e refl
-both false y e = clash false e refl
+both true false e = yes-no false e refl
+both false y e = yes-no false e refl
 
 -- sequences of one length that have the same numbers are equal
 same-picks : (p q : List ℕ) (i : ℕ) → length p ≡ i → length q ≡ i → ((j : ℕ) → j < i → suc (getD p j 0) ≡ suc (getD q j 0)) → p ≡ q
@@ -94,7 +96,7 @@ module _ (n : ℕ) (rows k : List ℕ) where
   abbrev r : List ℕ
   r = arrayRows n rows
 
-  pub picked-valid : (p : List ℕ) → Reached (candidates r) (at p Down) → Valid (candidates r) p
+  picked-valid : (p : List ℕ) → Reached (candidates r) (at p Down) → Valid (candidates r) p
   picked-valid p = reachable (candidates r) (length r) (candidate-tree r) (at p Down) .0
 
   pub record Going (unpicked left before last i : ℕ) : Type 0 where
@@ -224,7 +226,7 @@ module _ (n : ℕ) (rows k : List ℕ) where
         cand = mem-candidates r (f .picks) g .0 (valid-kid (candidates r) (f .picks) g valid-more)
 
         pub bad-place : (t : Bool) → t ≡ bit u g → t ≡ false → ⊥
-        bad-place t et ht = clash (bit u g) (open-in g (cand .below) (cand .fresh)) (sym et ∙ ht)
+        bad-place t et ht = yes-no (bit u g) (open-in g (cand .below) (cand .fresh)) (sym et ∙ ht)
 
         pub bad-empty : (own : ℕ) → own ≡ bitAnd (getD rows g 0) left → own ≡ 0 → ⊥
         bad-empty own eo z = cand .filled (rem-is g ∙ sym (eo ∙ own-in g (cand .below)) ∙ z)
@@ -280,10 +282,10 @@ low-more u g u′ f w h b = f h (both (bit u h) (not (eqb h g)) (sym (w .bits h)
 -- ---- the answers
 pub replays-no : (n : ℕ) (rows k : List ℕ) (count : ℕ) (s : Replayed) → s ≡ notMade → ((p : List ℕ) → Picked (arrayRows n rows) k count p → ⊥)
     → Replays n rows k count s
-replays-no n rows k count s e h = record { yes = λ d. clash (s .ok) d (ap (λ (x : Replayed). x .ok) e); no = λ d. (e, h) }
+replays-no n rows k count s e h = record { yes = λ d. yes-no (s .ok) d (ap (λ (x : Replayed). x .ok) e); no = λ d. (e, h) }
 
 pub replays-yes : (n : ℕ) (rows k : List ℕ) (count : ℕ) (s : Replayed) → s .ok ≡ true → Made (arrayRows n rows) k count s → Replays n rows k count s
-replays-yes n rows k count s e h = record { yes = λ d. h; no = λ d. clash (s .ok) e d }
+replays-yes n rows k count s e h = record { yes = λ d. h; no = λ d. yes-no (s .ok) e d }
 
 pub replays-unique : (n : ℕ) (rows k : List ℕ) (count : ℕ) (s q : Replayed) → Replays n rows k count s → Replays n rows k count q → s ≡ q
 replays-unique n rows k count s q a b = go (s .ok) refl (q .ok) refl

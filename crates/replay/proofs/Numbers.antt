@@ -21,11 +21,6 @@ pub numbers-snoc : (p : List ℕ) (g : ℕ) → map suc (p ++ (g ∷ [])) ≡ ma
 numbers-snoc [] g = refl
 numbers-snoc (x ∷ p) g = ap (λ (l : List ℕ). suc x ∷ l) (numbers-snoc p g)
 
-pub take-numbers : (i : ℕ) (p : List ℕ) → take i (map suc p) ≡ map suc (take i p)
-take-numbers zero p = refl
-take-numbers (suc i) [] = refl
-take-numbers (suc i) (x ∷ p) = ap (λ (l : List ℕ). suc x ∷ l) (take-numbers i p)
-
 pub getD-numbers : (p : List ℕ) (i : ℕ) → i < length p → getD (map suc p) i 0 ≡ suc (getD p i 0)
 getD-numbers [] i l = absurd (omega arith)
 getD-numbers (x ∷ p) zero l = refl

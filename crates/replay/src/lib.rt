@@ -1,6 +1,7 @@
 // Picks handed in (01, "Moves of a run"): whether they can have been made one after the other, each a candidate after those before it,
 // judged in one pass over the picks and one over what is unpicked then. Any rows and any picks are taken, nothing is refused, and no memory
 // is lent; the theory is proofs/Replaying.antt of crate `lists`.
+use basics;
 use sets;
 use table::Table;
 ghost use mathlib.Core.Path.{_≡_};
@@ -39,7 +40,7 @@ pub fn replay(rows: &[u64; 64], n: usize, picks: &[u8; 64], count: usize) -> Rep
     let mut last: usize = 0;
     let mut i: usize = 0;
     while i < count {
-        let number = wide(picks[i]);
+        let number = basics::index(picks[i]);
         if number == 0 {
             return not_replayed();
         }
@@ -80,13 +81,6 @@ fn not_replayed() -> Replayed
         unpicked: 0,
         left: 0,
     }
-}
-
-// A pick's number as an index.
-fn wide(number: u8) -> usize
-    ensures { λ r. ⌜ r ≡ number ⌝ }
-{
-    number as usize
 }
 
 // A pick that leaves fewer cases starts anew; one that has all left cases has left the same as the last picks, and stands behind the last.

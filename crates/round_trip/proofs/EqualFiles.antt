@@ -10,9 +10,9 @@ use Rattle.recorded.specs.Tests.{LegalTest}
 use Rattle.recorded.specs.Equality.{EqualTests}
 use Rattle.recorded.specs.declared.Test.{Test}
 use Rattle.recorded.proofs.Equal.{same-equal, equal-same}
-use Rattle.reader.specs.private.Reading.{readRecorded}
-use Rattle.reader.proofs.Yielded.{recorded-sound}
-use Rattle.writer.specs.TestFiles.{testFile}
+use Rattle.file_reader.specs.private.Reading.{readRecorded}
+use Rattle.file_reader.proofs.Yielded.{recorded-sound}
+use Rattle.file_writer.specs.TestFiles.{testFile}
 use Rattle.round_trip.proofs.RoundTrip.{test-round-trip}
 
 pub equal-files : (a b : Test) → LegalTest a → LegalTest b → EqualTests a b ↔ (testFile a ≡ testFile b)

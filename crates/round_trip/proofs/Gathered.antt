@@ -16,10 +16,10 @@ use Rattle.sets.specs.Sets.{bit}
 use Rattle.sets.proofs.Digits.{bit-zero, bit-suc}
 use Rattle.recorded.specs.Tests.{reading, noReadings}
 use Rattle.table.specs.Pairs.{row}
-use Rattle.reader.specs.private.Reading.{addReading}
-use Rattle.writer.specs.Writing.{gaugeOf, GaugeCase, rowPairs, pairsFrom}
-use Rattle.writer.specs.TestFiles.{valueAt}
-use Rattle.writer.proofs.PairLines.{by-low}
+use Rattle.file_reader.specs.private.Reading.{addReading}
+use Rattle.file_writer.specs.Writing.{gaugeOf, GaugeCase, rowPairs, pairsFrom}
+use Rattle.file_writer.specs.TestFiles.{valueAt}
+use Rattle.file_writer.proofs.PairLines.{by-low}
 
 -- the place of a pair's reading
 abbrev placeOf : GaugeCase → ℕ

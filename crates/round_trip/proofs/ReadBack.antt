@@ -13,20 +13,20 @@ use lib.ListN.{length, length-append}
 use borrow.Author.Tests.{lt-ltb, le-ltb, le-leb, ne-eqb}
 use Rattle.recorded.specs.declared.Kind.{Kind}
 use Rattle.recorded.specs.declared.Kind.the-variants.{Pattern, Integer}
-use Rattle.text.specs.Lines.{lines}
-use Rattle.text.specs.Fields.{isBlank, fields}
-use Rattle.text.specs.declared.Fields.the-variants.{Two, Three}
-use Rattle.entries.specs.Values.{numberFrom, numberOf, isMinus, unsigned, signed, valueOf}
-use Rattle.entries.specs.Words.{grow, words, entryFields}
-use Rattle.entries.specs.declared.EntryFields.the-variants.{Entry as fieldsOf}
-use Rattle.entries.proofs.Words.{words-blank, words-solid}
-use Rattle.entries.proofs.OldFields.{fields-are-words}
-use Rattle.kinds.specs.Kinds.{isComment, fieldsBy, entryOf, entryLine}
-use Rattle.kinds.specs.declared.EntryLine.the-variants.{Entry}
-use Rattle.writer.specs.Writing.{decimal, digits, gaugeOf, caseOf, GaugeCase}
-use Rattle.writer.specs.TestFiles.{readingText, valueAt, entryText}
-use Rattle.writer.proofs.Decimals.{lt-or-le, decimal-short, decimal-long, decimal-length, decimal-some}
-use Rattle.writer.proofs.Readings.{reading-short}
+use Rattle.file_text.specs.Lines.{lines}
+use Rattle.file_text.specs.Fields.{isBlank, fields}
+use Rattle.file_text.specs.declared.Fields.the-variants.{Two, Three}
+use Rattle.file_entries.specs.Values.{numberFrom, numberOf, isMinus, unsigned, signed, valueOf}
+use Rattle.file_entries.specs.Words.{grow, words, entryFields}
+use Rattle.file_entries.specs.declared.EntryFields.the-variants.{Entry as fieldsOf}
+use Rattle.file_entries.proofs.Words.{words-blank, words-solid}
+use Rattle.file_entries.proofs.OldFields.{fields-are-words}
+use Rattle.file_kinds.specs.Kinds.{isComment, fieldsBy, entryOf, entryLine}
+use Rattle.file_kinds.specs.declared.EntryLine.the-variants.{Entry}
+use Rattle.file_writer.specs.Writing.{decimal, digits, gaugeOf, caseOf, GaugeCase}
+use Rattle.file_writer.specs.TestFiles.{readingText, valueAt, entryText}
+use Rattle.file_writer.proofs.Decimals.{lt-or-le, decimal-short, decimal-long, decimal-length, decimal-some}
+use Rattle.file_writer.proofs.Readings.{reading-short}
 
 -- ---- lines
 -- every byte is above m

@@ -30,17 +30,17 @@ use Rattle.recorded.specs.declared.Kind.{Kind}
 use Rattle.recorded.specs.declared.Kind.the-variants.{Pattern, Integer}
 use Rattle.recorded.specs.declared.Test.{Test}
 use Rattle.recorded.proofs.Legality.{small-place, pattern-zero, zero-or-entry, test-legal, pairs-legal}
-use Rattle.text.specs.Bytes.{small}
-use Rattle.text.specs.Lines.{lines}
-use Rattle.kinds.specs.Banner.{bannerOf, firstLine}
-use Rattle.kinds.specs.Kinds.{headLine}
-use Rattle.kinds.specs.declared.FirstLine.the-variants.{Banner}
-use Rattle.kinds.specs.declared.HeadLine.the-variants.{Size}
-use Rattle.reader.specs.private.Reading.{accepted, addPair, readEntries, readHead, readLines, readRecorded, pairsOf, readFile, readTest}
-use Rattle.writer.specs.Writing.{digits, gaugeOf, caseOf, GaugeCase, rowPairs, pairsFrom, pairs, linesOf, sizeText, writeFile, roomRefusal}
-use Rattle.writer.specs.TestFiles.{entryText, testFile}
-use Rattle.writer.proofs.Sizes.{count-bound, test-length}
-use Rattle.writer.proofs.Files.{pattern-file}
+use Rattle.file_text.specs.Bytes.{small}
+use Rattle.file_text.specs.Lines.{lines}
+use Rattle.file_kinds.specs.Banner.{bannerOf, firstLine}
+use Rattle.file_kinds.specs.Kinds.{headLine}
+use Rattle.file_kinds.specs.declared.FirstLine.the-variants.{Banner}
+use Rattle.file_kinds.specs.declared.HeadLine.the-variants.{Size}
+use Rattle.file_reader.specs.private.Reading.{accepted, addPair, readEntries, readHead, readLines, readRecorded, pairsOf, readFile, readTest}
+use Rattle.file_writer.specs.Writing.{digits, gaugeOf, caseOf, GaugeCase, rowPairs, pairsFrom, pairs, linesOf, sizeText, writeFile, roomRefusal}
+use Rattle.file_writer.specs.TestFiles.{entryText, testFile}
+use Rattle.file_writer.proofs.Sizes.{count-bound, test-length}
+use Rattle.file_writer.proofs.Files.{pattern-file}
 use Rattle.round_trip.proofs.ReadBack.{Over, line-front, fields-three, three-length, text-over, two-over, number-no-comment, entry-over, entry-back}
 use Rattle.round_trip.proofs.Gathered.{Visits, gathered, gathered-append, gathered-all, visits-rows}
 

@@ -13,13 +13,13 @@ use Rattle.table.specs.declared.Table.{Table}
 use Rattle.recorded.specs.Tests.{LegalTest, testRefusal, tableOf}
 use Rattle.recorded.specs.declared.Test.{Test}
 use Rattle.recorded.proofs.Legality.{test-legal}
-use Rattle.reader.specs.Files.{IsLegal}
-use Rattle.reader.specs.Promises.{TableOfFile, TestAndTable, IsCutoff, TestOfFile}
-use Rattle.reader.specs.private.Reading.{readFile, readTest}
-use Rattle.reader.proofs.Promising.{table-of-file, table-of-file-unique, test-of-file, test-of-file-unique}
-use Rattle.writer.specs.Writing.{writeFile, roomRefusal, roomAnswer, roomBuffer, writeAnswer, bufferAfter}
-use Rattle.writer.specs.TestFiles.{testFile, testAnswer, testBuffer}
-use Rattle.reader.proofs.FileLaws.{accepted-legal}
+use Rattle.file_reader.specs.Files.{IsLegal}
+use Rattle.file_reader.specs.Promises.{TableOfFile, TestAndTable, IsCutoff, TestOfFile}
+use Rattle.file_reader.specs.private.Reading.{readFile, readTest}
+use Rattle.file_reader.proofs.Promising.{table-of-file, table-of-file-unique, test-of-file, test-of-file-unique}
+use Rattle.file_writer.specs.Writing.{writeFile, roomRefusal, roomAnswer, roomBuffer, writeAnswer, bufferAfter}
+use Rattle.file_writer.specs.TestFiles.{testFile, testAnswer, testBuffer}
+use Rattle.file_reader.proofs.FileLaws.{accepted-legal}
 use Rattle.table.specs.Tables.{Legal}
 use Rattle.round_trip.specs.Back.{TableBack, TestBack}
 use Rattle.round_trip.proofs.RoundTrip.{checks-passed, test-reads, test-round-trip, round-trip, written-reads}

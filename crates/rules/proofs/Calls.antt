@@ -17,6 +17,7 @@ use native.Mathlib.Omega.{arith}
 use lib.Dec.{ltb}
 use lib.ListN.{length}
 use borrow.Author.Tests.{lt-ltb, le-ltb}
+use Rattle.basics.proofs.Clash.{clash}
 use Rattle.rules.specs.Machine.{cutLast, Phase, Down, Handed, Back, Ended, State, Given, nothing, hands, ends, at, fresh, takeBack, down, back}
 use Rattle.rules.specs.ByNumber.{above}
 use Rattle.rules.specs.Machine.{Move}
@@ -143,12 +144,6 @@ module _ (mv : State → Move) (out : List ℕ → List ℕ) where
   within-by b s l = rw (le-ltb mostBudget b l)
 
 module _ (kids : List ℕ → List ℕ) (out : List ℕ → List ℕ) where
-  pub call-above : (b : ℕ) (s : State) → mostBudget < b → call kids out b s ≡ result (refused 18) 0 s
-  call-above = above-by (move kids) out
-
-  pub call-within : (b : ℕ) (s : State) → b ≤ mostBudget → call kids out b s ≡ carry kids out b s
-  call-within = within-by (move kids) out
-
   module _ (n : ℕ) where
     -- the sets still to be handed out
     abbrev pub ahead : State → List (List ℕ)
@@ -311,8 +306,8 @@ module _ (kids : List ℕ → List ℕ) (out : List ℕ → List ℕ) (n : ℕ) 
 
   gap-from : (bs : List ℕ) (s : State) → Fits kids (s .picks) (s .phase) → (sooner later : List Call) (c : Call)
       → callsFrom kids out bs s ≡ sooner ++ (c ∷ later) → movesUntil isHandOutOrEnd later ≤ 2 * n + 1
-  gap-from [] s h [] later c e = let z : _≡_ {A = ℕ} 0 1 = cc in absurd (omega arith)
-  gap-from [] s h (d ∷ ds) later c e = let z : _≡_ {A = ℕ} 0 1 = cc in absurd (omega arith)
+  gap-from [] s h [] later c e = clash cc
+  gap-from [] s h (d ∷ ds) later c e = clash cc
   gap-from (b ∷ bs) s h [] later c e =
       let q : callsFrom kids out bs (call kids out b s .next) ≡ later = cc in
       let f : Fits kids (call kids out b s .next .picks) (call kids out b s .next .phase) = call-law b s h .fits in

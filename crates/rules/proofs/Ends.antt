@@ -2,17 +2,17 @@
 -- leaves makes some call answer `end`. So what calls hand out is not only a front of the leaves but, in the end, all of them.
 use mathlib.Core.Path.{_≡_, refl, ap}
 use mathlib.Core.Logic.{_≢_}
-use mathlib.Core.List.{List, [], _∷_, map, List·Memᴰ, List·Memᴰ·head, List·Memᴰ·tail}
+use mathlib.Core.List.{List, [], _∷_, List·Memᴰ, List·Memᴰ·head, List·Memᴰ·tail}
 use Prim.Native.Nat.{ℕ, _+_, _*_, _≤_, _<_}
 use native.Mathlib.Omega.{arith}
 use lib.ListN.{length, length-map}
 use Rattle.rules.specs.Sequences.{All}
 use Rattle.rules.specs.Machine.{State, fresh}
-use Rattle.rules.specs.Calls.{Reply, refused, spent, handed, end, Call, mostBudget, handouts}
+use Rattle.rules.specs.Calls.{Reply, refused, spent, handed, end, Call, mostBudget}
 use Rattle.rules.specs.ByNumber.{call, callsFrom, calls}
 use Rattle.rules.specs.private.Fitting.{Fits}
 use Rattle.rules.proofs.Trees.{Tree, leaves}
-use Rattle.rules.proofs.Calls.{Paid, cost, cost-pos, cost-lap, ahead, call-law, ahead-fresh, calls-complete}
+use Rattle.rules.proofs.Calls.{Paid, cost, cost-pos, cost-lap, ahead, call-law, ahead-fresh}
 use Rattle.rules.proofs.Reports.{call-only18, call-spent}
 
 -- a budget that is not refused, and enough for the next hand-out or end
@@ -50,6 +50,3 @@ module _ (kids : List ℕ → List ℕ) (out : List ℕ → List ℕ) (n : ℕ) 
   -- with enough calls, one ends, and the sets handed out are those of all the leaves
   pub calls-end : (bs : List ℕ) → All (Enough n) bs → length (leaves kids n []) < length bs → Ended (calls kids out bs)
   calls-end bs a l = end-from bs fresh tt a (omega (arith, ap length (ahead-fresh kids out n t), length-map (leaves kids n []) out))
-
-  pub calls-all : (bs : List ℕ) → All (Enough n) bs → length (leaves kids n []) < length bs → handouts (calls kids out bs) ≡ map out (leaves kids n [])
-  calls-all bs a l = let c = calls-end bs a l in calls-complete kids out n t bs (c .0) (c .1) (c .2)

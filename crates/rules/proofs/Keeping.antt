@@ -14,7 +14,7 @@ use Rattle.rules.specs.Machine.{Ended, State, Given, nothing, hands, end
 use Rattle.rules.specs.ByNumber.{move, after}
 use Rattle.rules.specs.Calls.{refused, end, Call, result, mostBudget, answered, handouts, proceedBy, carryBy, callBy, callsBy, stateBy}
 use Rattle.rules.specs.ByNumber.{proceed, carry, call, callsFrom}
-use Rattle.rules.specs.Keeping.{taken, moveKeeping, kept}
+use Rattle.rules.specs.Keeping.{taken, moveKeeping, keptSets}
 use Rattle.rules.specs.private.Fitting.{Fits}
 use Rattle.rules.proofs.Trees.{Tree, leaves}
 use Rattle.rules.proofs.Progress.{rest, listed, move-rest, move-fits}
@@ -31,23 +31,23 @@ module _ (kids : List ℕ → List ℕ) (out : List ℕ → List ℕ) (keep : Li
   toCome s = rest kids n (s .picks) (s .phase)
 
   pub ahead : State → List (List ℕ)
-  ahead s = kept keep (map out (toCome s))
+  ahead s = keptSets keep (map out (toCome s))
 
-  pub ahead-is : (s : State) → ahead s ≡ kept keep (map out (toCome s))
+  pub ahead-is : (s : State) → ahead s ≡ keptSets keep (map out (toCome s))
   unfolding ahead
   ahead-is s = refl
 
   ahead-same : (s s′ : State) → toCome s′ ≡ toCome s → ahead s′ ≡ ahead s
   unfolding ahead
-  ahead-same s s′ e = ap (λ (x : List (List ℕ)). kept keep (map out x)) e
+  ahead-same s s′ e = ap (λ (x : List (List ℕ)). keptSets keep (map out x)) e
 
   ahead-yes : (s s′ : State) (p : List ℕ) → p ∷ toCome s′ ≡ toCome s → keep (out p) ≡ true → out p ∷ ahead s′ ≡ ahead s
   unfolding ahead
-  ahead-yes s s′ p e d = sym (kept-yes keep (out p) (map out (toCome s′)) d) ∙ ap (λ (x : List (List ℕ)). kept keep (map out x)) e
+  ahead-yes s s′ p e d = sym (kept-yes keep (out p) (map out (toCome s′)) d) ∙ ap (λ (x : List (List ℕ)). keptSets keep (map out x)) e
 
   ahead-no : (s s′ : State) (p : List ℕ) → p ∷ toCome s′ ≡ toCome s → keep (out p) ≡ false → ahead s′ ≡ ahead s
   unfolding ahead
-  ahead-no s s′ p e d = sym (kept-no keep (out p) (map out (toCome s′)) d) ∙ ap (λ (x : List (List ℕ)). kept keep (map out x)) e
+  ahead-no s s′ p e d = sym (kept-no keep (out p) (map out (toCome s′)) d) ∙ ap (λ (x : List (List ℕ)). keptSets keep (map out x)) e
 
   -- ---- one call
   pub record KeptLaw (s : State) (c : Call) : Type 0 where
@@ -84,9 +84,6 @@ module _ (kids : List ℕ → List ℕ) (out : List ℕ → List ℕ) (keep : Li
       go true = record { fits = h; keeps = refl; closed = tt }
       go false = carry-law b s h
 
-  pub kept-fits : (b : ℕ) (s : State) → Fits kids (s .picks) (s .phase) → Fits kids (callBy mv out b s .next .picks) (callBy mv out b s .next .phase)
-  kept-fits b s h = call-kept b s h .fits
-
   -- ---- a list of calls
   calls-keep : (bs : List ℕ) (s : State) → Fits kids (s .picks) (s .phase) → handouts (callsBy mv out bs s) ++ ahead (stateBy mv out bs s) ≡ ahead s
   calls-keep [] s h = refl
@@ -95,7 +92,7 @@ module _ (kids : List ℕ → List ℕ) (out : List ℕ → List ℕ) (keep : Li
       answered-append (callBy mv out b s .answer) _ _ ∙
       (ap (answered (callBy mv out b s .answer)) (calls-keep bs (callBy mv out b s .next) (l .fits)) ∙ l .keeps)
 
-  ahead-fresh : ahead fresh ≡ kept keep (map out (leaves kids n []))
+  ahead-fresh : ahead fresh ≡ keptSets keep (map out (leaves kids n []))
   unfolding ahead
   ahead-fresh = simp (append-nil, sub-zero)
 
@@ -103,7 +100,7 @@ module _ (kids : List ℕ → List ℕ) (out : List ℕ → List ℕ) (keep : Li
   unfolding ahead
   ahead-ended = refl
 
-  pub kept-front : (bs : List ℕ) → (l : List (List ℕ)) × (handouts (callsBy mv out bs fresh) ++ l ≡ kept keep (map out (leaves kids n [])))
+  pub kept-front : (bs : List ℕ) → (l : List (List ℕ)) × (handouts (callsBy mv out bs fresh) ++ l ≡ keptSets keep (map out (leaves kids n [])))
   kept-front bs = (ahead (stateBy mv out bs fresh), calls-keep bs fresh tt ∙ ahead-fresh)
 
   stays-ended : (bs : List ℕ) → stateBy mv out bs (at [] Ended) ≡ at [] Ended
@@ -130,9 +127,9 @@ module _ (kids : List ℕ → List ℕ) (out : List ℕ → List ℕ) (keep : Li
       go on (inr k) = on k
 
   pub kept-complete : (bs : List ℕ) (c : Call) → List·Memᴰ c (callsBy mv out bs fresh) → c .answer ≡ end
-      → handouts (callsBy mv out bs fresh) ≡ kept keep (map out (leaves kids n []))
+      → handouts (callsBy mv out bs fresh) ≡ keptSets keep (map out (leaves kids n []))
   kept-complete bs c m e =
-      let k : handouts (callsBy mv out bs fresh) ++ [] ≡ kept keep (map out (leaves kids n [])) =
+      let k : handouts (callsBy mv out bs fresh) ++ [] ≡ keptSets keep (map out (leaves kids n [])) =
       rw (end-after bs fresh tt c m e, ahead-ended) at (calls-keep bs fresh tt ∙ ahead-fresh) in
       rw append-nil at k
 

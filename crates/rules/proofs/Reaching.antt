@@ -1,6 +1,6 @@
 -- A call leads from a state that is reached to one that is (`reached-call`), by any rule for moves, and so does a call of the run that hands over the
 -- kept sets alone, whose moves lead to the same states (`reached-keeping`).
-use mathlib.Core.Path.{_≡_, refl, sym, ap, _∙_}
+use mathlib.Core.Path.{_≡_, refl, ap, _∙_}
 use mathlib.Core.Bool.{Bool}
 use mathlib.Core.List.{List}
 use Prim.Native.Nat.{ℕ, zero, suc, _+_, _≤_}

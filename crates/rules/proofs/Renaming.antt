@@ -4,19 +4,20 @@
 -- renamed list of calls hands out, and its moves.
 --
 -- Elsewhere: the places of a preference, and the candidates by place, crate `lists`.
-use mathlib.Core.Path.{_≡_, refl, sym, ap, ap₂, _∙_}
+use mathlib.Core.Path.{_≡_, refl, sym, ap, _∙_}
 use mathlib.Core.Bool.{Bool, true, false, cond}
-use mathlib.Core.List.{List, [], _∷_, _++_, head?, map, List·Memᴰ, Memᴰ·of-map}
+use mathlib.Core.List.{List, [], _∷_, _++_, head?, map}
 use Prim.Native.Nat.{ℕ, zero, suc, _+_, _<_}
 use native.Mathlib.Decide.{decLt}
 use native.Mathlib.Omega.{arith}
 use lib.Dec.{ltb}
 use borrow.Author.Tests.{lt-ltb, le-ltb}
+use Rattle.basics.proofs.Clash.{clash}
 use Rattle.rules.specs.Sequences.{All}
 use Rattle.rules.specs.Machine.{Phase, Down, Handed, Back, Ended, State, at, Given, nothing, hands, ends, Move, gives, cutLast, takeBack, down, back}
 use Rattle.rules.specs.Machine.{aboveIn, stepIn, moveIn, afterBy}
 use Rattle.rules.specs.ByNumber.{above, step, move}
-use Rattle.rules.specs.Calls.{Reply, refused, spent, handed, end, Call, result, mostBudget, answered, handouts, movesUntil}
+use Rattle.rules.specs.Calls.{Reply, refused, handed, Call, result, mostBudget, answered, handouts, movesUntil}
 use Rattle.rules.specs.Calls.{proceedBy, carryBy, callBy, callsBy, stateBy}
 use Rattle.rules.specs.Keeping.{taken, moveKeeping}
 use Rattle.rules.proofs.Trees.{by-last, cut-snoc}
@@ -195,13 +196,13 @@ pub keeping-out : {f : ℕ → ℕ} {good : State → Type 0} {mv : State → Mo
 keeping-out {f} {good} {mv} {out} {out′} keep u = record { same-out = λ s h p e. outs s h p (mv s .given) refl e }
   where
     outs : (s : State) → good s → (p : List ℕ) (g : Given) → mv s .given ≡ g → taken out keep g ≡ hands p → out′ (map f p) ≡ out p
-    outs s h p nothing e d = let z : _≡_ {A = ℕ} 0 1 = cc in absurd (omega arith)
+    outs s h p nothing e d = clash cc
     outs s h p (hands q) e d = go (keep (out q)) d
       where
         go : (x : Bool) → cond x (hands q) nothing ≡ hands p → out′ (map f p) ≡ out p
         go true z = let y : q ≡ p = cc in rw (← y) (u .same-out s h q e)
-        go false z = let y : _≡_ {A = ℕ} 0 1 = cc in absurd (omega arith)
-    outs s h p ends e d = let z : _≡_ {A = ℕ} 0 1 = cc in absurd (omega arith)
+        go false z = clash cc
+    outs s h p ends e d = clash cc
 
 -- ---- a renamed list of calls
 module _ (f : ℕ → ℕ) where
@@ -223,8 +224,8 @@ module _ (f : ℕ → ℕ) where
     pub is-later : map (renamedCall f) later′ ≡ later
 
   pub split-renamed : (cs sooner later : List Call) (c : Call) → map (renamedCall f) cs ≡ sooner ++ (c ∷ later) → SplitAt cs sooner later c
-  split-renamed [] [] later c e = let z : _≡_ {A = ℕ} 0 1 = cc in absurd (omega arith)
-  split-renamed [] (x ∷ sooner) later c e = let z : _≡_ {A = ℕ} 0 1 = cc in absurd (omega arith)
+  split-renamed [] [] later c e = clash cc
+  split-renamed [] (x ∷ sooner) later c e = clash cc
   split-renamed (d ∷ cs) [] later c e =
       record { sooner′ = []; later′ = cs; call′ = d; parts = refl; is-call = let z : renamedCall f d ≡ c = cc in z; is-later = cc }
   split-renamed (d ∷ cs) (x ∷ sooner) later c e =

@@ -2,14 +2,18 @@
 -- unless a hand-out or an end stops the call, and "spent" is answered exactly where neither came. All this of any rule for moves.
 --
 -- In order: what follows from `WholeBy`, and that it leaves one call (`whole-unique`); "spent" and each call of a list as a user reads them
--- (`exactly-by`, `each-map`); that the calls of the rule are so, one (`only18-by`, `spent-by`) and each of a list (`all-only18`, `all-whole`,
+-- (`exactly-by`, `each-count`); that the calls of the rule are so, one (`only18-by`, `spent-by`) and each of a list (`all-only18`, `all-whole`,
 -- `all-spent`); that nothing else is (`one-list`); then the same by rules 1 to 5.
+--
+-- Pins, which nothing else cites: `each-count`.
 use mathlib.Core.Path.{_≡_, refl, sym, ap, ap₂, _∙_}
 use mathlib.Core.Logic.{_↔_, _≢_}
 use mathlib.Core.List.{List, [], _∷_}
 use Prim.Native.Nat.{ℕ, zero, suc, _-_, _≤_, _<_}
 use native.Mathlib.Decide.{ℕ-discrete, decLt, decLe}
 use native.Mathlib.Omega.{arith}
+use lib.ListN.{length}
+use Rattle.basics.proofs.Clash.{clash}
 use Rattle.rules.specs.Machine.{State, Given, nothing, hands, ends, Move, afterBy}
 use Rattle.rules.specs.ByNumber.{move}
 use Rattle.rules.specs.Calls.{Reply, refused, spent, Call, result, mostBudget, proceedBy, carryBy, callBy, callsBy}
@@ -19,14 +23,14 @@ use Rattle.rules.proofs.Calls.{above-by, within-by}
 
 module _ (out : List ℕ → List ℕ) where
   says-never : (g : Given) (k : ℕ) → says out g ≢ refused k
-  says-never nothing k e = let z : _≡_ {A = ℕ} 0 1 = cc in omega arith
-  says-never (hands p) k e = let z : _≡_ {A = ℕ} 0 1 = cc in omega arith
-  says-never ends k e = let z : _≡_ {A = ℕ} 0 1 = cc in omega arith
+  says-never nothing k e = clash cc
+  says-never (hands p) k e = clash cc
+  says-never ends k e = clash cc
 
   says-spent : (g : Given) → says out g ≡ spent → g ≡ nothing
   says-spent nothing e = refl
-  says-spent (hands p) e = let z : _≡_ {A = ℕ} 0 1 = cc in absurd (omega arith)
-  says-spent ends e = let z : _≡_ {A = ℕ} 0 1 = cc in absurd (omega arith)
+  says-spent (hands p) e = clash cc
+  says-spent ends e = clash cc
 
 module _ (mv : State → Move) where
   -- ---- the last move
@@ -92,15 +96,15 @@ module _ (mv : State → Move) where
       same (no l) (no m) = omega arith
 
 -- ---- "spent", and each call of a list, as a user reads them
-pub exactly-by : (mv : State → Move) (b : ℕ) (s : State) (c : Call) → SpentBy mv b s c → (c .answer ≡ spent) ↔ ((c .moves ≡ b) × QuietBy mv b s)
+exactly-by : (mv : State → Move) (b : ℕ) (s : State) (c : Call) → SpentBy mv b s c → (c .answer ≡ spent) ↔ ((c .moves ≡ b) × QuietBy mv b s)
 exactly-by mv b s c w = (w .only, λ h. w .always (h .0) (h .1))
 
-pub each-map : {P Q : ℕ → State → Call → Type 0} → ((b : ℕ) (s : State) (c : Call) → P b s c → Q b s c)
-    → (bs : List ℕ) (s : State) (cs : List Call) → EachCall P bs s cs → EachCall Q bs s cs
-each-map f [] s [] e = tt
-each-map f [] s (c ∷ cs) e = absurd e
-each-map f (b ∷ bs) s [] e = absurd e
-each-map f (b ∷ bs) s (c ∷ cs) e = (f b s c (e .0), each-map f bs (c .next) cs (e .1))
+-- there are as many calls as budgets
+pub each-count : (P : ℕ → State → Call → Type 0) (bs : List ℕ) (s : State) (cs : List Call) → EachCall P bs s cs → length cs ≡ length bs
+each-count P [] s [] e = refl
+each-count P [] s (c ∷ cs) e = absurd e
+each-count P (b ∷ bs) s [] e = absurd e
+each-count P (b ∷ bs) s (c ∷ cs) e = ap suc (each-count P bs (c .next) cs (e .1))
 
 module _ (mv : State → Move) (out : List ℕ → List ℕ) where
   carry-whole : (b : ℕ) (s : State) → WholeBy mv out b s (carryBy mv out b s)
@@ -122,7 +126,7 @@ module _ (mv : State → Move) (out : List ℕ → List ℕ) where
             leads = refl;
             sooner = λ i l. absurd (omega arith);
             last = ap (says out) (sym e);
-            stops = λ l z. let y : _≡_ {A = ℕ} 0 1 = cc in omega arith;
+            stops = λ l z. clash cc;
           }
       go on ends e =
           record {
@@ -130,7 +134,7 @@ module _ (mv : State → Move) (out : List ℕ → List ℕ) where
             leads = refl;
             sooner = λ i l. absurd (omega arith);
             last = ap (says out) (sym e);
-            stops = λ l z. let y : _≡_ {A = ℕ} 0 1 = cc in omega arith;
+            stops = λ l z. clash cc;
           }
 
   -- ---- one call
@@ -140,7 +144,7 @@ module _ (mv : State → Move) (out : List ℕ → List ℕ) where
   pub only18-by : (b : ℕ) (s : State) → Only18 b s (callBy mv out b s)
   only18-by b s = record { above = above-by mv out b s; else = λ l. whole-never mv out b s (callBy mv out b s) (whole-by b s l) }
 
-  pub spent-by : (b : ℕ) (s : State) → b ≤ mostBudget → SpentBy mv b s (callBy mv out b s)
+  spent-by : (b : ℕ) (s : State) → b ≤ mostBudget → SpentBy mv b s (callBy mv out b s)
   spent-by b s l = whole-spent mv out b s (callBy mv out b s) (whole-by b s l)
 
   -- ---- each call of a list

@@ -18,6 +18,6 @@ abbrev pub moveKeeping : (State → Move) → (List ℕ → List ℕ) → (List 
 moveKeeping mv out keep s = gives (taken out keep (mv s .given)) (mv s .next)
 
 -- the sets of a list that are kept, in the same order
-abbrev pub kept : (List ℕ → Bool) → List (List ℕ) → List (List ℕ)
-kept keep [] = []
-kept keep (x ∷ xs) = cond (keep x) (x ∷ kept keep xs) (kept keep xs)
+abbrev pub keptSets : (List ℕ → Bool) → List (List ℕ) → List (List ℕ)
+keptSets keep [] = []
+keptSets keep (x ∷ xs) = cond (keep x) (x ∷ keptSets keep xs) (keptSets keep xs)

@@ -68,7 +68,7 @@ module _ (g l start density : ℕ) where
   rows = padded (sampleRows density l g start)
 
   -- the place i, k of the table, both from 0
-  pub sample-bit : (i k : ℕ) → i < g → k < l → bit (row rows i) k ≡ ltb (after (i * l + suc k) start % 256) density
+  sample-bit : (i k : ℕ) → i < g → k < l → bit (row rows i) k ≡ ltb (after (i * l + suc k) start % 256) density
   sample-bit i k h m =
       ap (λ (r : ℕ). bit r k) (pad-getD (sampleRows density l g start) i ∙ row-at density l g start i h) ∙ row-bit density l (after (i * l) start) k m
       ∙ ap (λ (s : ℕ). ltb (s % 256) density) (sym (after-add (i * l) (suc k) start))

@@ -62,7 +62,7 @@ module _ (g l start density : ℕ) where
   unfolding sampleRefusal
   not-refused e d = rw (e, d)
 
-  pub taken-shape : sampleRefusal g l start density ≡ 0 → (inRange 64 g ≡ true) × (inRange 64 l ≡ true)
+  taken-shape : sampleRefusal g l start density ≡ 0 → (inRange 64 g ≡ true) × (inRange 64 l ≡ true)
   unfolding sampleRefusal shapeRefusal
   taken-shape e = both (inRange 64 g) (inRange 64 l) (go (inRange 64 g && inRange 64 l) refl)
     where

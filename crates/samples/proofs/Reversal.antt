@@ -8,7 +8,7 @@ use native.Mathlib.Omega.{arith}
 use lib.Arith.{bin-ind, digits-mod}
 use lib.Pow.{pow-add, pow-pos, shr-shr, pow-mono, shr-le}
 use lib.Bits.{bitXor, differ, xor-step, xor-shr, xor-mod, xor-comm, xor-self, xor-zero-r, xor-block, xor-lt}
-use Rattle.samples.specs.Xorshift.{left, right, step, unstep, after, StepClaims}
+use Rattle.samples.specs.Xorshift.{shiftedLeft, right, step, unstep, after, StepClaims}
 
 -- ---- `^` is associative
 digit-assoc : (x y z : ℕ) → x < 2 → y < 2 → z < 2 → differ (differ x y) z ≡ differ x (differ y z)
@@ -105,13 +105,13 @@ shr-add-up : (j k x : ℕ) → shr j (shr k x) ≡ shr (k + j) x
 unfolding shr
 shr-add-up j k x = shr-shr x k j
 
--- ---- so for `left` and `right`
-left-twice : (k x : ℕ) → left k (left k x) ≡ left (k + k) x
-unfolding left shl
+-- ---- so for `shiftedLeft` and `right`
+left-twice : (k x : ℕ) → shiftedLeft k (shiftedLeft k x) ≡ shiftedLeft (k + k) x
+unfolding shiftedLeft shl
 left-twice = mix-twice shl shl-additive shl-add-up
 
-left-swap : (j k x : ℕ) → left j (left k x) ≡ left k (left j x)
-unfolding left shl
+left-swap : (j k x : ℕ) → shiftedLeft j (shiftedLeft k x) ≡ shiftedLeft k (shiftedLeft j x)
+unfolding shiftedLeft shl
 left-swap = mix-swap shl shl-additive shl-add-up
 
 right-twice : (k x : ℕ) → right k (right k x) ≡ right (k + k) x
@@ -122,8 +122,8 @@ right-swap : (j k x : ℕ) → right j (right k x) ≡ right k (right j x)
 unfolding right shr
 right-swap = mix-swap shr shr-additive shr-add-up
 
-left-none : (k x : ℕ) → left (k + 64) x ≡ x
-unfolding left
+left-none : (k x : ℕ) → shiftedLeft (k + 64) x ≡ x
+unfolding shiftedLeft
 left-none k x =
     ap (bitXor x)
     (ap (λ (y : ℕ). x * y % 2 ^ 64) (pow-add 2 k 64) ∙ ap (λ (y : ℕ). y % 2 ^ 64) (sym (mul-assoc x (2 ^ k) (2 ^ 64)))
@@ -134,8 +134,8 @@ right-none : (k x : ℕ) → x < 2 ^ 64 → 64 ≤ k → right k x ≡ x
 unfolding right
 right-none k x h l = ap (bitXor x) (div-eq-of-lt (omega (arith, pow-mono {i = 64} {j = k} l))) ∙ xor-zero-r x
 
-left-lt : (k x : ℕ) → x < 2 ^ 64 → left k x < 2 ^ 64
-unfolding left
+left-lt : (k x : ℕ) → x < 2 ^ 64 → shiftedLeft k x < 2 ^ 64
+unfolding shiftedLeft
 left-lt k x h = xor-lt 64 x (x * 2 ^ k % 2 ^ 64) h (mod-lt (x * 2 ^ k) (pow-pos 64))
 
 right-lt : (k x : ℕ) → x < 2 ^ 64 → right k x < 2 ^ 64
@@ -143,17 +143,18 @@ unfolding right
 right-lt k x h = xor-lt 64 x (x / 2 ^ k) h (omega (arith, shr-le x k))
 
 -- ---- the parts of a step, undone before and behind
-left13-behind : (x : ℕ) → left 13 (left 13 (left 26 (left 52 x))) ≡ x
-left13-behind x = left-twice 13 (left 26 (left 52 x)) ∙ left-twice 26 (left 52 x) ∙ left-twice 52 x ∙ left-none 40 x
+left13-behind : (x : ℕ) → shiftedLeft 13 (shiftedLeft 13 (shiftedLeft 26 (shiftedLeft 52 x))) ≡ x
+left13-behind x = left-twice 13 (shiftedLeft 26 (shiftedLeft 52 x)) ∙ left-twice 26 (shiftedLeft 52 x) ∙ left-twice 52 x ∙ left-none 40 x
 
-left13-before : (x : ℕ) → left 13 (left 26 (left 52 (left 13 x))) ≡ x
-left13-before x = ap (λ (y : ℕ). left 13 (left 26 y)) (left-swap 52 13 x) ∙ ap (left 13) (left-swap 26 13 (left 52 x)) ∙ left13-behind x
+left13-before : (x : ℕ) → shiftedLeft 13 (shiftedLeft 26 (shiftedLeft 52 (shiftedLeft 13 x))) ≡ x
+left13-before x = ap (λ (y : ℕ). shiftedLeft 13 (shiftedLeft 26 y)) (left-swap 52 13 x) ∙ ap (shiftedLeft 13) (left-swap 26 13 (shiftedLeft 52 x))
+    ∙ left13-behind x
 
-left17-behind : (x : ℕ) → left 17 (left 17 (left 34 x)) ≡ x
-left17-behind x = left-twice 17 (left 34 x) ∙ left-twice 34 x ∙ left-none 4 x
+left17-behind : (x : ℕ) → shiftedLeft 17 (shiftedLeft 17 (shiftedLeft 34 x)) ≡ x
+left17-behind x = left-twice 17 (shiftedLeft 34 x) ∙ left-twice 34 x ∙ left-none 4 x
 
-left17-before : (x : ℕ) → left 17 (left 34 (left 17 x)) ≡ x
-left17-before x = ap (left 17) (left-swap 34 17 x) ∙ left17-behind x
+left17-before : (x : ℕ) → shiftedLeft 17 (shiftedLeft 34 (shiftedLeft 17 x)) ≡ x
+left17-before x = ap (shiftedLeft 17) (left-swap 34 17 x) ∙ left17-behind x
 
 right7-behind : (x : ℕ) → x < 2 ^ 64 → right 7 (right 7 (right 14 (right 28 (right 56 x)))) ≡ x
 right7-behind x h =
@@ -169,20 +170,20 @@ right7-before x h =
 pub unstep-step : (x : ℕ) → x < 2 ^ 64 → unstep (step x) ≡ x
 unfolding step unstep
 unstep-step x h =
-    ap (λ (y : ℕ). left 13 (left 26 (left 52 (right 7 (right 14 (right 28 (right 56 y))))))) (left17-before (right 7 (left 13 x)))
-    ∙ ap (λ (y : ℕ). left 13 (left 26 (left 52 y))) (right7-before (left 13 x) (left-lt 13 x h))
+    ap (λ (y : ℕ). shiftedLeft 13 (shiftedLeft 26 (shiftedLeft 52 (right 7 (right 14 (right 28 (right 56 y))))))) (left17-before (right 7 (shiftedLeft 13 x)))
+    ∙ ap (λ (y : ℕ). shiftedLeft 13 (shiftedLeft 26 (shiftedLeft 52 y))) (right7-before (shiftedLeft 13 x) (left-lt 13 x h))
     ∙ left13-before x
 
 pub step-unstep : (x : ℕ) → x < 2 ^ 64 → step (unstep x) ≡ x
 unfolding step unstep
 step-unstep x h =
-    ap (λ (y : ℕ). left 17 (right 7 y)) (left13-behind (right 7 (right 14 (right 28 (right 56 (left 17 (left 34 x)))))))
-    ∙ ap (left 17) (right7-behind (left 17 (left 34 x)) (left-lt 17 (left 34 x) (left-lt 34 x h)))
+    ap (λ (y : ℕ). shiftedLeft 17 (right 7 y)) (left13-behind (right 7 (right 14 (right 28 (right 56 (shiftedLeft 17 (shiftedLeft 34 x)))))))
+    ∙ ap (shiftedLeft 17) (right7-behind (shiftedLeft 17 (shiftedLeft 34 x)) (left-lt 17 (shiftedLeft 34 x) (left-lt 34 x h)))
     ∙ left17-behind x
 
 step-lt : (x : ℕ) → x < 2 ^ 64 → step x < 2 ^ 64
 unfolding step
-step-lt x h = left-lt 17 (right 7 (left 13 x)) (right-lt 7 (left 13 x) (left-lt 13 x h))
+step-lt x h = left-lt 17 (right 7 (shiftedLeft 13 x)) (right-lt 7 (shiftedLeft 13 x) (left-lt 13 x h))
 
 pub unstep-lt : (x : ℕ) → x < 2 ^ 64 → unstep x < 2 ^ 64
 unfolding unstep
@@ -190,7 +191,7 @@ unstep-lt x h =
     left-lt 13 _ (left-lt 26 _ (left-lt 52 _ (right-lt 7 _ (right-lt 14 _ (right-lt 28 _ (right-lt 56 _ (left-lt 17 _ (left-lt 34 x h))))))))
 
 unstep-zero : unstep 0 ≡ 0
-unfolding unstep left right
+unfolding unstep shiftedLeft right
 unstep-zero = refl
 
 -- "the state never becomes zero"
@@ -204,7 +205,7 @@ after-nonzero (suc n) x h e = step-nonzero x h (after-nonzero n (step x) (step-l
 
 -- the first states from 1
 pub first-states : (after 1 1 ≡ 1082269761) × (after 2 1 ≡ 1152992998833853505)
-unfolding after step left right
+unfolding after step shiftedLeft right
 first-states = (refl, refl)
 
 pub step-claims : StepClaims

@@ -7,18 +7,18 @@ use Prim.Native.Nat.{ℕ, zero, suc, _*_, _/_, _%_, _^_, _<_}
 use lib.Bits.{bitXor}
 
 -- x ^ (x << k) and x ^ (x >> k) on 64 bits
-unfoldable pub left : ℕ → ℕ → ℕ
-left k x = bitXor x (x * 2 ^ k % 2 ^ 64)
+unfoldable pub shiftedLeft : ℕ → ℕ → ℕ
+shiftedLeft k x = bitXor x (x * 2 ^ k % 2 ^ 64)
 
 unfoldable pub right : ℕ → ℕ → ℕ
 right k x = bitXor x (x / 2 ^ k)
 
 unfoldable pub step : ℕ → ℕ
-step x = left 17 (right 7 (left 13 x))
+step x = shiftedLeft 17 (right 7 (shiftedLeft 13 x))
 
--- the inverse: `left k` is undone by itself and by `left` at twice k, four times k, and so on up to 64 bits; `right` likewise
+-- the inverse: `left k` is undone by itself and by `shiftedLeft` at twice k, four times k, and so on up to 64 bits; `right` likewise
 unfoldable pub unstep : ℕ → ℕ
-unstep x = left 13 (left 26 (left 52 (right 7 (right 14 (right 28 (right 56 (left 17 (left 34 x))))))))
+unstep x = shiftedLeft 13 (shiftedLeft 26 (shiftedLeft 52 (right 7 (right 14 (right 28 (right 56 (shiftedLeft 17 (shiftedLeft 34 x))))))))
 
 -- the state after n steps
 unfoldable pub after : ℕ → ℕ → ℕ

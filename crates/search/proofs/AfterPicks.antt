@@ -12,6 +12,7 @@ use lib.Dec.{T, eqb, ltb, ltb→lt, lt→ltb}
 use lib.ListN.{length, set}
 use lib.Seq.{getD-set-same, getD-set-other}
 use borrow.Author.Tests.{lt-ltb, le-ltb, eqb-true, eq-eqb, ne-eqb}
+use Rattle.basics.proofs.Clash.{clash}
 use Rattle.sets.specs.Sets.{meet, _⊆_, isSubset, isProperSubset, lowest}
 use Rattle.sets.specs.Lists.{allBelow}
 use Rattle.sets.proofs.Tests.{and-l, and-r, and-i}
@@ -26,7 +27,7 @@ use Rattle.lists.proofs.Unpicked.{isIn-snoc}
 use Rattle.lists.proofs.Remainders.{remainder-left, remainder-past, common-snoc}
 use Rattle.lists.proofs.Candidates.{cand-of}
 use Rattle.lists.proofs.Selecting.{nil-select, head-select, above-select}
-use Rattle.search.specs.Finding.{remainderIn, blocks, candidateIn, First}
+use Rattle.search.specs.Finding.{remainderIn, blocks, candidateIn, FirstOf}
 use Rattle.search.proofs.SearchLoops.{candidate-more}
 
 -- all 64 cases, which hold every row
@@ -106,11 +107,11 @@ module _ (r p unpicked : List ℕ) (left : ℕ) (ok : Rows r) (o : After r p unp
       bools : (s a b l : Bool) → a ≡ b → (b ≡ true → s ≡ true) → (s && (not a || l)) ≡ ((s && not a) || (l && b))
       bools true true true true q k = refl
       bools true true true false q k = refl
-      bools true true false l q k = let z : _≡_ {A = ℕ} 0 1 = cc in absurd (omega arith)
-      bools true false true l q k = let z : _≡_ {A = ℕ} 0 1 = cc in absurd (omega arith)
+      bools true true false l q k = clash cc
+      bools true false true l q k = clash cc
       bools true false false true q k = refl
       bools true false false false q k = refl
-      bools false a true l q k = let e : false ≡ true = k refl in let z : _≡_ {A = ℕ} 0 1 = cc in absurd (omega arith)
+      bools false a true l q k = let e : false ≡ true = k refl in clash cc
       bools false a false true q k = refl
       bools false a false false q k = refl
 
@@ -127,7 +128,7 @@ module _ (r p unpicked : List ℕ) (left : ℕ) (ok : Rows r) (o : After r p unp
           self z = sub-refl z
 
   -- 01's candidates
-  pub candidate-in : (g : ℕ) → candidateIn unpicked left (length r) g ≡ candidate r p g
+  candidate-in : (g : ℕ) → candidateIn unpicked left (length r) g ≡ candidate r p g
   unfolding candidateIn candidate
   candidate-in g = go (isIn g p) refl (decLt g (length r))
     where
@@ -182,7 +183,7 @@ module _ (r p unpicked : List ℕ) (left : ℕ) (ok : Rows r) (o : After r p unp
       past i l = o .entry i ∙ none i (isIn i p) l
 
   -- ---- the search
-  module _ (from g : ℕ) (s : First (candidateIn unpicked left 64) from 64 g) where
+  module _ (from g : ℕ) (s : FirstOf (candidateIn unpicked left 64) from 64 g) where
     low : (i : ℕ) → from ≤ i → i < g → T (candidate r p i) → ⊥
     low i a b t = subst T (sym (candidate-wide i) ∙ s .least i a b) t
 

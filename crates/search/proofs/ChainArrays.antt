@@ -21,7 +21,7 @@ chain-none r h = pad-ext noRows (chainOf r []) refl (omega (arith, length-chainO
     zeros i (yes l) = getD-replicate 64 i 0 0 l
     zeros i (no l) = row-past noRows i (omega arith)
 
-pub chain-place : (r p c : List ℕ) (g x : ℕ) → Un p g → g < length r → c ≡ padded (chainOf r p) → x ≡ remainder r p g
+chain-place : (r p c : List ℕ) (g x : ℕ) → Un p g → g < length r → c ≡ padded (chainOf r p) → x ≡ remainder r p g
     → set c g x ≡ padded (chainOf r (p ++ (g ∷ [])))
 chain-place r p c g x fresh below e d =
     ap₂ (λ (l : List ℕ) (y : ℕ). set l g y) e d ∙ pad-set (chainOf r p) g (remainder r p g) (omega (arith, length-chainOf r p))

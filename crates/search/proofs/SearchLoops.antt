@@ -9,12 +9,13 @@ use native.Mathlib.Omega.{arith}
 use lib.Bits.{bitAnd}
 use lib.Dec.{T, ltb}
 use borrow.Author.Tests.{lt-ltb, le-ltb, eq-eqb, ne-eqb}
+use Rattle.basics.proofs.Clash.{clash}
 use Rattle.sets.specs.Sets.{meet, isSubset}
 use Rattle.sets.specs.Lists.{allBelow}
 use Rattle.sets.proofs.Tabulated.{all-at, all-of, all-fails, all-done}
 use Rattle.sets.proofs.Order.{sub-zero, subset-is, zero-sub}
 use Rattle.table.specs.Pairs.{row}
-use Rattle.search.specs.Finding.{remainderIn, blocks, candidateIn, First}
+use Rattle.search.specs.Finding.{remainderIn, blocks, candidateIn, FirstOf}
 
 -- ---- blocks
 pub blocks-out : (x y : ℕ) (l t : Bool) → t ≡ isSubset x y → t ≡ false → false ≡ blocks x y l
@@ -46,11 +47,6 @@ past-places unpicked left n g most e h = rw (le-ltb g (min n 64) (omega arith))
 abbrev pub passes : List ℕ → ℕ → ℕ → ℕ → Bool
 passes unpicked left g i = not (blocks (remainderIn unpicked left g) (remainderIn unpicked left i) (ltb i g))
 
-pub turn-passes : (unpicked : List ℕ) (left g i : ℕ) (t : Bool) → t ≡ blocks (bitAnd (row unpicked g) left) (bitAnd (row unpicked i) left) (ltb i g)
-    → t ≡ false → true ≡ passes unpicked left g i
-unfolding meet
-turn-passes unpicked left g i t e d = ap not (sym d ∙ e)
-
 module _ (unpicked : List ℕ) (left n g most : ℕ) (m : most ≡ min n 64) (h : g < most) where
   abbrev own : ℕ
   own = bitAnd (row unpicked g) left
@@ -73,10 +69,10 @@ module _ (unpicked : List ℕ) (left n g most : ℕ) (m : most ≡ min n 64) (h 
 
 -- ---- the lowest
 pub first-found : (f : ℕ → Bool) (from n g : ℕ) (t : Bool) → from ≤ g → g < n → ((i : ℕ) → from ≤ i → i < g → f i ≡ false) → t ≡ f g → t ≡ true
-    → First f from n g
+    → FirstOf f from n g
 first-found f from n g t l h below e d = record { least = below; found = λ k. (l, sym e ∙ d); none = λ k. absurd (omega arith) }
 
-pub first-none : (f : ℕ → Bool) (from n g r : ℕ) → n ≤ g → ((i : ℕ) → from ≤ i → i < g → f i ≡ false) → r ≡ n → First f from n r
+pub first-none : (f : ℕ → Bool) (from n g r : ℕ) → n ≤ g → ((i : ℕ) → from ≤ i → i < g → f i ≡ false) → r ≡ n → FirstOf f from n r
 first-none f from n g r h below e = record { least = λ i a b. below i a (omega arith); found = λ k. absurd (omega arith); none = λ k. e }
 
 pub below-next : (f : ℕ → Bool) (from g : ℕ) (t : Bool) → ((i : ℕ) → from ≤ i → i < g → f i ≡ false) → t ≡ f g → t ≡ false → (i : ℕ) → from ≤ i → i < g + 1
@@ -88,28 +84,20 @@ below-next f from g t below e d i a b = go (ℕ-discrete i g)
     go (no x) = below i a (omega arith)
 
 -- one number only is the lowest, or none is
-pub lowest-unique : (f : ℕ → Bool) (from n r q : ℕ) → First f from n r → First f from n q → r ≡ q
+pub lowest-unique : (f : ℕ → Bool) (from n r q : ℕ) → FirstOf f from n r → FirstOf f from n q → r ≡ q
 lowest-unique f from n r q a b = go (decLt r q) (decLt q r)
   where
-    short : (x y : ℕ) → First f from n x → First f from n y → x < y → ⊥
+    short : (x y : ℕ) → FirstOf f from n x → FirstOf f from n y → x < y → ⊥
     short x y c d l = out (decLt x n)
       where
         out : Dec (x < n) → ⊥
-        out (yes h) = let e : true ≡ false = sym (c .found h .1) ∙ d .least x (c .found h .0) l in let z : _≡_ {A = ℕ} 0 1 = cc in omega arith
+        out (yes h) = let e : true ≡ false = sym (c .found h .1) ∙ d .least x (c .found h .0) l in clash cc
         out (no h) = omega (arith, c .none (omega arith), d .none (omega arith))
 
     go : Dec (r < q) → Dec (q < r) → r ≡ q
     go (yes l) m = absurd (short r q a b l)
     go (no l) (yes m) = absurd (short q r b a m)
     go (no l) (no m) = omega arith
-
--- a candidate of the first n places is one of them
-pub candidate-low : (unpicked : List ℕ) (left n g : ℕ) → candidateIn unpicked left n g ≡ true → g < n
-candidate-low unpicked left n g e = go (decLt g (min n 64))
-  where
-    go : Dec (g < min n 64) → g < n
-    go (yes l) = omega arith
-    go (no l) = let d : false ≡ true = past-places unpicked left n g (min n 64) refl (omega arith) ∙ e in let z : _≡_ {A = ℕ} 0 1 = cc in absurd (omega arith)
 
 -- places past the first n at which nothing stands change nothing
 pub candidate-more : (unpicked : List ℕ) (left n g : ℕ) → n ≤ 64 → ((i : ℕ) → n ≤ i → row unpicked i ≡ 0)

@@ -4,6 +4,7 @@ use mathlib.Core.Path.{_≡_, refl, sym, ap, ap₂, _∙_, subst}
 use mathlib.Core.Bool.{Bool, true, false, not, _&&_, _||_, cond}
 use mathlib.Core.List.{List}
 use Prim.Native.Nat.{ℕ, _≤_, _<_}
+use native.Mathlib.Nat.{min-eq-left}
 use native.Mathlib.Decide.{ℕ-discrete, decLt}
 use native.Mathlib.Omega.{arith}
 use lib.Bits.{bitAnd}
@@ -11,28 +12,29 @@ use lib.Dec.{T, eqb, leb, ltb}
 use lib.Count.{trailingZeros}
 use lib.ListN.{length, getD, set, length-set}
 use lib.Seq.{ext-getD, getD-set-same, getD-set-other}
-use borrow.Author.Tests.{eq-eqb, ne-eqb, le-leb, leb-true}
-use Rattle.sets.specs.Sets.{bit, meet}
+use borrow.Author.Tests.{eq-eqb, ne-eqb, lt-ltb, le-ltb, le-leb, leb-true}
+use Rattle.basics.proofs.Clash.{clash}
+use Rattle.sets.specs.Sets.{bit, meet, lowest}
 use Rattle.sets.specs.Lists.{allBelow}
 use Rattle.sets.specs.First.{Lowest, Rest, Without, Added, Upper}
 use Rattle.sets.proofs.Tabulated.{length-tabulate, getD-tabulate, all-of}
 use Rattle.sets.proofs.Tests.{is-true}
-use Rattle.sets.proofs.OnePlace.{none-in}
+use Rattle.sets.proofs.OnePlace.{none-in, bit-lowest}
 use Rattle.sets.proofs.Order.{zero-sub}
 use Rattle.table.specs.Pairs.{row}
 use Rattle.table.proofs.Places.{row-past}
-use Rattle.search.specs.Finding.{blocks, candidateIn, First, within}
+use Rattle.search.specs.Finding.{blocks, candidateIn, FirstOf, within}
 use Rattle.search.proofs.SearchLoops.{passes, blocked, unblocked, empty-remainder, past-places, zero-blocks}
 
 -- true is not false
-pub clash : {A : Type 0} (x : Bool) → x ≡ true → x ≡ false → A
-clash x a b = let e : true ≡ false = sym a ∙ b in let z : _≡_ {A = ℕ} 0 1 = cc in absurd (omega arith)
+pub yes-no : {A : Type 0} (x : Bool) → x ≡ true → x ≡ false → A
+yes-no x a b = let e : true ≡ false = sym a ∙ b in clash cc
 
 pub length-within : (s : ℕ) (rows : List ℕ) → length (within s rows) ≡ 64
 unfolding within
 length-within s rows = length-tabulate (λ i. cond (bit s i) (row rows i) 0) 64
 
-pub row-within : (s : ℕ) (rows : List ℕ) (i : ℕ) → i < 64 → row (within s rows) i ≡ cond (bit s i) (row rows i) 0
+row-within : (s : ℕ) (rows : List ℕ) (i : ℕ) → i < 64 → row (within s rows) i ≡ cond (bit s i) (row rows i) 0
 unfolding within
 row-within s rows i l = getD-tabulate (λ i. cond (bit s i) (row rows i) 0) 64 i l
 
@@ -45,6 +47,17 @@ row-out s rows i e = go (decLt i 64)
     go : Dec (i < 64) → row (within s rows) i ≡ 0
     go (yes l) = row-within s rows i l ∙ ap (λ (b : Bool). cond b (row rows i) 0) e
     go (no l) = row-past (within s rows) i (omega (arith, length-within s rows))
+
+-- all of the first n rows
+pub within-lowest : (r rows : List ℕ) (n : ℕ) → n ≤ 64 → length r ≡ n → ((i : ℕ) → row rows i ≡ row r i) → (i : ℕ) → row (within (lowest n) rows) i ≡ row r i
+within-lowest r rows n few size same i = go (decLt i n)
+  where
+    here : bit (lowest n) i ≡ ltb i n
+    here = bit-lowest n i ∙ ap (ltb i) (min-eq-left few)
+
+    go : Dec (i < n) → row (within (lowest n) rows) i ≡ row r i
+    go (yes l) = row-in (lowest n) rows i (omega arith) (here ∙ lt-ltb i n l) ∙ same i
+    go (no l) = row-out (lowest n) rows i (here ∙ le-ltb i n (omega arith)) ∙ sym (row-past r i (omega arith))
 
 -- a place fewer, and a place more
 pub within-without : (s g r : ℕ) (rows : List ℕ) → g < 64 → Without s g r → within r rows ≡ set (within s rows) g 0
@@ -98,7 +111,7 @@ pub record Passed (P : ℕ → Type 0) (s rest : ℕ) : Type 0 where
 
 module _ (P : ℕ → Type 0) (s : ℕ) where
   pub passed-none : (rest : ℕ) → rest ≡ s → Passed P s rest
-  passed-none rest e = record { within = λ h b. rw (← e) b; passed = λ h a b. clash (bit s h) a (rw e at b) }
+  passed-none rest e = record { within = λ h b. rw (← e) b; passed = λ h a b. yes-no (bit s h) a (rw e at b) }
 
   pub passed-more : (rest after h : ℕ) → Passed P s rest → h ≡ trailingZeros 64 rest → Rest rest after → P h → Passed P s after
   passed-more rest after h p e r t = record {
@@ -108,7 +121,7 @@ module _ (P : ℕ → Type 0) (s : ℕ) where
     where
       left-of : (x y : Bool) → (x && y) ≡ true → x ≡ true
       left-of true y z = refl
-      left-of false y z = clash false z refl
+      left-of false y z = yes-no false z refl
 
       and-true : (x : Bool) → (x && true) ≡ x
       and-true true = refl
@@ -121,9 +134,6 @@ module _ (P : ℕ → Type 0) (s : ℕ) where
 
   pub passed-all : (rest : ℕ) → Passed P s rest → rest ≡ 0 → (h : ℕ) → bit s h ≡ true → P h
   passed-all rest p e h b = p .passed h b (rw e (none-in h))
-
-  pub passed-low : (rest h : ℕ) → Passed P s rest → Lowest rest h → (i : ℕ) → bit s i ≡ true → i < h → P i
-  passed-low rest h p l i b y = p .passed i b (l .none i y)
 
 -- ---- a candidate of the set
 module _ (rows : List ℕ) (s left g : ℕ) (low : g < 64) (here : bit s g ≡ true) where
@@ -175,15 +185,15 @@ module _ (rows : List ℕ) (s left from up : ℕ) (u : Upper s from up) where
   Not i = candidateIn (within s rows) left 64 i ≡ false
 
   abbrev Search : ℕ → Type 0
-  Search r = First (candidateIn (within s rows) left 64) from 64 r
+  Search r = FirstOf (candidateIn (within s rows) left 64) from 64 r
 
   in-set : (h : ℕ) → bit up h ≡ true → (from ≤ h) × (bit s h ≡ true)
   in-set h b = go (leb from h) refl (bit s h) refl
     where
       go : (x : Bool) → leb from h ≡ x → (y : Bool) → bit s h ≡ y → (from ≤ h) × (bit s h ≡ true)
       go true x true y = (leb-true from h x, y)
-      go true x false y = clash (bit up h) b (u .bits h ∙ ap₂ (λ (p q : Bool). p && q) x y)
-      go false x z y = clash (bit up h) b (u .bits h ∙ ap (λ (p : Bool). p && bit s h) x)
+      go true x false y = yes-no (bit up h) b (u .bits h ∙ ap₂ (λ (p q : Bool). p && q) x y)
+      go false x z y = yes-no (bit up h) b (u .bits h ∙ ap (λ (p : Bool). p && bit s h) x)
 
   lower : (h : ℕ) → ((i : ℕ) → bit up i ≡ true → i < h → Not i) → (i : ℕ) → from ≤ i → i < h → Not i
   lower h f i a b = go (bit s i) refl

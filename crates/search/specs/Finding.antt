@@ -26,7 +26,7 @@ candidateIn unpicked left n g =
     && allBelow (λ h. not (blocks (remainderIn unpicked left g) (remainderIn unpicked left h) (ltb h g))) (min n 64))
 
 -- r is the lowest number from `from` on, below n, at which f holds, or n where there is none
-pub record First (f : ℕ → Bool) (from n r : ℕ) : Type 0 where
+pub record FirstOf (f : ℕ → Bool) (from n r : ℕ) : Type 0 where
   pub least : (i : ℕ) → from ≤ i → i < r → f i ≡ false
   pub found : r < n → (from ≤ r) × (f r ≡ true)
   pub none : n ≤ r → r ≡ n

@@ -1,65 +1,18 @@
 // Finding candidates (01, "Moves of a run"), once for both runs and for growing: whether a place is one, and the lowest from a place on.
-// The unpicked gauges are an array that has the row of each and nothing for a picked one, or a set of places beside the rows; `left` is the
-// set of left cases. proofs/AfterPicks.antt says that these are then 01's candidates. Any numbers are taken, nothing is refused, and no
-// memory that is lent changes.
+// The unpicked gauges are a set of places beside the rows; `left` is the set of left cases. proofs/AfterPicks.antt says that these are then 01's
+// candidates. Any numbers are taken, nothing is refused, and no memory that is lent changes.
 use sets;
 use table::Table;
 ghost use mathlib.Core.Path.{_≡_};
-ghost use Prim.Native.Nat.{_<_, min};
+ghost use Prim.Native.Nat.{_<_};
 ghost use mathlib.Core.Bool.{true};
 ghost use Rattle.sets.specs.Sets.{bit};
-ghost use Rattle.search.specs.Finding.{blocks as blocksIn, candidateIn, First, within};
+ghost use Rattle.search.specs.Finding.{blocks as blocksIn, candidateIn, FirstOf, within};
 
 // The places that there can be.
 const PLACES: usize = Table::MOST_GAUGES as usize;
 
-// Whether place `g` is one of the first `n`, and its gauge a candidate among them.
-pub fn is_candidate(unpicked: &[u64; 64], left: u64, n: usize, g: usize) -> bool
-    ensures { λ r. ⌜ r ≡ candidateIn (now (unpicked .entry)) left n g ⌝ }
-{
-    let most = at_most_places(n);
-    if most <= g {
-        return false;
-    }
-    let own = unpicked[g] & left;
-    if own == 0 {
-        return false;
-    }
-    let mut h = 0;
-    while h < most {
-        if blocks(own, unpicked[h] & left, h < g) {
-            return false;
-        }
-        h += 1;
-    }
-    true
-}
-
-// `n`, or 64 where it is larger.
-fn at_most_places(n: usize) -> usize
-    ensures { λ r. ⌜ r ≡ min n 64 ⌝ }
-{
-    if n < PLACES {
-        return n;
-    }
-    PLACES
-}
-
-// An unpicked gauge with the remainder `other` rules out one with the remainder `own`: it has more cases, or the same and is lower.
-fn blocks(own: u64, other: u64, lower: bool) -> bool
-    ensures { λ r. ⌜ r ≡ blocksIn own other lower ⌝ }
-{
-    if !sets::subset(own, other) {
-        return false;
-    }
-    if own != other {
-        return true;
-    }
-    lower
-}
-
-// The same where the unpicked gauges are a set of places beside the rows: whether place `g` is in the set, and its gauge a candidate among
-// those of the set.
+// Whether place `g` is in the set, and its gauge a candidate among those of the set.
 pub fn is_candidate_of(rows: &[u64; 64], set: u64, left: u64, g: usize) -> bool
     ensures { λ r. ⌜ r ≡ candidateIn (within set (now (rows .entry))) left 64 g ⌝ }
 {
@@ -71,7 +24,7 @@ pub fn is_candidate_of(rows: &[u64; 64], set: u64, left: u64, g: usize) -> bool
 
 // The lowest candidate from place `from` on, of the places in the set; 64 where there is none.
 pub fn next_candidate_of(rows: &[u64; 64], set: u64, left: u64, from: usize) -> usize
-    ensures { λ r. ⌜ First (candidateIn (within set (now (rows .entry))) left 64) from 64 r ⌝ }
+    ensures { λ r. ⌜ FirstOf (candidateIn (within set (now (rows .entry))) left 64) from 64 r ⌝ }
 {
     let mut rest = sets::upper(set, from as u64);
     while rest != 0 {
@@ -102,4 +55,17 @@ fn stands(rows: &[u64; 64], set: u64, left: u64, g: usize) -> bool
         }
     }
     true
+}
+
+// An unpicked gauge with the remainder `other` rules out one with the remainder `own`: it has more cases, or the same and is lower.
+fn blocks(own: u64, other: u64, lower: bool) -> bool
+    ensures { λ r. ⌜ r ≡ blocksIn own other lower ⌝ }
+{
+    if !sets::subset(own, other) {
+        return false;
+    }
+    if own != other {
+        return true;
+    }
+    lower
 }

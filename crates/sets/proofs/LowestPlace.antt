@@ -15,7 +15,7 @@ use Rattle.sets.specs.First.{First, Rest}
 use Rattle.sets.proofs.Digits.{lt2, meet-half, meet-low, bit-zero, bit-suc, digit}
 use Rattle.sets.proofs.Order.{sub-refl}
 
-pub record Lowest (a r : ℕ) : Type 0 where
+record Lowest (a r : ℕ) : Type 0 where
   pub here : bit a r ≡ true
   pub none : (k : ℕ) → k < r → bit a k ≡ false
 
@@ -30,7 +30,7 @@ above a t e f = record { here = bit-suc a t ∙ f .here; none = lower }
     lower zero l = rw (bit-zero a, e) refl
     lower (suc k) l = bit-suc a k ∙ f .none k (omega arith)
 
-pub trailing-lowest : (d a : ℕ) → a < 2 ^ d → ¬ (a ≡ 0) → (trailingZeros d a < d) × Lowest a (trailingZeros d a)
+trailing-lowest : (d a : ℕ) → a < 2 ^ d → ¬ (a ≡ 0) → (trailingZeros d a < d) × Lowest a (trailingZeros d a)
 unfolding trailingZeros
 trailing-lowest zero a l ne = absurd (ne (omega arith))
 trailing-lowest (suc d) a l ne = go (digit (a % 2) (lt2 a)) (trailing-lowest d (a / 2) (half-below d a l))
@@ -48,7 +48,7 @@ eqb-suc k t = by (ℕ-discrete k t)
     by (no e) = ne-eqb (suc k) (suc t) (λ h. e (omega arith)) ∙ sym (ne-eqb k t e)
 
 -- a & (a - 1) is a without its lowest place
-pub bit-rest : (d a : ℕ) → a < 2 ^ d → ¬ (a ≡ 0) → (k : ℕ) → bit (meet a (a - 1)) k ≡ (bit a k && not (eqb k (trailingZeros d a)))
+bit-rest : (d a : ℕ) → a < 2 ^ d → ¬ (a ≡ 0) → (k : ℕ) → bit (meet a (a - 1)) k ≡ (bit a k && not (eqb k (trailingZeros d a)))
 unfolding trailingZeros
 bit-rest zero a l ne k = absurd (ne (omega arith))
 bit-rest (suc d) a l ne k = go (digit (a % 2) (lt2 a)) (bit-rest d (a / 2) (half-below d a l)) k

@@ -1,5 +1,7 @@
 -- A set changed at one place: without it, with it, and the places from one on, as the code computes them; then that each leaves one answer, and what a reader
 -- finds in them beyond that (`added-places`, `rest-falls`).
+--
+-- Pins, which nothing else cites: `rest-unique`, `without-unique`, `upper-unique`.
 use mathlib.Core.Path.{_≡_, refl, sym, ap, ap₂, _∙_}
 use mathlib.Core.Bool.{Bool, true, false, not, _&&_, _||_}
 use Prim.Native.Nat.{ℕ, zero, suc, _+_, _*_, _-_, _/_, _%_, _^_, _≤_, _<_, min}
@@ -10,6 +12,7 @@ use lib.Dec.{eqb, leb, ltb}
 use lib.Count.{trailingZeros}
 use lib.Pow.{shr-shr, shl-exact, pow-pos}
 use borrow.Author.Tests.{eq-eqb, ne-eqb, eqb-true, le-leb, lt-leb, lt-ltb, le-ltb}
+use Rattle.basics.proofs.Clash.{clash}
 use Rattle.sets.specs.Sets.{bit, join, lowest}
 use Rattle.sets.specs.First.{First, Rest, Without, Added, With, Upper}
 use Rattle.sets.proofs.Digits.{bit-zero, bit-suc}
@@ -55,7 +58,7 @@ pub large : (a k : ℕ) → bit a k ≡ true → 2 ^ k ≤ a
 large a zero h = let e : a % 2 ≡ 1 = eqb-true (a % 2) 1 (sym (bit-zero a) ∙ h) in omega arith
 large a (suc k) h = omega (arith, large (a / 2) k (sym (bit-suc a k) ∙ h), pow-suc 2 k)
 
-pub bit-minus : (a k i : ℕ) → bit a k ≡ true → bit (a - 2 ^ k) i ≡ (bit a i && not (eqb i k))
+bit-minus : (a k i : ℕ) → bit a k ≡ true → bit (a - 2 ^ k) i ≡ (bit a i && not (eqb i k))
 bit-minus a zero zero h =
     let e : a % 2 ≡ 1 = eqb-true (a % 2) 1 (sym (bit-zero a) ∙ h) in
     let d : (a - 1) % 2 ≡ 0 = omega arith in
@@ -158,7 +161,7 @@ in-places a k l h = go (decLt k 64)
   where
     go : Dec (k < 64) → k < 64
     go (yes y) = y
-    go (no y) = let e : true ≡ false = sym h ∙ bit-past a k l (omega arith) in let z : _≡_ {A = ℕ} 0 1 = cc in absurd (omega arith)
+    go (no y) = let e : true ≡ false = sym h ∙ bit-past a k l (omega arith) in clash cc
 
 -- the lowest n places
 ltb-suc : (k i : ℕ) → ltb k i ≡ ltb (suc k) (suc i)
@@ -203,7 +206,7 @@ upper-unique a k r q f g = eq-of-bits r q (λ i. f .bits i ∙ sym (g .bits i))
 
 -- ---- what a reader finds in them
 -- the place put in is there, and every other place is there exactly where it was
-pub added-places : (a k r : ℕ) → Added a k r → (bit r k ≡ true) × ((i : ℕ) → ¬ (i ≡ k) → bit r i ≡ bit a i)
+added-places : (a k r : ℕ) → Added a k r → (bit r k ≡ true) × ((i : ℕ) → ¬ (i ≡ k) → bit r i ≡ bit a i)
 added-places a k r h = (
   h .bits k ∙ ap (λ (x : Bool). bit a k || x) (eq-eqb k k refl) ∙ or-true (bit a k),
   λ i n. h .bits i ∙ ap (λ (x : Bool). bit a i || x) (ne-eqb i k n) ∙ or-false (bit a i),

@@ -1,31 +1,14 @@
--- One turn of each loop of the table's functions, said of the definitions: what is still to come, after one more row.
+-- One turn of the loop of `rows_within`, said of the definition: what is still to come, after one more row.
 use mathlib.Core.Path.{_≡_, sym, ap, _∙_}
 use mathlib.Core.Bool.{Bool, true, false, _&&_}
 use mathlib.Core.List.{List, []}
-use Prim.Native.Nat.{ℕ, suc, _+_, _≤_, _<_}
+use Prim.Native.Nat.{ℕ, _+_, _<_}
 use native.Mathlib.Numerals.{add-one}
 use lib.ListN.{length, drop}
-use lib.Seq.{drop-cons, slice, slice-empty, slice-cons, drop-length}
-use lib.Bits.{bitOr}
-use Rattle.sets.specs.Sets.{join, isSubset}
-use Rattle.sets.proofs.Joins.{join-assoc, join-none}
+use lib.Seq.{drop-cons, drop-length}
+use Rattle.sets.specs.Sets.{isSubset}
 use Rattle.table.specs.Pairs.{row}
 use Rattle.table.specs.Tables.{rowsWithin}
-use Rattle.table.specs.private.Unions.{union}
-
--- ---- the union of the rows from i on
-pub union-more : (rows : List ℕ) (i to seen all : ℕ) → i < to → to ≤ length rows → join seen (union (slice i to rows)) ≡ all
-    → join (bitOr seen (row rows i)) (union (slice (i + 1) to rows)) ≡ all
-unfolding union join
-union-more rows i to seen all h l e =
-    rw (add-one i)
-    (join-assoc seen (row rows i) (union (slice (suc i) to rows)) ∙ ap (λ (x : List ℕ). join seen (union x)) (sym (slice-cons i to rows 0 h l)) ∙ e)
-
-pub union-done : (rows : List ℕ) (i to seen all : ℕ) → i ≡ to → join seen (union (slice i to rows)) ≡ all → seen ≡ all
-unfolding union
-union-done rows i to seen all d e =
-    sym (join-none seen) ∙ ap (λ (x : List ℕ). join seen (union x)) (sym (slice-empty to rows))
-    ∙ ap (λ (n : ℕ). join seen (union (slice n to rows))) (sym d) ∙ e
 
 -- ---- the rows from i on are within
 within-cons : (outer rows : List ℕ) (i : ℕ) → i < length outer → i < length rows

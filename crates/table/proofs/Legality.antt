@@ -1,30 +1,32 @@
 -- The checks 10 to 13 decide what they say: a table passes exactly when it is legal, a chain exactly when it is a set of pairs of its
 -- table; and the facts of a legal table that the other crates use. The code tests rows by their unions: `fit-by-unions`.
 use mathlib.Core.Path.{_≡_, refl, sym, ap, ap₂, _∙_, subst, subst₂}
-use mathlib.Core.Bool.{Bool, true, false, _&&_, cond}
+use mathlib.Core.Bool.{Bool, true, false, _&&_, cond, and-assoc}
 use mathlib.Core.List.{List, [], _∷_}
-use Prim.Native.Nat.{ℕ, zero, suc, _^_, _≤_, _<_}
+use Prim.Native.Nat.{ℕ, zero, suc, _-_, _^_, _≤_, _<_, min}
 use native.Mathlib.Omega.{arith}
 use native.Mathlib.Decide.{decLt}
 use lib.Dec.{eqb, ltb, leb}
-use lib.ListN.{length, take, drop}
-use lib.Seq.{take-nil, drop-nil, getD-take, length-take-le, slice, take-all}
+use lib.ListN.{length}
+use lib.Seq.{getD-take, length-take-le}
 use lib.Pow.{pow-pos}
 use borrow.Author.Tests.{ltb-true, lt-ltb, leb-true, le-leb, lt-leb, eqb-true, eqb-false, eq-eqb, ne-eqb}
+use Rattle.basics.proofs.Clash.{clash}
 use Rattle.sets.specs.Sets.{_⊆_, isSubset, lowest}
 use Rattle.sets.proofs.Order.{subset-is, is-subset, zero-sub, sub-zero}
 use Rattle.sets.proofs.Joins.{join-subset, join-empty}
 use Rattle.sets.proofs.Masks.{below-lowest}
 use Rattle.table.specs.Pairs.{row, Within, Cases}
 use Rattle.table.specs.Tables.{Legal, tableRows, chainRows, inRange, rowsFit, tableRefusal, rowsWithin, chainRefusal}
-use Rattle.table.specs.private.Unions.{union}
+use Rattle.table.specs.Unions.{unionFrom, unionOf}
 use Rattle.table.specs.declared.Table.{Table}
 use Rattle.table.specs.declared.Chain.{Chain}
 use Rattle.table.proofs.Places.{row-past, sub-within, small-cases}
+use Rattle.table.proofs.Unions.{union-first, union-nothing, union-cons, union-tail}
 
 pub both : (a b : Bool) → (a && b) ≡ true → (a ≡ true) × (b ≡ true)
 both true b e = (refl, e)
-both false b e = let z : _≡_ {A = ℕ} 0 1 = cc in absurd (omega arith)
+both false b e = clash cc
 
 -- ---- numbers in range
 pub range-is : (m n : ℕ) → inRange m n ≡ true → (1 ≤ n) × (n ≤ m)
@@ -42,7 +44,7 @@ pub above-range : (m n : ℕ) → 1 ≤ n → m < n → false ≡ inRange m n
 above-range m n l h = sym (rw (le-leb 1 n l, lt-leb n m h))
 
 pub range-not : (m n : ℕ) → inRange m n ≡ false → (1 ≤ n) × (n ≤ m) → ⊥
-range-not m n e h = let z : true ≡ false = sym (in-range m n (h .0) (h .1)) ∙ e in let w : _≡_ {A = ℕ} 0 1 = cc in omega arith
+range-not m n e h = let z : true ≡ false = sym (in-range m n (h .0) (h .1)) ∙ e in clash cc
 
 -- ---- rows that fit
 fit-bits : (g l : ℕ) (rows : List ℕ) → rowsFit g l rows ≡ true → (i : ℕ) → row rows i < 2 ^ l
@@ -165,27 +167,40 @@ module _ (t : Table) (s : Chain) (w : Bool) (e : tableRefusal t ≡ 0) (n : s .g
 none-subset : (m : ℕ) → isSubset 0 m ≡ true
 none-subset m = is-subset 0 m (zero-sub m)
 
-and-group : (a b c : Bool) → ((a && b) && c) ≡ (a && (b && c))
-and-group true b c = refl
-and-group false b c = refl
-
 fit-by-unions : (g l : ℕ) (rows : List ℕ) → l ≤ 64
-    → rowsFit g l rows ≡ (isSubset (union (take g rows)) (lowest l) && eqb (union (drop g rows)) 0)
-unfolding rowsFit union
-fit-by-unions g l [] h = rw (take-nil {A = ℕ} g, drop-nil {A = ℕ} g, none-subset (lowest l))
+    → rowsFit g l rows ≡ (isSubset (unionFrom rows 0 g) (lowest l) && eqb (unionFrom rows g (length rows - g)) 0)
+unfolding rowsFit unionFrom
+fit-by-unions g l [] h =
+    sym (ap₂ (λ (x y : ℕ). isSubset x (lowest l) && eqb y 0) (union-nothing 0 g) (union-nothing g (0 - g))
+    ∙ ap (λ (b : Bool). b && eqb 0 0) (none-subset (lowest l)))
 fit-by-unions zero l (r ∷ rows) h =
-    rw (none-subset (lowest l), join-empty r (union rows), fit-by-unions zero l rows h, none-subset (lowest l))
+    ap (λ (b : Bool). eqb r 0 && b) (fit-by-unions zero l rows h ∙ rest-only rows (length rows))
+    ∙ sym (join-empty r (unionFrom rows 0 (length rows))) ∙ ap (λ (x : ℕ). eqb x 0) (sym (union-cons r rows (length rows)))
+    ∙ sym (rest-only (r ∷ rows) (suc (length rows)))
+  where
+    rest-only : (s : List ℕ) (k : ℕ) → (isSubset 0 (lowest l) && eqb (unionFrom s 0 (k - 0)) 0) ≡ eqb (unionFrom s 0 k) 0
+    rest-only s k =
+        let e : k - 0 ≡ k = omega arith in
+        ap₂ (λ (b : Bool) (m : ℕ). b && eqb (unionFrom s 0 m) 0) (none-subset (lowest l)) e
 fit-by-unions (suc g) l (r ∷ rows) h =
-    rw (join-subset r (union (take g rows)) (lowest l), below-lowest r l h, fit-by-unions g l rows h)
-    (sym (and-group (ltb r (2 ^ l)) (isSubset (union (take g rows)) (lowest l)) (eqb (union (drop g rows)) 0)))
+    let e : length rows - g ≡ suc (length rows) - suc g = omega arith in
+    ap (λ (b : Bool). ltb r (2 ^ l) && b) (fit-by-unions g l rows h)
+    ∙ sym (and-assoc (ltb r (2 ^ l)) (isSubset (unionFrom rows 0 g) (lowest l)) (eqb (unionFrom rows g (length rows - g)) 0))
+    ∙ ap₂ (λ (b : Bool) (x : ℕ). b && eqb x 0)
+    (ap (λ (b : Bool). b && isSubset (unionFrom rows 0 g) (lowest l)) (sym (below-lowest r l h))
+    ∙ sym (join-subset r (unionFrom rows 0 g) (lowest l)) ∙ ap (λ (x : ℕ). isSubset x (lowest l)) (sym (union-cons r rows g)))
+    (sym (union-tail r rows g (length rows - g)) ∙ ap (unionFrom (r ∷ rows) (suc g)) e)
 
 -- what the two unions answer
-module _ (g l used rest mask : ℕ) (rows : List ℕ) (t : Bool) (n : length rows ≡ 64) (h : l ≤ 64)
-    (u : used ≡ union (slice 0 g rows)) (r : rest ≡ union (slice g 64 rows)) (m : mask ≡ lowest l) (test : t ≡ isSubset used mask) where
+module _ (g l used rest mask : ℕ) (rows : List ℕ) (t : Bool) (n : length rows ≡ 64) (few : g ≤ 64) (h : l ≤ 64)
+    (u : used ≡ unionOf rows 0 g) (r : rest ≡ unionOf rows g 64) (m : mask ≡ lowest l) (test : t ≡ isSubset used mask) where
+  rest-is : unionOf rows g 64 ≡ unionFrom rows g (length rows - g)
+  unfolding unionOf
+  rest-is = let e : min 64 64 - g ≡ length rows - g = omega arith in ap (unionFrom rows g) e
+
   fit-both : (t && eqb rest 0) ≡ rowsFit g l rows
   fit-both =
-      ap₂ (λ (a b : Bool). a && b) (test ∙ ap₂ isSubset u m)
-      (ap (λ (x : ℕ). eqb x 0) (r ∙ ap (λ (x : List ℕ). union (drop g x)) (take-all 64 rows (omega (arith, n)))))
+      ap₂ (λ (a b : Bool). a && b) (test ∙ ap₂ isSubset (u ∙ union-first rows g few) m) (ap (λ (x : ℕ). eqb x 0) (r ∙ rest-is))
       ∙ sym (fit-by-unions g l rows h)
 
   pub fit-wide : t ≡ false → false ≡ rowsFit g l rows

@@ -1,6 +1,6 @@
 -- From numbers to places: 01 numbers gauges and cases from 1, rows and bits are counted from 0. A pair of the numbers suc i, suc k is
 -- bit k of row i (`has-place`, `place-has`); the laws here say so of pairs, inclusion and chains, and the other files use places alone.
-use mathlib.Core.Path.{_≡_, refl, subst}
+use mathlib.Core.Path.{_≡_, refl, sym, subst}
 use mathlib.Core.Logic.{_⊎_, inl, inr, _↔_}
 use mathlib.Core.Bool.{Bool, true, false}
 use mathlib.Core.List.{List, [], _∷_}
@@ -10,9 +10,11 @@ use native.Mathlib.Decide.{decLe, decLt}
 use native.Mathlib.Omega.{arith}
 use lib.Dec.{T}
 use lib.ListN.{length}
+use lib.Seq.{ext-getD}
+use Rattle.basics.proofs.Clash.{clash}
 use Rattle.sets.specs.Sets.{bit, _⊆_}
 use Rattle.sets.proofs.Tests.{is-true}
-use Rattle.sets.proofs.Order.{sub-bit, bits-sub}
+use Rattle.sets.proofs.Order.{sub-bit, bits-sub, sub-antisym}
 use Rattle.table.specs.Pairs.{row, Has, Within, Cases}
 use Rattle.table.specs.Chains.{IsChain}
 use lib.Pow.{pow-mono}
@@ -54,6 +56,12 @@ sub-within r s e f = record {
 pub within-refl : (s : List ℕ) → Within s s
 within-refl s = record { size = refl; inside = λ g c h. h }
 
+-- equally many rows that hold the same pairs are the same
+pub same-pairs-rows : (x y : List ℕ) → length x ≡ length y → ((g c : ℕ) → Has x g c ↔ Has y g c) → x ≡ y
+same-pairs-rows x y n f =
+    ext-getD 0 x y n (λ i l. sub-antisym (row x i) (row y i)
+    (within-sub y x (record { size = n; inside = λ g c. f g c .0 }) i) (within-sub x y (record { size = sym n; inside = λ g c. f g c .1 }) i))
+
 -- ---- chains, by places
 abbrev pub CrossPlaces : List ℕ → Type 0
 CrossPlaces s = (i j c d : ℕ) → T (bit (row s i) c) → T (bit (row s j) d) → T (bit (row s i) d) ⊎ T (bit (row s j) c)
@@ -75,7 +83,7 @@ places-chain s f g h c d p q =
 
 -- ---- a pair, by the test of its bit
 pub no-gauge : (s : List ℕ) (g c : ℕ) → ((1 ≤ g) × (g ≤ length s) → ⊥) → (false ≡ true) ↔ Has s g c
-no-gauge s g c out = (λ e. let z : _≡_ {A = ℕ} 0 1 = cc in absurd (omega arith), λ h. absurd (past h))
+no-gauge s g c out = (λ e. clash cc, λ h. absurd (past h))
   where
     past : Has s g c → ⊥
     past h = out (h .gauge, go (decLe g (length s)))
@@ -85,7 +93,7 @@ no-gauge s g c out = (λ e. let z : _≡_ {A = ℕ} 0 1 = cc in absurd (omega ar
         go (no l) = absurd (no-bit (c - 1) (subst (λ (r : ℕ). T (bit r (c - 1))) (row-past s (g - 1) (omega arith)) (h .set)))
 
 pub no-case-number : (s : List ℕ) (g c : ℕ) → c < 1 → (false ≡ true) ↔ Has s g c
-no-case-number s g c l = (λ e. let z : _≡_ {A = ℕ} 0 1 = cc in absurd (omega arith), λ h. absurd (omega (arith, h .case)))
+no-case-number s g c l = (λ e. clash cc, λ h. absurd (omega (arith, h .case)))
 
 pub has-bit : (s : List ℕ) (g c : ℕ) (t : Bool) → 1 ≤ g → 1 ≤ c → t ≡ bit (row s (g - 1)) (c - 1) → (t ≡ true) ↔ Has s g c
 has-bit s g c t l k e = (

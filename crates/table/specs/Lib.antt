@@ -2,4 +2,4 @@
 pub mod Pairs
 pub mod Chains
 pub mod Tables
-pub mod private
+pub mod Unions

@@ -6,13 +6,12 @@ use sets;
 ghost use mathlib.Core.Path.{_≡_};
 ghost use mathlib.Core.Logic.{_↔_};
 ghost use mathlib.Core.Bool.{true};
-ghost use Prim.Native.Nat.{_≤_, _<_};
+ghost use Prim.Native.Nat.{ℕ, _≤_, _<_, min};
 ghost use lib.ListN.{length};
-ghost use lib.Seq.{slice};
-ghost use Rattle.table.specs.Pairs.{Has};
-ghost use Rattle.table.specs.Tables.{inRange, rowsFit, tableRefusal, rowsWithin, chainRefusal, makeTable, blankTable, made};
+ghost use Rattle.table.specs.Pairs.{row as rowOf, Has};
+ghost use Rattle.table.specs.Unions.{unionOf};
+ghost use Rattle.table.specs.Tables.{inRange, rowsFit, tableRefusal, rowsWithin, chainRefusal, makeTable, blankTable, blankChain, made};
 ghost use Rattle.refusals.specs.Answers.{refused, verdict};
-ghost use Rattle.table.specs.private.Unions.{union};
 
 // A gauge's number, from 1. A gauge number never stands where a case number belongs (01): the two node classes of source 003.
 pub struct Gauge(pub u64);
@@ -128,15 +127,31 @@ pub fn check_chain(t: Table, s: Chain) -> Verdict
 pub fn refuse(why: Refusal) -> Made
     ensures { λ r. ⌜ made r ≡ refused why blankTable ⌝ }
 {
-    let rows = [0u64; 64];
-    let table = Table {
-        gauges: 0,
-        cases: 0,
-        rows: rows,
-    };
     Made {
         verdict: Verdict::Refused(why),
-        table: table,
+        table: blank_table(),
+    }
+}
+
+// The table and the chain beside a refusal, of every crate above.
+pub fn blank_table() -> Table
+    ensures { λ r. ⌜ r ≡ blankTable ⌝ }
+{
+    let empty = [0u64; 64];
+    Table {
+        gauges: 0,
+        cases: 0,
+        rows: empty,
+    }
+}
+
+pub fn blank_chain() -> Chain
+    ensures { λ r. ⌜ r ≡ blankChain ⌝ }
+{
+    let none = [0u64; 64];
+    Chain {
+        gauges: 0,
+        rows: none,
     }
 }
 
@@ -153,6 +168,44 @@ pub fn in_range(n: u64, most: u64) -> bool
     true
 }
 
+// Whether two arrays have the same rows. Of 64 rows each they are then the same (`rows-same` in proofs/Agreement.antt).
+pub fn same_rows(a: &[u64; 64], b: &[u64; 64]) -> bool
+    ensures { λ r. ⌜ (r ≡ true) ↔ ((i : ℕ) → i < 64 → rowOf (now (a .entry)) i ≡ rowOf (now (b .entry)) i) ⌝ }
+{
+    let mut i: usize = 0;
+    while i < ROWS {
+        if a[i] != b[i] {
+            return false;
+        }
+        i += 1;
+    }
+    true
+}
+
+// The cases of the rows from `from` up to, not with, `to`, at most 64.
+pub fn union_of(rows: &[u64; 64], from: usize, to: usize) -> u64
+    ensures { λ r. ⌜ r ≡ unionOf (now (rows .entry)) from to ⌝ }
+{
+    let last = at_most_rows(to);
+    let mut seen: u64 = 0;
+    let mut i = from;
+    while i < last {
+        seen = seen | rows[i];
+        i += 1;
+    }
+    seen
+}
+
+// `n`, or 64 where it is larger.
+pub fn at_most_rows(n: usize) -> usize
+    ensures { λ r. ⌜ r ≡ min n 64 ⌝ }
+{
+    if n < ROWS {
+        return n;
+    }
+    ROWS
+}
+
 // No bit past the last case, and no row past the last gauge: two unions of rows, with no branch for each row.
 fn rows_fit(rows: &[u64; 64], gauges: u64, cases: u64) -> bool
     requires { ⌜ (gauges ≤ 64) × (cases ≤ 64) × (length (now rows) ≡ 64) ⌝ }
@@ -165,20 +218,6 @@ fn rows_fit(rows: &[u64; 64], gauges: u64, cases: u64) -> bool
         return false;
     }
     rest == 0
-}
-
-// The cases of the rows from `from` up to, not with, `to`.
-fn union_of(rows: &[u64; 64], from: usize, to: usize) -> u64
-    requires { ⌜ (from ≤ to) × (to ≤ 64) × (length (now rows) ≡ 64) ⌝ }
-    ensures { λ r. ⌜ r ≡ union (slice from to (now (rows .entry))) ⌝ }
-{
-    let mut seen: u64 = 0;
-    let mut i = from;
-    while i < to {
-        seen = seen | rows[i];
-        i += 1;
-    }
-    seen
 }
 
 // Every pair of `rows` is in `outer`.

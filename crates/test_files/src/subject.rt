@@ -1,6 +1,6 @@
 // The library under test, with plain numbers in place of its enums: a refusal is its number in 01, as `refusals::refusal_number` gives it,
 // and no refusal is 0. Nothing else here names a type of the library but `Table`.
-use reader::Found;
+use file_reader::Found;
 use refusals::Refusal;
 use refusals::Verdict;
 use table::Table;
@@ -12,7 +12,7 @@ pub struct Reading {
 }
 
 pub fn read(file: &[u8]) -> Reading {
-    let got = reader::read(file);
+    let got = file_reader::read(file);
     let verdict = got.verdict;
     let t = got.table;
     Reading {
@@ -40,7 +40,7 @@ pub struct Place {
 }
 
 pub fn comment_at(file: &[u8], k: u64) -> Place {
-    let found = reader::comment_at(file, k);
+    let found = file_reader::comment_at(file, k);
     match found {
         Found::Refused(why) => Place {
             refused: number(why),
@@ -57,5 +57,5 @@ pub fn comment_at(file: &[u8], k: u64) -> Place {
 
 // The part of the file that is shown for a comment.
 pub fn comment(file: &[u8], k: u64) -> &[u8] {
-    reader::comment(file, k)
+    file_reader::comment(file, k)
 }

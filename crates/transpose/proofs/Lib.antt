@@ -1,4 +1,4 @@
 -- Laws of the two sides exchanged: of a set of pairs, of the code's way, of a table.
 pub mod Transposition
-pub mod Turning
+pub mod Columns
 pub mod Sides

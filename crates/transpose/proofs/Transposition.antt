@@ -79,7 +79,7 @@ has-transpose w rows h g c = (
 pub cases-within : (w : ℕ) (r s : List ℕ) → Cases w r → Within r s → Cases w s
 cases-within w r s h v i k t = h i k (has-place r i k (v .inside (suc i) (suc k) (place-has s i k t)))
 
-pub chain-transpose : (w : ℕ) (s : List ℕ) → Cases w s → IsChain s → IsChain (transpose w s)
+chain-transpose : (w : ℕ) (s : List ℕ) → Cases w s → IsChain s → IsChain (transpose w s)
 chain-transpose w s h ch = places-chain (transpose w s) cross
   where
     c : CrossPlaces s

@@ -11,6 +11,7 @@ use native.Mathlib.Omega.{arith}
 use lib.Dec.{eqb}
 use lib.ListN.{length}
 use borrow.Author.Tests.{ne-eqb}
+use Rattle.basics.proofs.Clash.{clash}
 use Rattle.refusals.specs.declared.Refusal.{Refusal}
 use Rattle.refusals.specs.declared.Refusal.the-variants.{NotMaximal}
 use Rattle.refusals.specs.Answers.{number, Answer, refused}
@@ -23,13 +24,14 @@ use Rattle.table.proofs.Legality.{both, range-is, legal-of}
 use Rattle.judge.specs.Judging.{judgement, Judged}
 use Rattle.judge.specs.declared.Judgement.{Judgement}
 use Rattle.judge.specs.declared.Judgement.the-variants.{Yes, No, Refused}
+use Rattle.judge.proofs.Verdicts.{maximal-dec}
 use Rattle.trials.specs.Trials.{HasEffect, placeRefusal, trialRefusal, Proposes, blankProposal, noProposal, Tried, proposed}
 use Rattle.trials.specs.private.Steps.{Placed, Passed}
 use Rattle.trials.specs.declared.Proposal.{Proposal}
 use Rattle.trials.specs.declared.Proposed.{Proposed}
 use Rattle.trials.proofs.Comparing.{proposal-same}
 use Rattle.trials.proofs.Flips.{flipped-exists, flipped-unique}
-use Rattle.trials.proofs.Effects.{maximal-dec, effect-some, effect-one, shaped-of}
+use Rattle.trials.proofs.Effects.{effect-some, effect-one, shaped-of}
 
 pub pos : (n : ℕ) → ¬ (n ≡ 0) → 0 < n
 pos n h = ⊎-elim (λ e. absurd (h e)) (λ l. l) (eq-zero-or-pos n)
@@ -74,8 +76,8 @@ placed-of t g c n e = go (eqb (tableRefusal t) 0) (inRange (t .gauges) g && inRa
           case-high = range-is (t .cases) c j .1;
         }
     go true false (yes z) p q x = absurd (omega arith)
-    go false false (yes z) p q x = let y : eqb (tableRefusal t) 0 ≡ true = rw z in let w : _≡_ {A = ℕ} 0 1 = cc in absurd (omega arith)
-    go true b (no z) p q x = let y : true ≡ false = sym p ∙ ne-eqb (tableRefusal t) 0 z in let w : _≡_ {A = ℕ} 0 1 = cc in absurd (omega arith)
+    go false false (yes z) p q x = let y : eqb (tableRefusal t) 0 ≡ true = rw z in clash cc
+    go true b (no z) p q x = let y : true ≡ false = sym p ∙ ne-eqb (tableRefusal t) 0 z in clash cc
     go false b (no z) p q x = absurd (z x)
 
 -- ---- the number of a trial

@@ -9,6 +9,7 @@ use Prim.Native.Nat.{ℕ, _<_}
 use native.Mathlib.Decide.{ℕ-discrete}
 use native.Mathlib.Omega.{arith}
 use lib.ListN.{length}
+use Rattle.basics.proofs.Clash.{clash}
 use Rattle.refusals.specs.declared.Refusal.{Refusal}
 use Rattle.refusals.specs.declared.Refusal.the-variants.{OtherProposal}
 use Rattle.refusals.specs.Answers.{number, Answer, refused}
@@ -50,10 +51,10 @@ module _ (p : Proposal) (t : Table) (a : Answer Table) where
 
       module _ (r : Bool) (same : (r ≡ true) ↔ (p ≡ b .value)) where
         pub committed-differs : r ≡ false → a ≡ refused OtherProposal blankTable → Committed p t a
-        committed-differs e d = committed-other (λ y. clash (same .1 (sym (ap (λ (q : Answer Proposal). q .value) (one y))))) d
+        committed-differs e d = committed-other (λ y. not-same (same .1 (sym (ap (λ (q : Answer Proposal). q .value) (one y))))) d
           where
-            clash : r ≡ true → ⊥
-            clash f = let w : _≡_ {A = ℕ} 0 1 = cc in omega arith
+            not-same : r ≡ true → ⊥
+            not-same f = clash cc
 
         is-trial : b .refusal ≡ 0 → r ≡ true → IsTrialOn t p
         is-trial z e =

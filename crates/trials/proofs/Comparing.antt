@@ -1,32 +1,23 @@
--- When two proposals are the same. In order: a part that differs makes two values differ (`part-differs`, `part-unlike`), and the parts that agree make
--- them the same (`table-same`, `chain-same`, `proposal-same`); the answers of the code's comparisons, from rows and effects up to whole
--- proposals (`rows-agree`, `effect-by-number`, `table-by-rows`, `chain-by-rows`, `proposal-by-effect`); and two are the same or not (`proposal-discrete`).
+-- When two proposals are the same. In order: parts that agree make two values the same (`table-same`, `chain-same`, `proposal-same`); the answers of the
+-- code's comparisons, from effects and rows up to whole proposals (`effect-by-number`, `table-by-rows`, `chain-by-rows`, `proposal-by-effect`); and
+-- two are the same or not (`proposal-discrete`). That a part which differs makes two values differ is `part-differs` of crate `table`.
 use mathlib.Core.Path.{_≡_, refl, sym, ap, _∙_}
 use mathlib.Core.Logic.{_↔_}
-use mathlib.Core.Bool.{Bool, true, false}
-use mathlib.Core.List.{List, List-discrete}
-use Prim.Native.Nat.{ℕ, _+_, _≤_, _<_}
+use mathlib.Core.Bool.{Bool, true}
+use mathlib.Core.List.{List-discrete}
+use Prim.Native.Nat.{ℕ}
 use native.Mathlib.Decide.{ℕ-discrete}
 use native.Mathlib.Omega.{arith}
 use lib.Dec.{eqb}
-use lib.ListN.{length}
-use lib.Seq.{ext-getD}
 use borrow.Author.Tests.{eqb-true, eq-eqb}
 use Rattle.table.specs.declared.Table.{Table}
 use Rattle.table.specs.declared.Chain.{Chain}
-use Rattle.table.specs.Pairs.{row}
 use Rattle.trials.specs.private.Steps.{effectNumber}
 use Rattle.trials.specs.declared.Effect.{Effect}
 use Rattle.trials.specs.declared.Effect.the-variants.{StillMaximal, OnlyChain, NotWithin}
 use Rattle.trials.specs.declared.Proposal.{Proposal}
 
 -- ---- parts
-pub part-differs : {A B : Type 0} (f : A → B) (p q : A) → ¬ (f p ≡ f q) → (false ≡ true) ↔ (p ≡ q)
-part-differs f p q n = (λ e. let z : _≡_ {A = ℕ} 0 1 = cc in absurd (omega arith), λ e. absurd (n (ap f e)))
-
-pub part-unlike : {A B : Type 0} (f : A → B) (p q : A) (r : Bool) → (r ≡ true) ↔ (f p ≡ f q) → r ≡ false → (false ≡ true) ↔ (p ≡ q)
-part-unlike f p q r s e = part-differs f p q (λ d. let x : r ≡ true = s .1 d in let z : _≡_ {A = ℕ} 0 1 = cc in omega arith)
-
 pub table-same : (u w : Table) → u .gauges ≡ w .gauges → u .cases ≡ w .cases → u .rows ≡ w .rows → u ≡ w
 table-same u w a b e = λ i. record { gauges = a i; cases = b i; rows = e i }
 
@@ -36,23 +27,6 @@ chain-same s z a b = λ i. record { gauges = a i; rows = b i }
 pub proposal-same : (p q : Proposal) → p .table ≡ q .table → p .chain ≡ q .chain → p .gauge .0 ≡ q .gauge .0 → p .case .0 ≡ q .case .0
     → p .effect ≡ q .effect → p ≡ q
 proposal-same p q a b g c e = λ i. record { table = a i; chain = b i; gauge = record { 0 = g i }; case = record { 0 = c i }; effect = e i }
-
--- ---- rows, one after another
-pub record SameBelow (a b : List ℕ) (i : ℕ) : Type 0 where
-  pub at : (j : ℕ) → j < i → row a j ≡ row b j
-
-pub below-none : (a b : List ℕ) → SameBelow a b 0
-below-none a b = record { at = λ j l. absurd (omega arith) }
-
-pub below-more : (a b : List ℕ) (i : ℕ) → SameBelow a b i → row a i ≡ row b i → SameBelow a b (i + 1)
-below-more a b i f e = record { at = λ j l. go j l (ℕ-discrete j i) }
-  where
-    go : (j : ℕ) → j < i + 1 → Dec (j ≡ i) → row a j ≡ row b j
-    go j l (yes d) = ap (row a) d ∙ e ∙ sym (ap (row b) d)
-    go j l (no d) = f .at j (omega arith)
-
-pub rows-agree : (a b : List ℕ) (i : ℕ) → length a ≡ 64 → length b ≡ 64 → 64 ≤ i → SameBelow a b i → (true ≡ true) ↔ (a ≡ b)
-rows-agree a b i n m l f = (λ d. ext-getD 0 a b (n ∙ sym m) (λ j h. f .at j (omega arith)), λ d. refl)
 
 -- ---- effects, tables, chains, proposals
 effect-of-number : (e f : Effect) → effectNumber e ≡ effectNumber f → e ≡ f

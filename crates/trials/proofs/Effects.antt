@@ -1,8 +1,8 @@
 -- What a flip does to a maximal chain. In order: over a table of its shape the judge's answer tells the effect (`effect-yes`, `effect-no`,
--- `effect-refused`); whether a chain is maximal is decided (`maximal-dec`); every chain has an effect (`effect-some`) and one alone (`effect-one`); a
--- chain that passed the checks of the old table has the shape of the new one (`shaped-of`).
+-- `effect-refused`); every chain has an effect (`effect-some`) and one alone (`effect-one`); a chain that passed the checks of the old table has the shape
+-- of the new one (`shaped-of`).
 use mathlib.Core.Path.{_≡_, refl, sym, ap, _∙_, subst, subst₂}
-use mathlib.Core.Bool.{Bool, true, false}
+use mathlib.Core.Bool.{true}
 use mathlib.Core.List.{List, [], _∷_}
 use Prim.Native.Nat.{ℕ, suc, _<_}
 use native.Mathlib.Decide.{ℕ-discrete, decLt}
@@ -22,10 +22,9 @@ use Rattle.table.specs.Tables.{tableRows, chainRows, rowsWithin, chainRefusal}
 use Rattle.table.proofs.Places.{within-sub}
 use Rattle.table.proofs.Legality.{legal-passes, chain-passes, ChainFacts, chain-facts, chain-within}
 use Rattle.judge.specs.Judging.{judgement, Judged}
-use Rattle.judge.specs.private.RowTests.{allNested, allWidest}
 use Rattle.judge.specs.declared.Judgement.{Judgement}
 use Rattle.judge.specs.declared.Judgement.the-variants.{Yes, No, Refused}
-use Rattle.judge.proofs.Verdicts.{maximal-no-chain, maximal-yes, maximal-no}
+use Rattle.judge.proofs.Verdicts.{judged-dec, maximal-dec}
 use Rattle.trials.specs.Trials.{Flipped, HasEffect}
 use Rattle.trials.specs.private.Steps.{Placed, Passed, Shaped}
 use Rattle.trials.specs.declared.Effect.{Effect}
@@ -65,26 +64,6 @@ module _ (u : Table) (s : Chain) (h : Shaped u s) (n : length (u .rows) ≡ 64) 
     pub effect-refused : (x : Refusal) → j ≡ Refused x → HasEffect NotWithin u s
     effect-refused x e w = omega (arith, number-pos x, sym (ap (λ (y : Judgement). judgement y .refusal) e) ∙ d .refusal, within-passes w)
 
--- ---- whether a chain is maximal
-maximal-judged : (t : Table) (s : Chain) → chainRefusal t s ≡ 0 → length (t .rows) ≡ 64 → length (s .rows) ≡ 64
-    → (j : Judgement) × Judged (chainRefusal t s) (IsMaximal (tableRows t) (chainRows s)) j
-maximal-judged t s e n m = go (allNested (s .rows) (t .gauges)) refl (allWidest (t .rows) (s .rows) (t .gauges)) refl
-  where
-    go : (a : Bool) → allNested (s .rows) (t .gauges) ≡ a → (b : Bool) → allWidest (t .rows) (s .rows) (t .gauges) ≡ b
-        → (j : Judgement) × Judged (chainRefusal t s) (IsMaximal (tableRows t) (chainRows s)) j
-    go false p b q = (No, maximal-no-chain t s e n m false (sym p) refl)
-    go true p true q = (Yes, maximal-yes t s e n m true true (sym p) refl (sym q) refl)
-    go true p false q = (No, maximal-no t s e n m true false (sym p) refl (sym q) refl)
-
-pub maximal-dec : (t : Table) (s : Chain) → chainRefusal t s ≡ 0 → length (t .rows) ≡ 64 → length (s .rows) ≡ 64
-    → Dec (IsMaximal (tableRows t) (chainRows s))
-maximal-dec t s e n m = let (j, d) = maximal-judged t s e n m in go j d
-  where
-    go : (j : Judgement) → Judged (chainRefusal t s) (IsMaximal (tableRows t) (chainRows s)) j → Dec (IsMaximal (tableRows t) (chainRows s))
-    go Yes d = yes (d .yes refl)
-    go No d = no (d .no e refl)
-    go (Refused x) d = absurd (omega (arith, d .refusal, number-pos x))
-
 -- ---- the three effects leave none out, and exclude each other
 pub effect-some : (u : Table) (s : Chain) → Shaped u s → length (u .rows) ≡ 64 → length (s .rows) ≡ 64 → (e : Effect) × HasEffect e u s
 effect-some u s h n m = go (ℕ-discrete (chainRefusal u s) 0)
@@ -95,7 +74,7 @@ effect-some u s h n m = go (ℕ-discrete (chainRefusal u s) 0)
     told (Refused x) d = (NotWithin, effect-refused u s h n m (Refused x) d x refl)
 
     go : Dec (chainRefusal u s ≡ 0) → (e : Effect) × HasEffect e u s
-    go (yes z) = let (j, d) = maximal-judged u s z n m in told j d
+    go (yes z) = let (j, d) = judged-dec (chainRefusal u s) z (maximal-dec u s z n m) in told j d
     go (no z) = (NotWithin, λ w. z (within-passes u s h n m w))
 
 pub effect-one : (e f : Effect) (u : Table) (s : Chain) → HasEffect e u s → HasEffect f u s → e ≡ f

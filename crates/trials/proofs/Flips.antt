@@ -12,6 +12,7 @@ use lib.Dec.{T, T-not, eqb, ltb}
 use lib.ListN.{set, length-set}
 use lib.Seq.{getD-set-same, getD-set-other}
 use borrow.Author.Tests.{eqb-true, ne-eqb, eq-eqb, lt-ltb, ltb-true}
+use Rattle.basics.proofs.Clash.{clash}
 use Rattle.sets.specs.Sets.{bit, join, lowest, _⊆_}
 use Rattle.sets.specs.First.{Without, With}
 use Rattle.sets.proofs.Tests.{test}
@@ -21,8 +22,7 @@ use Rattle.sets.proofs.OnePlace.{none-in, without-of, with-of, bit-lowest}
 use Rattle.table.specs.declared.Table.{Table}
 use Rattle.table.specs.Pairs.{row, Has}
 use Rattle.table.specs.Tables.{Legal}
-use Rattle.table.proofs.Places.{has-place, place-has, small-cases}
-use Rattle.conflicts.proofs.SamePairs.{same-rows}
+use Rattle.table.proofs.Places.{has-place, place-has, small-cases, same-pairs-rows}
 use Rattle.conflicts.proofs.Searching.{has-dec}
 use Rattle.trials.specs.Trials.{Flipped}
 use Rattle.trials.specs.private.Steps.{Placed, Toggled}
@@ -32,11 +32,11 @@ use Rattle.trials.proofs.Comparing.{table-same}
 toggle-and : (x y : Bool) → (y ≡ true → x ≡ true) → (x && not y) ≡ cond y (not x) x
 toggle-and true true h = refl
 toggle-and true false h = refl
-toggle-and false true h = let e : false ≡ true = h refl in let z : _≡_ {A = ℕ} 0 1 = cc in absurd (omega arith)
+toggle-and false true h = let e : false ≡ true = h refl in clash cc
 toggle-and false false h = refl
 
 toggle-or : (x y : Bool) → (y ≡ true → x ≡ false) → (x || y) ≡ cond y (not x) x
-toggle-or true true h = let e : true ≡ false = h refl in let z : _≡_ {A = ℕ} 0 1 = cc in absurd (omega arith)
+toggle-or true true h = let e : true ≡ false = h refl in clash cc
 toggle-or true false h = refl
 toggle-or false true h = refl
 toggle-or false false h = refl
@@ -123,7 +123,7 @@ by-places g c P here other h d = go (ℕ-discrete h g) (ℕ-discrete d c)
 pub flipped-unique : (t : Table) (g c : ℕ) (u w : Table) → Flipped t g c u → Flipped t g c w → u ≡ w
 flipped-unique t g c u w a b =
     table-same u w (a .gauges ∙ sym (b .gauges)) (a .cases ∙ sym (b .cases))
-    (same-rows (u .rows) (w .rows) (a .size ∙ sym (b .size))
+    (same-pairs-rows (u .rows) (w .rows) (a .size ∙ sym (b .size))
     (by-places g c (λ h d. Has (u .rows) h d ↔ Has (w .rows) h d)
     (λ q. b .here .1 (a .here .0 q), λ q. a .here .1 (b .here .0 q))
     (λ h d ne. (λ q. b .others h d ne .1 (a .others h d ne .0 q), λ q. a .others h d ne .1 (b .others h d ne .0 q)))))
@@ -132,7 +132,7 @@ flipped-unique t g c u w a b =
 pub flip-twice : (t : Table) (g c : ℕ) (u w : Table) → Flipped t g c u → Flipped u g c w → w ≡ t
 flip-twice t g c u w a b =
     table-same w t (b .gauges ∙ a .gauges) (b .cases ∙ a .cases)
-    (same-rows (w .rows) (t .rows) (b .size ∙ a .size)
+    (same-pairs-rows (w .rows) (t .rows) (b .size ∙ a .size)
     (by-places g c (λ h d. Has (w .rows) h d ↔ Has (t .rows) h d)
     (λ q. back (has-dec (t .rows) g c) (b .here .0 q), λ q. b .here .1 (λ y. a .here .0 y q))
     (λ h d ne. (λ q. a .others h d ne .0 (b .others h d ne .0 q), λ q. b .others h d ne .1 (a .others h d ne .1 q)))))

@@ -5,6 +5,7 @@ use mathlib.Core.Bool.{true, false}
 use mathlib.Core.List.{[], _∷_}
 use Prim.Native.Nat.{ℕ, zero, suc, _^_, _<_, _≤_}
 use native.Mathlib.Omega.{arith}
+use Rattle.basics.proofs.Clash.{clash}
 use Rattle.sets.specs.Sets.{bit, meet, join, isSubset, isProperSubset}
 use Rattle.sets.specs.Lists.{allBelow}
 use Rattle.sets.proofs.OnePlace.{without-of, with-of}
@@ -15,7 +16,8 @@ use Rattle.table.specs.Chains.{IsChain}
 use Rattle.table.specs.Tables.{padded, rowsFit, tableRefusal, rowsWithin}
 use Rattle.table.proofs.Places.{within-sub, sub-within}
 use Rattle.table.proofs.Legality.{legal-of, within-rows}
-use Rattle.judge.specs.private.RowTests.{nested, nestedWith, allNested, narrowed, widest, allWidest}
+use Rattle.judge.specs.WidestRows.{narrowed, widest}
+use Rattle.judge.specs.private.RowTests.{nested, nestedWith, allNested, allWidest}
 use Rattle.judge.proofs.NestedTest.{chain-of-test}
 use Rattle.judge.proofs.WidestTest.{test-of-maximal, maximal-of-test}
 use Rattle.trials.specs.Trials.{placeRefusal, Proposes}
@@ -54,7 +56,7 @@ k1-out =
       case = refl;
       new = record { gauges = 2; cases = 2; rows = padded (0 ∷ 2 ∷ []) };
       flips = flip-of k1 1 1 (placed 1 1 (omega arith) (omega arith) (omega arith) (omega arith)) 0 e;
-      effect = λ w. let z : _≡_ {A = ℕ} 0 1 = within-sub (0 ∷ 2 ∷ []) (1 ∷ 0 ∷ []) w 0 in omega arith;
+      effect = λ w. clash (within-sub (0 ∷ 2 ∷ []) (1 ∷ 0 ∷ []) w 0);
     }
 
 -- 2:1 flipped in: the new table's ladder has 2:1 and 2:2 too
@@ -73,7 +75,7 @@ k1-lesser =
         w,
         first-chain,
         λ m.
-            let z : true ≡ false = sym (test-of-maximal (1 ∷ 3 ∷ []) (1 ∷ 0 ∷ []) w first-chain m) in let v : _≡_ {A = ℕ} 0 1 = cc in omega arith,
+            let z : true ≡ false = sym (test-of-maximal (1 ∷ 3 ∷ []) (1 ∷ 0 ∷ []) w first-chain m) in clash cc,
       );
     }
 

@@ -17,7 +17,6 @@ ghost use mathlib.Core.Path.{_≡_};
 ghost use mathlib.Core.Logic.{_↔_};
 ghost use mathlib.Core.Bool.{true};
 ghost use Prim.Native.Nat.{_<_};
-ghost use lib.ListN.{length};
 ghost use Rattle.refusals.specs.Answers.{verdict, refused};
 ghost use Rattle.table.specs.Tables.{made};
 ghost use Rattle.trials.specs.Trials.{Flipped, HasEffect, placeRefusal, Proposes, blankProposal, Tried, Committed, proposed};
@@ -44,9 +43,6 @@ pub struct Proposed {
     pub verdict: Verdict,
     pub proposal: Proposal,
 }
-
-// The rows that a table and a chain hold.
-const ROWS: usize = Table::MOST_GAUGES as usize;
 
 // What flipping the entry of gauge `g` and case `c` would do to the maximal chain `s` of `t`.
 pub fn trial(t: Table, s: Chain, g: Gauge, c: Case) -> Proposed
@@ -161,19 +157,9 @@ fn propose(t: Table, s: Chain, g: Gauge, c: Case) -> Proposed
 fn refuse(why: Refusal) -> Proposed
     ensures { λ r. ⌜ proposed r ≡ refused why blankProposal ⌝ }
 {
-    let rows = [0u64; 64];
-    let table = Table {
-        gauges: 0,
-        cases: 0,
-        rows: rows,
-    };
-    let chain = Chain {
-        gauges: 0,
-        rows: rows,
-    };
     let proposal = Proposal {
-        table: table,
-        chain: chain,
+        table: table::blank_table(),
+        chain: table::blank_chain(),
         gauge: Gauge(0),
         case: Case(0),
         effect: Effect::NotWithin,
@@ -235,7 +221,7 @@ fn same_table(t: Table, u: Table) -> bool
     }
     let a = t.rows;
     let b = u.rows;
-    same_rows(&a, &b)
+    table::same_rows(&a, &b)
 }
 
 fn same_chain(s: Chain, z: Chain) -> bool
@@ -246,21 +232,7 @@ fn same_chain(s: Chain, z: Chain) -> bool
     }
     let a = s.rows;
     let b = z.rows;
-    same_rows(&a, &b)
-}
-
-fn same_rows(a: &[u64; 64], b: &[u64; 64]) -> bool
-    requires { ⌜ (length (now a) ≡ 64) × (length (now b) ≡ 64) ⌝ }
-    ensures { λ r. ⌜ (r ≡ true) ↔ (now (a .entry) ≡ now (b .entry)) ⌝ }
-{
-    let mut i = 0;
-    while i < ROWS {
-        if a[i] != b[i] {
-            return false;
-        }
-        i += 1;
-    }
-    true
+    table::same_rows(&a, &b)
 }
 
 fn same_effect(e: Effect, f: Effect) -> bool

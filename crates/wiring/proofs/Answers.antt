@@ -24,9 +24,9 @@ use Rattle.refusals.specs.Answers.{number, Answer}
 use Rattle.refusals.specs.declared.Refusal.{Refusal}
 use Rattle.refusals.proofs.Answering.{number-pos, number-injective}
 use Rattle.pairs.specs.PairOrder.{Pair}
-use Rattle.orders.specs.Adding.{FirstOrder, pairBytes}
-use Rattle.orders.specs.private.Growing.{pairsIn}
-use Rattle.orders.proofs.Orders.{first-exists, first-order, first-unique, order-count}
+use Rattle.pair_orders.specs.Adding.{FirstOrder, pairBytes}
+use Rattle.pair_orders.specs.private.Growing.{pairsIn}
+use Rattle.pair_orders.proofs.Orders.{first-exists, first-order, first-unique, order-count}
 use Rattle.wiring.specs.declared.Ordered.{Ordered}
 use Rattle.wiring.specs.declared.Ordered.the-variants.{Pairs, Refused}
 use Rattle.wiring.specs.Wiring.{ordered, Leads, LadderChecks, Checks, Refuses, Writes, WritesOrder, Wires}

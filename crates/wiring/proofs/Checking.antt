@@ -24,7 +24,7 @@ use Rattle.judge.specs.Judging.{judgement, Judged}
 use Rattle.judge.specs.declared.Judgement.{Judgement}
 use Rattle.judge.specs.declared.Judgement.the-variants.{Yes, No, Refused}
 use Rattle.judge.proofs.NestedTest.{as-true}
-use Rattle.orders.proofs.Taking.{true-false}
+use Rattle.pair_orders.proofs.Taking.{true-false}
 use Rattle.wiring.specs.Wiring.{Leads}
 use Rattle.wiring.specs.private.Steps.{LadderChecked, Checked, includes}
 

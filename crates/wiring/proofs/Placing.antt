@@ -11,9 +11,9 @@ use lib.Seq.{getD-take, length-take-le}
 use Rattle.sets.specs.Sets.{bit}
 use Rattle.sets.specs.Lists.{allBelow}
 use Rattle.table.specs.Pairs.{row}
-use Rattle.search.specs.Finding.{First}
-use Rattle.orders.specs.private.Growing.{spares, allowed, Room, beyond, takes, FirstRow}
-use Rattle.orders.proofs.NextPair.{row-found, case-found, next-pair}
+use Rattle.search.specs.Finding.{FirstOf}
+use Rattle.pair_orders.specs.private.Growing.{spares, allowed, Room, beyond, takes, FirstRow}
+use Rattle.pair_orders.proofs.NextPair.{row-found, case-found, next-pair}
 use Rattle.wiring.specs.private.Steps.{Between, NextPlace}
 use Rattle.wiring.proofs.Rows.{room-takes}
 
@@ -54,7 +54,7 @@ module _ (x s : List ℕ) (n : ℕ) (b : Between x s n) where
     pub row-in : ¬ (take n s ≡ take n x) → i < n
     row-in d = omega (arith, row-in-rows d, size)
 
-    pub next-place : ¬ (take n s ≡ take n x) → (wide : ℕ) → Room s (row x i) i n wide → (k : ℕ) → First (beyond wide (row s i)) 0 64 k → NextPlace x s n i k
+    pub next-place : ¬ (take n s ≡ take n x) → (wide : ℕ) → Room s (row x i) i n wide → (k : ℕ) → FirstOf (beyond wide (row s i)) 0 64 k → NextPlace x s n i k
     next-place d wide r k g = record {
       row = row-in d;
       case = case-found (take n x) (take n s) (b .within) (b .inner) 64 (b .cases) i first-row (row-in-rows d) k lowest;
@@ -64,7 +64,7 @@ module _ (x s : List ℕ) (n : ℕ) (b : Between x s n) where
         same : (j : ℕ) → takes (take n x) (take n s) (length (take n s)) i j ≡ beyond wide (row s i) j
         same j = same-takes i j (row-in d) ∙ sym (room-takes x s n i wide r j)
 
-        lowest : First (takes (take n x) (take n s) (length (take n s)) i) 0 64 k
+        lowest : FirstOf (takes (take n x) (take n s) (length (take n s)) i) 0 64 k
         lowest = record {
           least = λ j l m. same j ∙ g .least j l m;
           found = λ l. (g .found l .0, same k ∙ g .found l .1);

@@ -1,90 +1,46 @@
 -- What each answer and each turn of the steps on rows says of the tests that they compute: one law for each.
 --
--- In order: a set narrowed to another, and the room of a row; a place of one set beyond another; the first row that can take a case; the pairs counted.
-use mathlib.Core.Path.{_≡_, refl, sym, ap, ap₂, _∙_}
-use mathlib.Core.Bool.{Bool, true, false, not, _&&_}
+-- In order: the room of a row, which `judge::widest` gives; a place of one set beyond another; the first row that can take a case; the pairs counted.
+use mathlib.Core.Path.{_≡_, refl, sym, ap, _∙_}
+use mathlib.Core.Bool.{Bool, true, false, not, _&&_, _||_, cond, and-true, and-false, and-assoc}
 use mathlib.Core.Logic.{_⊎_, inl, inr}
 use mathlib.Core.List.{List}
-use Prim.Native.Nat.{ℕ, suc, _+_, _≤_, _<_}
+use Prim.Native.Nat.{ℕ, zero, suc, _+_, _≤_, _<_}
 use native.Mathlib.Numerals.{add-one}
 use native.Mathlib.Decide.{ℕ-discrete}
 use native.Mathlib.Omega.{arith}
-use lib.Bits.{bitAnd}
 use lib.Count.{ones}
-use lib.Dec.{T, eqb}
-use borrow.Author.Tests.{eq-eqb, ne-eqb}
+use lib.Dec.{T}
 use Rattle.sets.specs.Sets.{bit, meet, _⊆_, isSubset, isProperSubset}
 use Rattle.sets.specs.Lists.{allBelow}
 use Rattle.sets.proofs.Tests.{test, is-true, is-false, and-i}
 use Rattle.sets.proofs.Order.{sub-bit, bits-sub, bit-meet, subset-is, not-subset}
 use Rattle.table.specs.Pairs.{row}
-use Rattle.orders.specs.private.Growing.{spares, allowed, Room, beyond, takes, Full, FirstRow, pairsIn}
-use Rattle.orders.proofs.Taking.{true-false}
-use Rattle.wiring.specs.private.Steps.{Narrowed}
+use Rattle.judge.specs.WidestRows.{narrowed, widest, widestOf}
+use Rattle.judge.proofs.RowLoops.{widest-in}
+use Rattle.pair_orders.specs.private.Growing.{spares, allowed, Room, beyond, takes, Full, FirstRow, pairsIn}
+use Rattle.pair_orders.proofs.Taking.{true-false}
 
-and-true : (b : Bool) → (b && true) ≡ b
-and-true true = refl
-and-true false = refl
-
--- ---- a set narrowed to another
-spares-all : (own other k : ℕ) → isProperSubset own other ≡ false → spares own other k ≡ true
-unfolding spares
-spares-all own other k e = rw e
-
-spares-own : (own other k : ℕ) → isProperSubset own other ≡ true → spares own other k ≡ bit other k
-unfolding spares
-spares-own own other k e = rw e
-
-narrowed-not : (wide own other : ℕ) → isProperSubset own other ≡ false → Narrowed wide own other wide
-narrowed-not wide own other e = record { bits = λ k. sym (ap (λ (b : Bool). bit wide k && b) (spares-all own other k e) ∙ and-true (bit wide k)) }
-
-and-false : (b : Bool) → (b && false) ≡ false
-and-false true = refl
-and-false false = refl
-
-pub narrowed-same : (wide own other : ℕ) → own ≡ other → Narrowed wide own other wide
-unfolding isProperSubset
-narrowed-same wide own other e =
-    narrowed-not wide own other (ap (λ (b : Bool). isSubset own other && not b) (eq-eqb own other e) ∙ and-false (isSubset own other))
-
-pub narrowed-out : (wide own other : ℕ) (t : Bool) → t ≡ isSubset own other → t ≡ false → Narrowed wide own other wide
-unfolding isProperSubset
-narrowed-out wide own other t e d = narrowed-not wide own other (ap (λ (b : Bool). b && not (eqb own other)) (sym e ∙ d))
-
-pub narrowed-in : (wide own other : ℕ) (t : Bool) → (own ≡ other → ⊥) → t ≡ isSubset own other → t ≡ true → Narrowed wide own other (bitAnd wide other)
-unfolding isProperSubset meet
-narrowed-in wide own other t ne e d =
-    record { bits = λ k. bit-meet wide other k ∙ ap (λ (b : Bool). bit wide k && b) (sym (spares-own own other k proper)) }
+-- ---- the widest that a row can be is its room: bit by bit
+narrowed-bit : (wide own other k : ℕ) → bit (narrowed wide own other) k ≡ (bit wide k && spares own other k)
+unfolding narrowed spares
+narrowed-bit wide own other k = go (isProperSubset own other)
   where
-    proper : isProperSubset own other ≡ true
-    proper = ap₂ (λ (a b : Bool). a && not b) (sym e ∙ d) (ne-eqb own other ne)
+    go : (b : Bool) → bit (cond b (meet wide other) wide) k ≡ (bit wide k && (not b || bit other k))
+    go true = bit-meet wide other k
+    go false = sym (and-true (bit wide k))
 
--- ---- the room of a row
-allowed-none : (s : List ℕ) (i k : ℕ) → allowed s i k 0 ≡ true
-unfolding allowed allBelow
-allowed-none s i k = refl
+widest-bit : (s : List ℕ) (most i k n : ℕ) → bit (widest s most i n) k ≡ (bit most k && allowed s i k n)
+unfolding widest allowed allBelow
+widest-bit s most i k zero = sym (and-true (bit most k))
+widest-bit s most i k (suc n) =
+    narrowed-bit (widest s most i n) (row s i) (row s n) k ∙ ap (λ (b : Bool). b && spares (row s i) (row s n) k) (widest-bit s most i k n)
+    ∙ and-assoc (bit most k) (allowed s i k n) (spares (row s i) (row s n) k)
 
-allowed-more : (s : List ℕ) (i k j : ℕ) → allowed s i k (suc j) ≡ (allowed s i k j && spares (row s i) (row s j) k)
-unfolding allowed allBelow
-allowed-more s i k j = refl
-
-pub room-start : (s : List ℕ) (most i : ℕ) → Room s most i 0 most
-room-start s most i = record { bits = λ k. sym (ap (λ (b : Bool). bit most k && b) (allowed-none s i k) ∙ and-true (bit most k)) }
-
-and-assoc : (a b c : Bool) → ((a && b) && c) ≡ (a && (b && c))
-and-assoc true b c = refl
-and-assoc false b c = refl
-
-pub room-more : (s : List ℕ) (most i j wide new : ℕ) → Room s most i j wide → Narrowed wide (row s i) (row s j) new → Room s most i (j + 1) new
-room-more s most i j wide new r n = rw (add-one j) (record { bits = λ k. n .bits k ∙ at k })
-  where
-    at : (k : ℕ) → (bit wide k && spares (row s i) (row s j) k) ≡ (bit most k && allowed s i k (suc j))
-    at k =
-        ap (λ (b : Bool). b && spares (row s i) (row s j) k) (r .bits k) ∙ and-assoc (bit most k) (allowed s i k j) (spares (row s i) (row s j) k)
-        ∙ ap (λ (b : Bool). bit most k && b) (sym (allowed-more s i k j))
-
-pub room-done : (s : List ℕ) (most i j n wide : ℕ) → Room s most i j wide → j ≡ n → Room s most i n wide
-room-done s most i j n wide r e = rw (← e) r
+pub widest-room : (s : List ℕ) (most i n wide : ℕ) → i < n → n ≤ 64 → wide ≡ widestOf s most i n → Room s most i n wide
+widest-room s most i n wide l m e = record {
+  bits = λ k. ap (λ (x : ℕ). bit x k) (e ∙ widest-in s most i n (omega arith) m) ∙ widest-bit s most i k n;
+}
 
 -- ---- a place of one set beyond another
 pub beyond-out : (wide own k : ℕ) (t : Bool) → t ≡ bit wide k → t ≡ false → false ≡ beyond wide own k

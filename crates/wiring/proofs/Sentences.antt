@@ -13,7 +13,7 @@ use Rattle.table.specs.Pairs.{Has}
 use Rattle.table.specs.Chains.{IsMaximal}
 use Rattle.table.specs.Tables.{tableRows, chainRows, chainRefusal}
 use Rattle.pairs.specs.PairOrder.{Pair}
-use Rattle.orders.specs.Adding.{pairBytes}
+use Rattle.pair_orders.specs.Adding.{pairBytes}
 use Rattle.wiring.specs.Wiring.{Leads, LadderChecks, Writes}
 use Rattle.wiring.proofs.Answers.{bytes-length}
 

@@ -12,9 +12,9 @@ use Rattle.sets.specs.First.{With}
 use Rattle.sets.proofs.OnePlace.{with-of, with-unique}
 use Rattle.table.specs.Pairs.{row}
 use Rattle.pairs.specs.PairOrder.{Pair}
-use Rattle.orders.specs.Adding.{withPair, FirstOrder, pairBytes}
-use Rattle.orders.proofs.Adding.{plus-is, with-within}
-use Rattle.orders.proofs.Orders.{next-unique, not-whole, first-unique}
+use Rattle.pair_orders.specs.Adding.{withPair, FirstOrder, pairBytes}
+use Rattle.pair_orders.proofs.Adding.{plus-is, with-within}
+use Rattle.pair_orders.proofs.Orders.{next-unique, not-whole, first-unique}
 use Rattle.wiring.specs.private.Steps.{Between, Waiting, NextPlace, Ready, StoresOrder}
 
 -- the rows are those of s and of the pairs stored so far, the buffer l has become m, and the next pair goes to the place at

@@ -1,6 +1,6 @@
 -- What writing an order does (02, R-9: "Given a chain and a ladder that contains it, write to a lent buffer, as two bytes a pair, gauge then case, an order
 -- of the missing pairs .."). *Ladder* is 02's word for a maximal chain. t is the table, s the chain, x the ladder, out the buffer before the call
--- and after the buffer afterwards. The order itself is `FirstOrder` of crate `orders`.
+-- and after the buffer afterwards. The order itself is `FirstOrder` of crate `pair_orders`.
 --
 -- In order: how the code's answer reads; the checks; the answer and the buffer of a refusal, and of an order; what the call does (`Wires`).
 --
@@ -17,7 +17,7 @@ use Rattle.table.specs.Chains.{IsChain, IsMaximal}
 use Rattle.table.specs.Tables.{tableRows, chainRows, chainRefusal}
 use Rattle.refusals.specs.Answers.{Answer, refused}
 use Rattle.pairs.specs.PairOrder.{Pair}
-use Rattle.orders.specs.Adding.{FirstOrder, pairBytes}
+use Rattle.pair_orders.specs.Adding.{FirstOrder, pairBytes}
 use Rattle.wiring.specs.declared.Ordered.{Ordered}
 use Rattle.wiring.specs.declared.Ordered.the-variants.{Pairs, Refused}
 

@@ -19,11 +19,11 @@ ghost use lib.ListN.{length, take};
 ghost use lib.Seq.{sets as stored};
 ghost use Rattle.table.specs.Tables.{chainRefusal};
 ghost use Rattle.refusals.specs.Answers.{verdict};
-ghost use Rattle.search.specs.Finding.{First};
-ghost use Rattle.orders.specs.Adding.{OrderClaims};
-ghost use Rattle.orders.specs.private.Growing.{Room, beyond as beyondOwn, FirstRow, pairsIn};
+ghost use Rattle.search.specs.Finding.{FirstOf};
+ghost use Rattle.pair_orders.specs.Adding.{OrderClaims};
+ghost use Rattle.pair_orders.specs.private.Growing.{beyond as beyondOwn, FirstRow, pairsIn};
 ghost use Rattle.wiring.specs.Wiring.{ordered, Wires};
-ghost use Rattle.wiring.specs.private.Steps.{Checked, LadderChecked, includes, Narrowed, Waiting, NextPlace, Ready, StoresOrder};
+ghost use Rattle.wiring.specs.private.Steps.{Checked, LadderChecked, includes, Waiting, NextPlace, Ready, StoresOrder};
 
 // How many pairs were written, or a refusal.
 pub enum Ordered {
@@ -162,7 +162,7 @@ fn next_pair(outer: &[u64; 64], rows: &[u64; 64], n: usize) -> Place
     ensures { λ r. ⌜ NextPlace (now (outer .entry)) (now (rows .entry)) n (r .row) (r .bit) ⌝ }
 {
     let i = next_row(outer, rows, n);
-    let free = room(rows, outer[i], i, n);
+    let free = judge::widest(rows, outer[i], i, n);
     let k = lowest_beyond(free, rows[i]);
     Place { row: i, bit: k }
 }
@@ -174,7 +174,7 @@ fn next_row(outer: &[u64; 64], rows: &[u64; 64], n: usize) -> usize
 {
     let mut i = 0;
     while i < n {
-        let wide = room(rows, outer[i], i, n);
+        let wide = judge::widest(rows, outer[i], i, n);
         if !sets::subset(wide, rows[i]) {
             return i;
         }
@@ -183,37 +183,9 @@ fn next_row(outer: &[u64; 64], rows: &[u64; 64], n: usize) -> usize
     n
 }
 
-// The cases of `most` that row `i` can have: those of each row that strictly contains it.
-fn room(rows: &[u64; 64], most: u64, i: usize, n: usize) -> u64
-    requires { ⌜ (n ≤ 64) × (i < 64) ⌝ }
-    ensures { λ r. ⌜ Room (now (rows .entry)) most i n r ⌝ }
-{
-    let own = rows[i];
-    let mut wide = most;
-    let mut j = 0;
-    while j < n {
-        wide = narrowed(wide, own, rows[j]);
-        j += 1;
-    }
-    wide
-}
-
-// `wide`, narrowed to `other` where that strictly contains `own`.
-fn narrowed(wide: u64, own: u64, other: u64) -> u64
-    ensures { λ r. ⌜ Narrowed wide own other r ⌝ }
-{
-    if own == other {
-        return wide;
-    }
-    if !sets::subset(own, other) {
-        return wide;
-    }
-    wide & other
-}
-
 // The lowest place of `wide` that is not in `own`; 64 where there is none.
 fn lowest_beyond(wide: u64, own: u64) -> u64
-    ensures { λ r. ⌜ First (beyondOwn wide own) 0 64 r ⌝ }
+    ensures { λ r. ⌜ FirstOf (beyondOwn wide own) 0 64 r ⌝ }
 {
     let mut k: u64 = 0;
     while k < PLACES {

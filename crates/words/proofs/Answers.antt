@@ -15,7 +15,7 @@ use native.Mathlib.Decide.{ℕ-discrete, decLt}
 use native.Mathlib.Omega.{arith}
 use lib.ListN.{length}
 use lib.Seq.{sets as stored}
-use Rattle.words.specs.Serving.{left, Served, Gives, ServedTwo, GivesTwo}
+use Rattle.words.specs.Serving.{wordsAfter, Served, Gives, ServedTwo, GivesTwo}
 use Rattle.words.proofs.Serving.{left-refused, gives-short, two-short}
 
 -- ---- slices
@@ -32,14 +32,14 @@ or-dec {A} {B} (no n) (no m) = no neither
     neither (inr b) = m b
 
 -- a slice looks at the words only where the number is 0
-pub left-alike : (n : ℕ) (vs us w : List ℕ) → (n ≡ 0 → vs ≡ us) → left n vs w ≡ left n us w
+left-alike : (n : ℕ) (vs us w : List ℕ) → (n ≡ 0 → vs ≡ us) → wordsAfter n vs w ≡ wordsAfter n us w
 left-alike n vs us w h = go (ℕ-discrete n 0)
   where
-    go : Dec (n ≡ 0) → left n vs w ≡ left n us w
-    go (yes z) = ap (λ (x : List ℕ). left n x w) (h z)
+    go : Dec (n ≡ 0) → wordsAfter n vs w ≡ wordsAfter n us w
+    go (yes z) = ap (λ (x : List ℕ). wordsAfter n x w) (h z)
     go (no z) = left-refused n vs w z ∙ sym (left-refused n us w z)
 
-pub left-zero : (n : ℕ) (vs w : List ℕ) → n ≡ 0 → left n vs w ≡ stored w 0 vs
+pub left-zero : (n : ℕ) (vs w : List ℕ) → n ≡ 0 → wordsAfter n vs w ≡ stored w 0 vs
 left-zero n vs w z = rw z
 
 -- ---- an entry that writes to one slice
@@ -56,11 +56,11 @@ module _ {X : Type 0} {Short : Type 0} {P : X → Type 0} {number : X → ℕ} {
 
   -- where the slices are long enough it is the answer's number and words, of any answer that the library promises
   pub gives-is : ((x y : X) → P x → P y → x ≡ y) → ¬ Short → (x : X) → P x → (out′ : List ℕ) (r : ℕ) → Gives Short P number words out out′ r
-      → (r ≡ number x) × (out′ ≡ left (number x) (words x) out)
+      → (r ≡ number x) × (out′ ≡ wordsAfter (number x) (words x) out)
   gives-is one n x p out′ r g =
       let y : Served P number words out out′ r = g .served n in
       let e : r ≡ number x = y .says ∙ ap number (one (y .answer) x (y .promised) p) in
-      (e, y .leaves ∙ ap₂ (λ (k : ℕ) (z : X). left k (words z) out) e (one (y .answer) x (y .promised) p))
+      (e, y .leaves ∙ ap₂ (λ (k : ℕ) (z : X). wordsAfter k (words z) out) e (one (y .answer) x (y .promised) p))
 
 module _ {X : Type 0} {Short : Type 0} {P : X → Type 0} {number : X → ℕ} {words : X → List ℕ} (out : List ℕ) (d : Dec Short) where
   pub gives-exists : (x : X) → P x → (out′ : List ℕ) × (r : ℕ) × Gives Short P number words out out′ r
@@ -69,7 +69,7 @@ module _ {X : Type 0} {Short : Type 0} {P : X → Type 0} {number : X → ℕ} {
       go : Dec Short → (out′ : List ℕ) × (r : ℕ) × Gives Short P number words out out′ r
       go (yes s) = (out, 100, gives-short out s)
       go (no s) = (
-        left (number x) (words x) out,
+        wordsAfter (number x) (words x) out,
         number x,
         record { short = λ t. absurd (s t); served = λ _. record { answer = x; promised = p; says = refl; leaves = refl } },
       )
@@ -83,7 +83,7 @@ module _ {X : Type 0} {Short : Type 0} {P : X → Type 0} {number : X → ℕ} {
       go (yes t) = (g .short t .1 ∙ sym (h .short t .1), g .short t .0 ∙ sym (h .short t .0))
       go (no t) = (
         x .leaves ∙ left-alike r (words (x .answer)) (words (y .answer)) out (λ z. alike .1 (sym (x .says) ∙ z))
-            ∙ ap (λ (n : ℕ). left n (words (y .answer)) out) same ∙ sym (y .leaves),
+            ∙ ap (λ (n : ℕ). wordsAfter n (words (y .answer)) out) same ∙ sym (y .leaves),
         same,
       )
         where
@@ -119,8 +119,8 @@ module _ {X : Type 0} {Short : Type 0} {P : X → Type 0} {number : X → ℕ} {
       go : Dec Short → (a′ : List ℕ) × (b′ : List ℕ) × (r : ℕ) × GivesTwo Short P number first second a b a′ b′ r
       go (yes s) = (a, b, 100, two-short a b s)
       go (no s) = (
-        left (number x) (first x) a,
-        left (number x) (second x) b,
+        wordsAfter (number x) (first x) a,
+        wordsAfter (number x) (second x) b,
         number x,
         record {
           short = λ t. absurd (s t);
@@ -140,9 +140,9 @@ module _ {X : Type 0} {Short : Type 0} {P : X → Type 0} {number : X → ℕ} {
           (u1 ∙ sym u2, v1 ∙ sym v2, r1 ∙ sym r2)
       go (no t) = (
         x .leaves-first ∙ left-alike r (first (x .answer)) (first (y .answer)) a (λ z. alike .1 (sym (x .says) ∙ z) .0)
-            ∙ ap (λ (n : ℕ). left n (first (y .answer)) a) same ∙ sym (y .leaves-first),
+            ∙ ap (λ (n : ℕ). wordsAfter n (first (y .answer)) a) same ∙ sym (y .leaves-first),
         x .leaves-second ∙ left-alike r (second (x .answer)) (second (y .answer)) b (λ z. alike .1 (sym (x .says) ∙ z) .1)
-            ∙ ap (λ (n : ℕ). left n (second (y .answer)) b) same ∙ sym (y .leaves-second),
+            ∙ ap (λ (n : ℕ). wordsAfter n (second (y .answer)) b) same ∙ sym (y .leaves-second),
         same,
       )
         where

@@ -65,7 +65,7 @@ module _ (w p q : List ℕ) (a : ℕ) (e : w ≡ p ++ q) (n : length p ≡ a) wh
   pub word-behind : (i : ℕ) → wordAt w (a + i) ≡ getD q i 0
   word-behind i = ap₂ (λ (x : List ℕ) (k : ℕ). wordAt x (k + i)) e (sym n) ∙ getD-append-add p q i 0
 
-  pub first-behind : wordAt w a ≡ getD q 0 0
+  first-behind : wordAt w a ≡ getD q 0 0
   first-behind = ap (wordAt w) (sym (add-zero a)) ∙ word-behind 0
 
 pub table-behind : (w p r : List ℕ) (a : ℕ) (t : Table) → w ≡ p ++ (tableWords t ++ r) → length p ≡ a → length (t .rows) ≡ 64 → tableAt a w ≡ t

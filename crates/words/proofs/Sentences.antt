@@ -9,7 +9,7 @@ use mathlib.Core.Path.{_≡_, sym, _∙_}
 use mathlib.Core.List.{List, _++_}
 use Prim.Native.Nat.{ℕ, _≤_}
 use lib.ListN.{length, drop}
-use Rattle.words.specs.Serving.{left, Served, Gives, ServedTwo, GivesTwo}
+use Rattle.words.specs.Serving.{wordsAfter, Served, Gives, ServedTwo, GivesTwo}
 use Rattle.words.proofs.Serving.{left-refused}
 use Rattle.words.proofs.Answers.{left-zero}
 use Rattle.words.proofs.Back.{front-is}
@@ -18,7 +18,7 @@ use Rattle.words.proofs.Back.{front-is}
 abbrev pub Over : List ℕ → List ℕ → List ℕ → Type 0
 Over vs w w′ = length vs ≤ length w → w′ ≡ vs ++ drop (length vs) w
 
-left-over : (r : ℕ) (vs w w′ : List ℕ) → w′ ≡ left r vs w → r ≡ 0 → Over vs w w′
+left-over : (r : ℕ) (vs w w′ : List ℕ) → w′ ≡ wordsAfter r vs w → r ≡ 0 → Over vs w w′
 left-over r vs w w′ e z l = e ∙ left-zero r vs w z ∙ front-is w vs l
 
 -- ---- one slice

@@ -1,14 +1,14 @@
 -- The returns of an entry: a slice too short, a refusal, and an answer whose words are put; and slices that are long enough.
-use mathlib.Core.Path.{_≡_, refl, ap, sym, _∙_}
+use mathlib.Core.Path.{_≡_, refl, sym, _∙_}
 use mathlib.Core.Logic.{_⊎_, inl, inr}
 use mathlib.Core.List.{List}
 use Prim.Native.Nat.{ℕ, _≤_, _<_}
 use native.Mathlib.Omega.{arith}
 use borrow.Author.Tests.{ne-eqb}
 use Rattle.words.specs.Layouts.{Put}
-use Rattle.words.specs.Serving.{left, Served, Gives, ServedTwo, GivesTwo}
+use Rattle.words.specs.Serving.{wordsAfter, Gives, GivesTwo}
 
-pub left-refused : (n : ℕ) (vs w : List ℕ) → ¬ (n ≡ 0) → left n vs w ≡ w
+pub left-refused : (n : ℕ) (vs w : List ℕ) → ¬ (n ≡ 0) → wordsAfter n vs w ≡ w
 left-refused n vs w h = rw (ne-eqb n 0 h)
 
 module _ {X : Type 0} {Short : Type 0} {P : X → Type 0} {number : X → ℕ} {words : X → List ℕ} where

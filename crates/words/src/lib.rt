@@ -1,6 +1,7 @@
 // Words of lent slices: tables, chains, rows and numbers read from them and put into them at fixed places, and the number of a verdict. All entries of the
 // C library read and put by these. Every function takes every slice: a place behind the last word reads as 0, and putting there changes nothing, so none
 // has a `requires`. The layouts are in specs/Layouts.antt, what an entry as a whole gives in specs/Serving.antt.
+use basics;
 use refusals;
 use refusals::Verdict;
 use table::Chain;
@@ -9,6 +10,16 @@ ghost use mathlib.Core.Path.{_≡_};
 ghost use mathlib.Core.List.{[], _∷_};
 ghost use Rattle.refusals.specs.Answers.{verdict};
 ghost use Rattle.words.specs.Layouts.{wordAt, rowsAt, numbersAt, tableAt, chainAt, tableWords, chainWords, asNumber, Put};
+
+// What the C library returns where a lent slice is shorter than its layout.
+pub const SHORT: u64 = 100;
+
+// The words of a table, of a chain, and of an order.
+pub const TABLE: usize = 66;
+
+pub const CHAIN: usize = 65;
+
+pub const ORDER: usize = 64;
 
 // The rows of a table and of a chain, and the numbers of an order.
 const ROWS: usize = Table::MOST_GAUGES as usize;
@@ -113,7 +124,7 @@ pub fn put_numbers(out: &mut [u64], at: u32, numbers: [u8; 64])
 {
     let mut i: usize = 0;
     while i < ROWS {
-        put_word(out, at as usize + i, wide(numbers[i]));
+        put_word(out, at as usize + i, basics::wide(numbers[i]));
         i += 1;
     }
 }
@@ -146,10 +157,4 @@ fn as_number(x: u64) -> u8
         return 255;
     }
     x as u8
-}
-
-fn wide(number: u8) -> u64
-    ensures { λ r. ⌜ r ≡ number ⌝ }
-{
-    number as u64
 }

@@ -6,7 +6,7 @@ use Rattle.table.specs.declared.Table.{Table}
 use Rattle.table.specs.Chains.{IsMaximal}
 use Rattle.table.specs.Tables.{tableRows}
 use Rattle.rules.specs.Calls.{Call}
-use Rattle.rules.specs.Keeping.{kept}
+use Rattle.rules.specs.Keeping.{keptSets}
 use Rattle.lists.specs.Lists.{Side}
 use Rattle.lists.specs.private.Demand.{DemandKeeping}
 use Rattle.conflicts.specs.Conflicts.{HoldsEssential}
@@ -16,4 +16,4 @@ use Rattle.conflicts.specs.Omitting.{keepsOf}
 -- of the side's list has exactly the maximal chains that hold an essential pair
 pub record Omits (t : Table) (s : Side) (o : List ℕ) (bs : List ℕ) (cs : List Call) : Type 0 where
   pub keeping : DemandKeeping t s o (keepsOf t) bs cs
-  pub members : (x : List ℕ) → List·Memᴰ x (kept (keepsOf t) (keeping .list)) ↔ (IsMaximal (tableRows t) x × HoldsEssential (tableRows t) x)
+  pub members : (x : List ℕ) → List·Memᴰ x (keptSets (keepsOf t) (keeping .list)) ↔ (IsMaximal (tableRows t) x × HoldsEssential (tableRows t) x)

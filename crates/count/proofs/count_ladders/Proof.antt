@@ -20,12 +20,6 @@ gathered c = c .before .before .before
 given : (c : tie.After-enum-told) → Given (start c .args .t) (start c .args .order .0)
 given c = record { size = search needs; long = search needs; passes = verdict-accepted _ _ (c .enum-told .given .1) (c .before .before .check .ensures) }
 
-check-requires : tie.Need-check-requires
-check-requires c κs = search needs
-
-enum-known-checked : tie.Need-enum-known-checked
-enum-known-checked c = search needs
-
 returns : tie.Need-returns
 returns c =
     let k = c .before in
@@ -40,20 +34,8 @@ returns-2 c = counts-large _ _ _ (given (c .before)) (c .if1 .taken)
 returns-3 : tie.Need-returns-3
 returns-3 c = counts-none _ _ _ (given (c .before .before)) (c .before .if1 .left) (c .if2 .taken)
 
-gather-requires : tie.Need-gather-requires
-gather-requires c κs = search needs
-
-lowest-requires : tie.Need-lowest-requires
-lowest-requires c κs = search needs
-
 count-below-requires : tie.Need-count-below-requires
 count-below-requires c κs = omega (arith, c .before .before .before .before .before .before .if2 .left)
-
-enum-known-below : tie.Need-enum-known-below
-enum-known-below c = search needs
-
-enum-told-2 : tie.Need-enum-told-2
-enum-told-2 c = search needs
 
 returns-4 : tie.Need-returns-4
 returns-4 c =
@@ -73,16 +55,16 @@ pub count-ladders-spec : {M : Type 1} → statement M
 count-ladders-spec =
     tie.close
     (tie.spec
-    check-requires
-    enum-known-checked
+    (λ c κs. search needs)
+    (λ c. search needs)
     returns
     enum-told
     returns-2
     returns-3
-    gather-requires
-    lowest-requires
+    (λ c κs. search needs)
+    (λ c κs. search needs)
     count-below-requires
-    enum-known-below
-    enum-told-2
+    (λ c. search needs)
+    (λ c. search needs)
     returns-4
     returns-5)

@@ -15,12 +15,6 @@ rows-length c = search needs
 passed : (c : tie.After-enum-told) → tableRefusal (c .before .before .before .args .t) ≡ 0
 passed c = verdict-accepted _ _ (c .enum-told .given .1) (c .before .before .check-table .ensures)
 
-check-table-requires : tie.Need-check-table-requires
-check-table-requires c κs = search needs
-
-enum-known-checked : tie.Need-enum-known-checked
-enum-known-checked c = search needs
-
 returns : tie.Need-returns
 returns c =
     pair-refused _ _ _ (c .before .checked .given .0 .0)
@@ -28,9 +22,6 @@ returns c =
 
 enum-told : tie.Need-enum-told
 enum-told c = search needs
-
-has-requires : tie.Need-has-requires
-has-requires c κs = search needs
 
 returns-2 : tie.Need-returns-2
 returns-2 c =
@@ -46,10 +37,10 @@ pub check-pair-spec : {M : Type 1} → statement M
 check-pair-spec =
     tie.close
     (tie.spec
-    check-table-requires
-    enum-known-checked
+    (λ c κs. search needs)
+    (λ c. search needs)
     returns
     enum-told
-    has-requires
+    (λ c κs. search needs)
     returns-2
     returns-3)

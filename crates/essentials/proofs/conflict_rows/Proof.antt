@@ -14,35 +14,8 @@ Inv-loop rows g k own found₀ i₀ found i = Filled (λ (j : ℕ). conflictRow 
 abbrev μ-loop : tie.MeasureT-loop
 μ-loop rows g k own found₀ i₀ found i = 64 - i
 
-mul-own : tie.Need-mul-own Inv-loop μ-loop
-mul-own c = omega arith
-
-element-copy-out-own : tie.Need-element-copy-out-own Inv-loop μ-loop
-element-copy-out-own c = omega arith
-
 loop-holds : tie.Need-loop-holds Inv-loop μ-loop
 loop-holds c = filled-none _ _ _ (search needs)
-
-mul-conflict-row : tie.Need-mul-conflict-row Inv-loop μ-loop
-mul-conflict-row c = omega arith
-
-element-copy-out-conflict-row : tie.Need-element-copy-out-conflict-row Inv-loop μ-loop
-element-copy-out-conflict-row c = omega arith
-
-conflict-row-requires : tie.Need-conflict-row-requires Inv-loop μ-loop
-conflict-row-requires c κs = search needs
-
-mul-found : tie.Need-mul-found Inv-loop μ-loop
-mul-found c = omega arith
-
-array-write-found : tie.Need-array-write-found Inv-loop μ-loop
-array-write-found c = omega arith
-
-add-i : tie.Need-add-i Inv-loop μ-loop
-add-i c = omega arith
-
-loop-less : tie.Need-loop-less Inv-loop μ-loop
-loop-less c = omega arith
 
 loop-again : tie.Need-loop-again Inv-loop μ-loop
 loop-again c = filled-more _ (c .before .before .before .loop .inv) (c .before .before .loop-test .taken) (c .conflict-row .ensures)
@@ -57,15 +30,15 @@ conflict-rows-spec =
     (tie.spec
     Inv-loop
     μ-loop
-    mul-own
-    element-copy-out-own
+    (λ c. omega arith)
+    (λ c. omega arith)
     loop-holds
-    mul-conflict-row
-    element-copy-out-conflict-row
-    conflict-row-requires
-    mul-found
-    array-write-found
-    add-i
-    loop-less
+    (λ c. omega arith)
+    (λ c. omega arith)
+    (λ c κs. search needs)
+    (λ c. omega arith)
+    (λ c. omega arith)
+    (λ c. omega arith)
+    (λ c. omega arith)
     loop-again
     returns)

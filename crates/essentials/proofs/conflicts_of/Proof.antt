@@ -15,15 +15,6 @@ rows-length c = search needs
 facts : (c : tie.After-enum-told) → let s = c .before .before .before in PairFacts (s .args .t) (s .args .g .0) (s .args .c .0) (rows-length s)
 facts c = pair-facts _ _ _ _ (verdict-accepted _ _ (c .enum-told .given .1) (c .before .before .check-pair .ensures))
 
-check-pair-requires : tie.Need-check-pair-requires
-check-pair-requires c κs = search needs
-
-enum-known-checked : tie.Need-enum-known-checked
-enum-known-checked c = search needs
-
-refuse-requires : tie.Need-refuse-requires
-refuse-requires c κs = search needs
-
 returns : tie.Need-returns
 returns c = (
   gives-refused _ _ (c .before .before .checked .given .0 .0) _
@@ -51,9 +42,9 @@ pub conflicts-of-spec : {M : Type 1} → statement M
 conflicts-of-spec =
     tie.close
     (tie.spec
-    check-pair-requires
-    enum-known-checked
-    refuse-requires
+    (λ c κs. search needs)
+    (λ c. search needs)
+    (λ c κs. search needs)
     returns
     enum-told
     sub-i

@@ -21,19 +21,10 @@ element-copy-out-own c = omega (arith, c .pre .0 .few)
 loop-holds : tie.Need-loop-holds Inv-loop μ-loop
 loop-holds c = keeping-none _ _
 
-first-requires : tie.Need-first-requires Inv-loop μ-loop
-first-requires c κs = search needs
-
-rest-requires : tie.Need-rest-requires Inv-loop μ-loop
-rest-requires c κs = search needs
-
 outdone-requires : tie.Need-outdone-requires Inv-loop μ-loop
 outdone-requires c κs =
     let s = c .before .before .before .before .before in let l = c .before .first .ensures .some (c .before .before .loop-test .taken) in
     (s .pre .0, record { among = s .pre .1; low = l .below; held = next-in _ _ _ _ (c .before .before .before .loop .inv .passed) l })
-
-without-requires : tie.Need-without-requires Inv-loop μ-loop
-without-requires c κs = search needs
 
 loop-less : tie.Need-loop-less Inv-loop μ-loop
 loop-less c = c .before .before .before .rest .ensures .fewer (c .before .before .before .before .before .loop-test .taken)
@@ -66,10 +57,10 @@ essential-row-spec =
     mul-own
     element-copy-out-own
     loop-holds
-    first-requires
-    rest-requires
+    (λ c κs. search needs)
+    (λ c κs. search needs)
     outdone-requires
-    without-requires
+    (λ c κs. search needs)
     loop-less
     loop-again
     loop-less-2

@@ -24,15 +24,6 @@ rows-length c = search needs
 legal : (c : tie.After-enum-told Inv-loop μ-loop) → Legal (c .before .before .before .args .t)
 legal c = legal-of _ (rows-length (c .before .before .before)) (verdict-accepted _ _ (c .enum-told .given .1) (c .before .before .check-table .ensures))
 
-check-table-requires : tie.Need-check-table-requires Inv-loop μ-loop
-check-table-requires c κs = search needs
-
-enum-known-checked : tie.Need-enum-known-checked Inv-loop μ-loop
-enum-known-checked c = search needs
-
-refuse-requires : tie.Need-refuse-requires Inv-loop μ-loop
-refuse-requires c κs = search needs
-
 returns : tie.Need-returns Inv-loop μ-loop
 returns c =
     gives-refused _ _ (c .before .before .checked .given .0 .0) _
@@ -62,9 +53,6 @@ array-write-found c = omega (arith, legal (c .before .before .before .before .be
 add-i : tie.Need-add-i Inv-loop μ-loop
 add-i c = omega (arith, legal (c .before .before .before .before .before .before .before .before) .gauges-high)
 
-loop-less : tie.Need-loop-less Inv-loop μ-loop
-loop-less c = omega arith
-
 loop-again : tie.Need-loop-again Inv-loop μ-loop
 loop-again c =
     finding-more _ _ _ _ _ (c .before .before .before .before .loop .inv) (c .before .before .before .loop-test .taken)
@@ -79,9 +67,9 @@ essential-rows-spec =
     (tie.spec
     Inv-loop
     μ-loop
-    check-table-requires
-    enum-known-checked
-    refuse-requires
+    (λ c κs. search needs)
+    (λ c. search needs)
+    (λ c κs. search needs)
     returns
     enum-told
     unions-requires
@@ -90,6 +78,6 @@ essential-rows-spec =
     mul-found
     array-write-found
     add-i
-    loop-less
+    (λ c. omega arith)
     loop-again
     returns-2)

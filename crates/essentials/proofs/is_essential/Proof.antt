@@ -16,12 +16,6 @@ rows-length c = search needs
 facts : (c : tie.After-enum-told) → let s = c .before .before .before in PairFacts (s .args .t) (s .args .g .0) (s .args .c .0) (rows-length s)
 facts c = pair-facts _ _ _ _ (verdict-accepted _ _ (c .enum-told .given .1) (c .before .before .check-pair .ensures))
 
-check-pair-requires : tie.Need-check-pair-requires
-check-pair-requires c κs = search needs
-
-enum-known-checked : tie.Need-enum-known-checked
-enum-known-checked c = search needs
-
 returns : tie.Need-returns
 returns c = (judged-refused _ _ (verdict-refused _ _ _ (c .before .checked .given .1) (c .before .before .before .check-pair .ensures)), λ e. conflict-claims _)
 
@@ -60,8 +54,8 @@ pub is-essential-spec : {M : Type 1} → statement M
 is-essential-spec =
     tie.close
     (tie.spec
-    check-pair-requires
-    enum-known-checked
+    (λ c κs. search needs)
+    (λ c. search needs)
     returns
     enum-told
     unions-requires

@@ -24,9 +24,6 @@ returns c = let s = c .before .before .before .before in row-found _ _ _ (s .pre
 add-h : tie.Need-add-h Inv-loop μ-loop
 add-h c = omega (arith, c .before .before .before .before .pre .0 .few)
 
-loop-less : tie.Need-loop-less Inv-loop μ-loop
-loop-less c = omega arith
-
 loop-again : tie.Need-loop-again Inv-loop μ-loop
 loop-again c =
     let s = c .before .before .before .before in
@@ -45,6 +42,6 @@ outdone-spec =
     outdone-in-requires
     returns
     add-h
-    loop-less
+    (λ c. omega arith)
     loop-again
     returns-2)

@@ -15,49 +15,16 @@ Inv-loop store rows n g k h own other j union rest₀ rest = Passed (λ (d : ℕ
 abbrev μ-loop : tie.MeasureT-loop
 μ-loop store rows n g k h own other j union rest₀ rest = rest
 
-mul-own : tie.Need-mul-own Inv-loop μ-loop
-mul-own c = omega arith
-
 element-copy-out-own : tie.Need-element-copy-out-own Inv-loop μ-loop
 element-copy-out-own c = omega (arith, c .pre .0 .few)
-
-mul-other : tie.Need-mul-other Inv-loop μ-loop
-mul-other c = omega arith
-
-element-copy-out-other : tie.Need-element-copy-out-other Inv-loop μ-loop
-element-copy-out-other c = omega arith
-
-mul-union : tie.Need-mul-union Inv-loop μ-loop
-mul-union c = omega arith
-
-add-union : tie.Need-add-union Inv-loop μ-loop
-add-union c = omega arith
-
-mul-union-2 : tie.Need-mul-union-2 Inv-loop μ-loop
-mul-union-2 c = omega arith
-
-element-copy-out-union : tie.Need-element-copy-out-union Inv-loop μ-loop
-element-copy-out-union c = omega arith
-
-subset-requires : tie.Need-subset-requires Inv-loop μ-loop
-subset-requires c κs = search needs
 
 returns : tie.Need-returns Inv-loop μ-loop
 returns c =
     let s = c .before .before .before .before .before in
     not-within _ _ _ (s .pre .0) _ _ (s .pre .1) _ (s .pre .2) _ (c .before .subset .ensures) (not-true _ (c .if1 .taken))
 
-minus-requires : tie.Need-minus-requires Inv-loop μ-loop
-minus-requires c κs = search needs
-
 loop-holds : tie.Need-loop-holds Inv-loop μ-loop
 loop-holds c = passed-none _ _
-
-first-requires : tie.Need-first-requires Inv-loop μ-loop
-first-requires c κs = search needs
-
-rest-requires : tie.Need-rest-requires Inv-loop μ-loop
-rest-requires c κs = search needs
 
 mul-included : tie.Need-mul-included Inv-loop μ-loop
 mul-included c = omega (arith, c .before .first .ensures .some (c .before .before .loop-test .taken) .below)
@@ -70,9 +37,6 @@ mul-included-2 c = omega (arith, c .before .first .ensures .some (c .before .bef
 
 element-copy-out-included : tie.Need-element-copy-out-included Inv-loop μ-loop
 element-copy-out-included c = omega (arith, c .before .first .ensures .some (c .before .before .loop-test .taken) .below)
-
-included-requires : tie.Need-included-requires Inv-loop μ-loop
-included-requires c κs = search needs
 
 returns-2 : tie.Need-returns-2 Inv-loop μ-loop
 returns-2 c =
@@ -106,25 +70,25 @@ outdone-in-spec =
     (tie.spec
     Inv-loop
     μ-loop
-    mul-own
+    (λ c. omega arith)
     element-copy-out-own
-    mul-other
-    element-copy-out-other
-    mul-union
-    add-union
-    mul-union-2
-    element-copy-out-union
-    subset-requires
+    (λ c. omega arith)
+    (λ c. omega arith)
+    (λ c. omega arith)
+    (λ c. omega arith)
+    (λ c. omega arith)
+    (λ c. omega arith)
+    (λ c κs. search needs)
     returns
-    minus-requires
+    (λ c κs. search needs)
     loop-holds
-    first-requires
-    rest-requires
+    (λ c κs. search needs)
+    (λ c κs. search needs)
     mul-included
     add-included
     mul-included-2
     element-copy-out-included
-    included-requires
+    (λ c κs. search needs)
     returns-2
     loop-less
     loop-again

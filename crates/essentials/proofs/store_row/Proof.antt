@@ -11,23 +11,8 @@ Inv-loop store₀ rows n i own rest₀ store rest = Storing rows n i store rest
 abbrev μ-loop : tie.MeasureT-loop
 μ-loop store₀ rows n i own rest₀ store rest = rest
 
-mul-own : tie.Need-mul-own Inv-loop μ-loop
-mul-own c = omega arith
-
-element-copy-out-own : tie.Need-element-copy-out-own Inv-loop μ-loop
-element-copy-out-own c = omega arith
-
 loop-holds : tie.Need-loop-holds Inv-loop μ-loop
 loop-holds c = storing-none _ _ _ _ (c .before .pre .2)
-
-first-requires : tie.Need-first-requires Inv-loop μ-loop
-first-requires c κs = search needs
-
-rest-requires : tie.Need-rest-requires Inv-loop μ-loop
-rest-requires c κs = search needs
-
-union-against-requires : tie.Need-union-against-requires Inv-loop μ-loop
-union-against-requires c κs = omega arith
 
 mul-store : tie.Need-mul-store Inv-loop μ-loop
 mul-store c = omega (arith, c .before .before .first .ensures .some (c .before .before .before .loop-test .taken) .below)
@@ -59,12 +44,12 @@ store-row-spec =
     (tie.spec
     Inv-loop
     μ-loop
-    mul-own
-    element-copy-out-own
+    (λ c. omega arith)
+    (λ c. omega arith)
     loop-holds
-    first-requires
-    rest-requires
-    union-against-requires
+    (λ c κs. search needs)
+    (λ c κs. search needs)
+    (λ c κs. omega arith)
     mul-store
     add-store
     mul-store-2

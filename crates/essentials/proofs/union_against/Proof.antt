@@ -17,21 +17,6 @@ abbrev μ-loop : tie.MeasureT-loop
 loop-holds : tie.Need-loop-holds Inv-loop μ-loop
 loop-holds c = (omega arith, against-none _ _ _)
 
-mul-join-row : tie.Need-mul-join-row Inv-loop μ-loop
-mul-join-row c = omega arith
-
-element-copy-out-join-row : tie.Need-element-copy-out-join-row Inv-loop μ-loop
-element-copy-out-join-row c = omega arith
-
-join-row-requires : tie.Need-join-row-requires Inv-loop μ-loop
-join-row-requires c κs = search needs
-
-add-i : tie.Need-add-i Inv-loop μ-loop
-add-i c = omega arith
-
-loop-less : tie.Need-loop-less Inv-loop μ-loop
-loop-less c = omega arith
-
 loop-again : tie.Need-loop-again Inv-loop μ-loop
 loop-again c = (omega arith, against-more _ _ _ _ _ _ (c .before .before .before .loop .inv .1) (c .join-row .ensures))
 
@@ -45,10 +30,10 @@ union-against-spec =
     Inv-loop
     μ-loop
     loop-holds
-    mul-join-row
-    element-copy-out-join-row
-    join-row-requires
-    add-i
-    loop-less
+    (λ c. omega arith)
+    (λ c. omega arith)
+    (λ c κs. search needs)
+    (λ c. omega arith)
+    (λ c. omega arith)
     loop-again
     returns)

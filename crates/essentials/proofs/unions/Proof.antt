@@ -20,12 +20,6 @@ loop-holds c = (omega arith, stored-none _ _ _ (search needs))
 store-row-requires : tie.Need-store-row-requires Inv-loop μ-loop
 store-row-requires c κs = (c .before .before .before .pre, omega arith, c .before .before .loop .inv .1)
 
-add-i : tie.Need-add-i Inv-loop μ-loop
-add-i c = omega arith
-
-loop-less : tie.Need-loop-less Inv-loop μ-loop
-loop-less c = omega arith
-
 loop-again : tie.Need-loop-again Inv-loop μ-loop
 loop-again c = (omega arith, c .store-row .ensures)
 
@@ -35,4 +29,4 @@ returns c = let e : c .before .loop .i ≡ c .before .before .args .n = omega ar
 pub unions-spec : {M : Type 1} → statement M
 unions-spec =
     tie.close
-    (tie.spec Inv-loop μ-loop loop-holds store-row-requires add-i loop-less loop-again returns)
+    (tie.spec Inv-loop μ-loop loop-holds store-row-requires (λ c. omega arith) (λ c. omega arith) loop-again returns)

@@ -14,15 +14,6 @@ start c = c .before .before .before .before
 passed : (c : tie.After-enum-told) → (let a = start c .args in preferredRefusal (a .t) (a .t .gauges) (a .order .0) ≡ 0)
 passed c = verdict-accepted _ _ (c .enum-told .given .1) (c .before .before .check .ensures)
 
-check-requires : tie.Need-check-requires
-check-requires c κs = search needs
-
-enum-known-checked : tie.Need-enum-known-checked
-enum-known-checked c = search needs
-
-refuse-requires : tie.Need-refuse-requires
-refuse-requires c κs = search needs
-
 returns : tie.Need-returns
 returns c =
     let k = c .before .before in
@@ -30,24 +21,6 @@ returns c =
 
 enum-told : tie.Need-enum-told
 enum-told c = search needs
-
-judge-chain-requires : tie.Need-judge-chain-requires
-judge-chain-requires c κs = search needs
-
-enum-known-judged : tie.Need-enum-known-judged
-enum-known-judged c = search needs
-
-refuse-requires-2 : tie.Need-refuse-requires-2
-refuse-requires-2 c κs = search needs
-
-enum-told-2 : tie.Need-enum-told-2
-enum-told-2 c = search needs
-
-refuse-requires-3 : tie.Need-refuse-requires-3
-refuse-requires-3 c κs = search needs
-
-enum-told-3 : tie.Need-enum-told-3
-enum-told-3 c = search needs
 
 first-by-place-requires : tie.Need-first-by-place-requires
 first-by-place-requires c κs =
@@ -76,17 +49,17 @@ pub extend-chain-spec : {M : Type 1} → statement M
 extend-chain-spec =
     tie.close
     (tie.spec
-    check-requires
-    enum-known-checked
-    refuse-requires
+    (λ c κs. search needs)
+    (λ c. search needs)
+    (λ c κs. search needs)
     returns
     enum-told
-    judge-chain-requires
-    enum-known-judged
-    refuse-requires-2
-    enum-told-2
-    refuse-requires-3
-    enum-told-3
+    (λ c κs. search needs)
+    (λ c. search needs)
+    (λ c κs. search needs)
+    (λ c. search needs)
+    (λ c κs. search needs)
+    (λ c. search needs)
     first-by-place-requires
     returns-2
     returns-3

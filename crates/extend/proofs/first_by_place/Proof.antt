@@ -1,6 +1,6 @@
 -- `extend::first_by_place` meets its contract: the first by number of the rows as the order has them is, its rows by gauge again, the first by place
 -- (`may-grow`, `placed-first`).
-use mathlib.Core.Path.{_≡_, sym, subst₂}
+use mathlib.Core.Path.{sym, subst₂}
 use mathlib.Core.List.{List}
 use Prim.Native.Nat.{ℕ}
 use borrow.Author.Needs.{needs}
@@ -31,12 +31,6 @@ tableWith t x = record { gauges = t .gauges; cases = t .cases; rows = x }
 abbrev chainWith : Table → List ℕ → Chain
 chainWith t y = record { gauges = t .gauges; rows = y }
 
-gather-requires : tie.Need-gather-requires
-gather-requires c κs = search needs
-
-gather-requires-2 : tie.Need-gather-requires-2
-gather-requires-2 c κs = search needs
-
 first-rows-requires : tie.Need-first-rows-requires
 first-rows-requires c κs =
     let g = rows c in
@@ -44,12 +38,6 @@ first-rows-requires c κs =
     let t = s .args .t in
     subst₂ (λ (x y : List ℕ). ChainFacts (tableWith t x) (chainWith t y) × IsChain (chainRows (chainWith t y))) (sym (g .gather .ensures))
     (sym (c .gather2 .ensures)) (may-grow t (s .args .t2) (s .args .s) (preferred s))
-
-place-all-requires : tie.Need-place-all-requires
-place-all-requires c κs = search needs
-
-gather-requires-3 : tie.Need-gather-requires-3
-gather-requires-3 c κs = search needs
 
 returns : tie.Need-returns
 returns c =
@@ -66,4 +54,4 @@ returns c =
 
 pub first-by-place-spec : {M : Type 1} → statement M
 first-by-place-spec =
-    tie.close (tie.spec gather-requires gather-requires-2 first-rows-requires place-all-requires gather-requires-3 returns)
+    tie.close (tie.spec (λ c κs. search needs) (λ c κs. search needs) first-rows-requires (λ c κs. search needs) (λ c κs. search needs) returns)

@@ -9,27 +9,18 @@ use Rattle.extend.proofs.next_fitting.Statement.{statement}
 use Rattle.extend.proofs.next_fitting.Tie as tie
 
 abbrev Inv-loop : tie.InvT-loop
-Inv-loop unpicked left n owed g₀ g = (i : ℕ) → 0 ≤ i → i < g → fitsIn unpicked left n owed i ≡ false
+Inv-loop rows unpicked left n owed g₀ g = (i : ℕ) → 0 ≤ i → i < g → fitsIn rows unpicked left owed i ≡ false
 
 abbrev μ-loop : tie.MeasureT-loop
-μ-loop unpicked left n owed g₀ g = n - g
+μ-loop rows unpicked left n owed g₀ g = n - g
 
 loop-holds : tie.Need-loop-holds Inv-loop μ-loop
 loop-holds c = λ i a b. absurd (omega arith)
-
-fits-requires : tie.Need-fits-requires Inv-loop μ-loop
-fits-requires c κs = omega arith
 
 returns : tie.Need-returns Inv-loop μ-loop
 returns c =
     first-found _ _ _ _ _ (omega arith) (c .before .before .loop-test .taken) (c .before .before .before .loop .inv) (c .before .fits2 .ensures)
     (c .if1 .taken)
-
-add-g : tie.Need-add-g Inv-loop μ-loop
-add-g c = omega arith
-
-loop-less : tie.Need-loop-less Inv-loop μ-loop
-loop-less c = omega arith
 
 loop-again : tie.Need-loop-again Inv-loop μ-loop
 loop-again c = below-next _ _ _ _ (c .before .before .before .loop .inv) (c .before .fits2 .ensures) (c .if1 .left)
@@ -44,9 +35,9 @@ next-fitting-spec =
     Inv-loop
     μ-loop
     loop-holds
-    fits-requires
+    (λ c κs. omega arith)
     returns
-    add-g
-    loop-less
+    (λ c. omega arith)
+    (λ c. omega arith)
     loop-again
     returns-2)

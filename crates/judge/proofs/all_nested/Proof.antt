@@ -27,12 +27,6 @@ unfolding allNested
 returns c =
     all-fails _ _ (c .before .before .before .loop .i) _ (c .before .before .loop-test .taken) (c .before .nested-with .ensures) (not-true _ (c .if1 .taken))
 
-add-i : tie.Need-add-i Inv-loop μ-loop
-add-i c = omega arith
-
-loop-less : tie.Need-loop-less Inv-loop μ-loop
-loop-less c = omega arith
-
 loop-again : tie.Need-loop-again Inv-loop μ-loop
 loop-again c = (omega arith, all-more _ _ _ (c .before .before .before .loop .inv .1) (c .before .nested-with .ensures) (not-false _ (c .if1 .left)))
 
@@ -49,7 +43,7 @@ all-nested-spec =
     loop-holds
     nested-with-requires
     returns
-    add-i
-    loop-less
+    (λ c. omega arith)
+    (λ c. omega arith)
     loop-again
     returns-2)

@@ -3,13 +3,15 @@ use Prim.Native.Nat.{ℕ, _≤_, _-_}
 use mathlib.Core.Path.{_≡_, refl}
 use mathlib.Core.Bool.{true, false}
 use native.Mathlib.Omega.{arith}
+use borrow.Author.Needs.{needs}
 use borrow.Author.Tests.{eq-eqb, ne-eqb}
 use lib.Dec.{eqb}
 use Rattle.sets.specs.Lists.{allBelow}
 use Rattle.sets.proofs.Tabulated.{all-none, all-more, all-fails, all-done}
 use Rattle.table.specs.Pairs.{row}
 use Rattle.judge.proofs.RowLoops.{widest-test}
-use Rattle.judge.specs.private.RowTests.{widest, allWidest}
+use Rattle.judge.specs.WidestRows.{widest}
+use Rattle.judge.specs.private.RowTests.{allWidest}
 use Rattle.judge.proofs.all_widest.Statement.{statement}
 use Rattle.judge.proofs.all_widest.Tie as tie
 
@@ -22,40 +24,21 @@ abbrev μ-loop : tie.MeasureT-loop
 loop-holds : tie.Need-loop-holds Inv-loop μ-loop
 loop-holds c = (omega arith, all-none _)
 
-mul-widest : tie.Need-mul-widest Inv-loop μ-loop
-mul-widest c = omega arith
-
-element-copy-out-widest : tie.Need-element-copy-out-widest Inv-loop μ-loop
-element-copy-out-widest c = omega arith
-
-widest-requires : tie.Need-widest-requires Inv-loop μ-loop
-widest-requires c κs = (omega arith, omega arith)
-
-mul-if1 : tie.Need-mul-if1 Inv-loop μ-loop
-mul-if1 c = omega arith
-
-element-copy-out-if1 : tie.Need-element-copy-out-if1 Inv-loop μ-loop
-element-copy-out-if1 c = omega arith
-
 returns : tie.Need-returns Inv-loop μ-loop
 unfolding allWidest
 returns c =
     let l = c .before .before .before .before .before in
     all-fails _ _ (l .loop .i) false (c .before .before .before .before .loop-test .taken)
-    (widest-test (l .before .args .outer .now) _ _ _ _ _ (c .before .before .widest .ensures) (ne-eqb _ _ (c .if1 .taken))) refl
-
-add-i : tie.Need-add-i Inv-loop μ-loop
-add-i c = omega arith
-
-loop-less : tie.Need-loop-less Inv-loop μ-loop
-loop-less c = omega arith
+    (widest-test (l .before .args .outer .now) _ _ _ _ _ (c .before .before .before .before .loop-test .taken) (l .before .pre)
+    (c .before .before .widest .ensures) (ne-eqb _ _ (c .if1 .taken))) refl
 
 loop-again : tie.Need-loop-again Inv-loop μ-loop
 loop-again c =
     let l = c .before .before .before .before .before in (
       omega arith,
       all-more _ _ true (l .loop .inv .1)
-          (widest-test (l .before .args .outer .now) _ _ _ _ _ (c .before .before .widest .ensures) (eq-eqb _ _ (c .if1 .left))) refl,
+          (widest-test (l .before .args .outer .now) _ _ _ _ _ (c .before .before .before .before .loop-test .taken) (l .before .pre)
+          (c .before .before .widest .ensures) (eq-eqb _ _ (c .if1 .left))) refl,
     )
 
 returns-2 : tie.Need-returns-2 Inv-loop μ-loop
@@ -69,13 +52,13 @@ all-widest-spec =
     Inv-loop
     μ-loop
     loop-holds
-    mul-widest
-    element-copy-out-widest
-    widest-requires
-    mul-if1
-    element-copy-out-if1
+    (λ c. omega arith)
+    (λ c. omega arith)
+    (λ c κs. search needs)
+    (λ c. omega arith)
+    (λ c. omega arith)
     returns
-    add-i
-    loop-less
+    (λ c. omega arith)
+    (λ c. omega arith)
     loop-again
     returns-2)

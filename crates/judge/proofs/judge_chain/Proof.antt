@@ -29,12 +29,6 @@ few k = few-gauges (start k .args .t) (start k .args .s) (passed k) (table-size 
 abbrev told : tie.After-all-nested → tie.After-enum-told
 told n = n .before .before .before
 
-check-chain-requires : tie.Need-check-chain-requires
-check-chain-requires c κs = search needs
-
-enum-known-checked : tie.Need-enum-known-checked
-enum-known-checked c = search needs
-
 returns : tie.Need-returns
 returns c = judged-refused _ _ (verdict-refused _ _ _ (c .before .checked .given .1) (c .before .before .before .check-chain .ensures))
 
@@ -58,8 +52,8 @@ pub judge-chain-spec : {M : Type 1} → statement M
 judge-chain-spec =
     tie.close
     (tie.spec
-    check-chain-requires
-    enum-known-checked
+    (λ c κs. search needs)
+    (λ c. search needs)
     returns
     enum-told
     all-nested-requires

@@ -33,12 +33,6 @@ told n = n .before .before .before .before
 abbrev nested : tie.After-all-widest → tie.After-all-nested
 nested w = w .before .before .before .before
 
-check-chain-requires : tie.Need-check-chain-requires
-check-chain-requires c κs = search needs
-
-enum-known-checked : tie.Need-enum-known-checked
-enum-known-checked c = search needs
-
 returns : tie.Need-returns
 returns c = judged-refused _ _ (verdict-refused _ _ _ (c .before .checked .given .1) (c .before .before .before .check-chain .ensures))
 
@@ -75,8 +69,8 @@ pub judge-maximal-spec : {M : Type 1} → statement M
 judge-maximal-spec =
     tie.close
     (tie.spec
-    check-chain-requires
-    enum-known-checked
+    (λ c κs. search needs)
+    (λ c. search needs)
     returns
     enum-told
     all-nested-requires

@@ -5,9 +5,6 @@ use Rattle.judge.proofs.RowLoops.{narrow-out, narrow-same, narrow-in}
 use Rattle.judge.proofs.narrowed.Statement.{statement}
 use Rattle.judge.proofs.narrowed.Tie as tie
 
-subset-requires : tie.Need-subset-requires
-subset-requires c κs = search needs
-
 returns : tie.Need-returns
 returns c = narrow-out _ _ _ _ (c .before .subset .ensures) (not-true _ (c .if1 .taken))
 
@@ -18,4 +15,4 @@ returns-3 : tie.Need-returns-3
 returns-3 c = narrow-in _ _ _ _ (c .before .before .subset .ensures) (not-false _ (c .before .if1 .left)) (c .if2 .left)
 
 pub narrowed-spec : {M : Type 1} → statement M
-narrowed-spec = tie.close (tie.spec subset-requires returns returns-2 returns-3)
+narrowed-spec = tie.close (tie.spec (λ c κs. search needs) returns returns-2 returns-3)

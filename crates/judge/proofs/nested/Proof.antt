@@ -4,17 +4,11 @@ use Rattle.judge.proofs.RowLoops.{nested-up, nested-down}
 use Rattle.judge.proofs.nested.Statement.{statement}
 use Rattle.judge.proofs.nested.Tie as tie
 
-subset-requires : tie.Need-subset-requires
-subset-requires c κs = search needs
-
 returns : tie.Need-returns
 returns c = nested-up _ _ _ (c .before .subset .ensures) (c .if1 .taken)
-
-subset-requires-2 : tie.Need-subset-requires-2
-subset-requires-2 c κs = search needs
 
 returns-2 : tie.Need-returns-2
 returns-2 c = nested-down _ _ _ _ (c .before .before .subset .ensures) (c .before .if1 .left) (c .subset2 .ensures)
 
 pub nested-spec : {M : Type 1} → statement M
-nested-spec = tie.close (tie.spec subset-requires returns subset-requires-2 returns-2)
+nested-spec = tie.close (tie.spec (λ c κs. search needs) returns (λ c κs. search needs) returns-2)

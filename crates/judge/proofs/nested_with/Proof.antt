@@ -18,35 +18,14 @@ Inv-loop rows n i own j₀ j = (j ≤ n) × (allBelow (λ (k : ℕ). nested (row
 abbrev μ-loop : tie.MeasureT-loop
 μ-loop rows n i own j₀ j = n - j
 
-mul-own : tie.Need-mul-own Inv-loop μ-loop
-mul-own c = omega arith
-
-element-copy-out-own : tie.Need-element-copy-out-own Inv-loop μ-loop
-element-copy-out-own c = omega arith
-
 loop-holds : tie.Need-loop-holds Inv-loop μ-loop
 loop-holds c = (omega arith, all-none _)
-
-mul-nested : tie.Need-mul-nested Inv-loop μ-loop
-mul-nested c = omega arith
-
-element-copy-out-nested : tie.Need-element-copy-out-nested Inv-loop μ-loop
-element-copy-out-nested c = omega arith
-
-nested-requires : tie.Need-nested-requires Inv-loop μ-loop
-nested-requires c κs = search needs
 
 returns : tie.Need-returns Inv-loop μ-loop
 unfolding nestedWith
 returns c =
     all-fails _ _ (c .before .before .before .before .loop .j) _ (c .before .before .before .loop-test .taken) (c .before .nested .ensures)
     (not-true _ (c .if1 .taken))
-
-add-j : tie.Need-add-j Inv-loop μ-loop
-add-j c = omega arith
-
-loop-less : tie.Need-loop-less Inv-loop μ-loop
-loop-less c = omega arith
 
 loop-again : tie.Need-loop-again Inv-loop μ-loop
 loop-again c = (omega arith, all-more _ _ _ (c .before .before .before .before .loop .inv .1) (c .before .nested .ensures) (not-false _ (c .if1 .left)))
@@ -61,14 +40,14 @@ nested-with-spec =
     (tie.spec
     Inv-loop
     μ-loop
-    mul-own
-    element-copy-out-own
+    (λ c. omega arith)
+    (λ c. omega arith)
     loop-holds
-    mul-nested
-    element-copy-out-nested
-    nested-requires
+    (λ c. omega arith)
+    (λ c. omega arith)
+    (λ c κs. search needs)
     returns
-    add-j
-    loop-less
+    (λ c. omega arith)
+    (λ c. omega arith)
     loop-again
     returns-2)

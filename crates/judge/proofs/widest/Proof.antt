@@ -1,10 +1,10 @@
 -- `judge::widest` meets its contract: after `j` rows it is the definition's widest row over these.
 use Prim.Native.Nat.{_≤_, _-_}
-use mathlib.Core.Path.{_≡_, ap, _∙_}
+use mathlib.Core.Path.{_≡_, sym, ap, _∙_}
 use native.Mathlib.Omega.{arith}
 use borrow.Author.Needs.{needs}
-use Rattle.judge.specs.private.RowTests.{widest}
-use Rattle.judge.proofs.RowLoops.{widest-start, widest-more}
+use Rattle.judge.specs.WidestRows.{widest}
+use Rattle.judge.proofs.RowLoops.{widest-past, widest-long, widest-in, widest-start, widest-more}
 use Rattle.judge.proofs.widest.Statement.{statement}
 use Rattle.judge.proofs.widest.Tie as tie
 
@@ -14,35 +14,24 @@ Inv-loop rows most i n own wide₀ j₀ wide j = (j ≤ n) × (wide ≡ widest r
 abbrev μ-loop : tie.MeasureT-loop
 μ-loop rows most i n own wide₀ j₀ wide j = n - j
 
-mul-own : tie.Need-mul-own Inv-loop μ-loop
-mul-own c = omega arith
+returns : tie.Need-returns Inv-loop μ-loop
+returns c = widest-past _ _ _ _ (c .if1 .taken)
 
-element-copy-out-own : tie.Need-element-copy-out-own Inv-loop μ-loop
-element-copy-out-own c = omega arith
+returns-2 : tie.Need-returns-2 Inv-loop μ-loop
+returns-2 c = widest-long _ _ _ _ (c .if2 .taken)
 
 loop-holds : tie.Need-loop-holds Inv-loop μ-loop
 loop-holds c = (omega arith, widest-start _ _ _)
 
-mul-narrowed : tie.Need-mul-narrowed Inv-loop μ-loop
-mul-narrowed c = omega arith
-
-element-copy-out-narrowed : tie.Need-element-copy-out-narrowed Inv-loop μ-loop
-element-copy-out-narrowed c = omega arith
-
-narrowed-requires : tie.Need-narrowed-requires Inv-loop μ-loop
-narrowed-requires c κs = search needs
-
-add-j : tie.Need-add-j Inv-loop μ-loop
-add-j c = omega arith
-
-loop-less : tie.Need-loop-less Inv-loop μ-loop
-loop-less c = omega arith
-
 loop-again : tie.Need-loop-again Inv-loop μ-loop
 loop-again c = (omega arith, widest-more _ _ _ _ _ _ (c .before .before .before .loop .inv .1) (c .narrowed .ensures))
 
-returns : tie.Need-returns Inv-loop μ-loop
-returns c = let e : c .before .loop .j ≡ c .before .before .before .args .n = omega arith in c .before .loop .inv .1 ∙ ap (widest _ _ _) e
+returns-3 : tie.Need-returns-3 Inv-loop μ-loop
+returns-3 c =
+    let two = c .before .before .before in
+    let s = two .before .before in
+    let e : c .before .loop .j ≡ s .args .n = omega arith in
+    c .before .loop .inv .1 ∙ ap (widest _ _ _) e ∙ sym (widest-in _ _ _ _ (two .before .if1 .left) (two .if2 .left))
 
 pub widest-spec : {M : Type 1} → statement M
 widest-spec =
@@ -50,13 +39,15 @@ widest-spec =
     (tie.spec
     Inv-loop
     μ-loop
-    mul-own
-    element-copy-out-own
+    returns
+    returns-2
+    (λ c. omega arith)
+    (λ c. omega arith)
     loop-holds
-    mul-narrowed
-    element-copy-out-narrowed
-    narrowed-requires
-    add-j
-    loop-less
+    (λ c. omega arith)
+    (λ c. omega arith)
+    (λ c κs. search needs)
+    (λ c. omega arith)
+    (λ c. omega arith)
     loop-again
-    returns)
+    returns-3)

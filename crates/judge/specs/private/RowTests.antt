@@ -1,12 +1,13 @@
 -- The tests that the judges' private steps compute. No public promise mentions them: that they decide the definitions is proved in
 -- proofs/NestedTest.antt and proofs/WidestTest.antt.
-use mathlib.Core.Bool.{Bool, _||_, cond}
+use mathlib.Core.Bool.{Bool, _||_}
 use mathlib.Core.List.{List}
-use Prim.Native.Nat.{ℕ, zero, suc}
+use Prim.Native.Nat.{ℕ}
 use lib.Dec.{eqb}
-use Rattle.sets.specs.Sets.{meet, isSubset, isProperSubset}
+use Rattle.sets.specs.Sets.{isSubset}
 use Rattle.sets.specs.Lists.{allBelow}
 use Rattle.table.specs.Pairs.{row}
+use Rattle.judge.specs.WidestRows.{widest}
 
 -- one of two sets includes the other
 unfoldable pub nested : ℕ → ℕ → Bool
@@ -18,15 +19,6 @@ nestedWith s n i = allBelow (λ j. nested (row s i) (row s j)) n
 
 unfoldable pub allNested : List ℕ → ℕ → Bool
 allNested s n = allBelow (nestedWith s n) n
-
--- x narrowed to the set b where b strictly contains a
-unfoldable pub narrowed : ℕ → ℕ → ℕ → ℕ
-narrowed x a b = cond (isProperSubset a b) (meet x b) x
-
--- the widest that row i of s can be: the table's row x, narrowed to each of the first n rows that strictly contain it
-unfoldable pub widest : List ℕ → ℕ → ℕ → ℕ → ℕ
-widest s x i zero = x
-widest s x i (suc n) = narrowed (widest s x i n) (row s i) (row s n)
 
 -- each of the first n rows is the widest it can be
 unfoldable pub allWidest : List ℕ → List ℕ → ℕ → Bool

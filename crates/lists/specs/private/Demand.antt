@@ -8,48 +8,42 @@ use mathlib.Core.List.{List, _∷_, _++_, List·Memᴰ}
 use Prim.Native.Nat.{ℕ, _≤_}
 use lib.ListN.{length}
 use Rattle.table.specs.declared.Table.{Table}
-use Rattle.rules.specs.Machine.{fresh}
-use Rattle.rules.specs.Calls.{handed, end, Call, mostBudget, handouts, movesUntil, isHandOut, isHandOutOrEnd}
-use Rattle.rules.specs.Keeping.{kept}
+use Rattle.rules.specs.Machine.{State, Move, fresh}
+use Rattle.rules.specs.Calls.{handed, end, Call, mostBudget, callsBy, handouts, movesUntil, isHandOut, isHandOutOrEnd}
+use Rattle.rules.specs.Keeping.{keptSets}
 use Rattle.rules.specs.private.Reports.{EachCall, Only18, WholeBy, SpentBy}
 use Rattle.lists.specs.Lists.{Side, PreferredList}
-use Rattle.lists.specs.OnTable.{handOut, moveOn, callsOn}
-use Rattle.lists.specs.Keeping.{keepingOn, callsKeeping}
+use Rattle.lists.specs.OnTable.{handOut, moveOn}
+use Rattle.lists.specs.Keeping.{keepingOn}
 use Rattle.lists.specs.Demand.{startLimit, gapLimit, mostSets}
 
-pub record Demand (t : Table) (s : Side) (o : List ℕ) (bs : List ℕ) (cs : List Call) : Type 0 where
+-- by any rule mv for moves; `of` has what a run by it hands out of the side's list
+pub record HandsBy (mv : State → Move) (of : List (List ℕ) → List (List ℕ)) (t : Table) (s : Side) (o : List ℕ) (bs : List ℕ) (cs : List Call)
+    : Type 0 where
   -- a call is refused exactly when its budget is above 1,000,000, and then with 18; it changes nothing
   pub only18 : EachCall Only18 bs fresh cs
-  -- any other call makes its whole budget of moves unless a hand-out or an end stops it first
-  pub whole : EachCall (λ b x c. b ≤ mostBudget → WholeBy (moveOn s o) (handOut s) b x c) bs fresh cs
+  -- any other call makes its whole budget of moves unless a hand-out or an end stops it first; an omitted set does not stop it
+  pub whole : EachCall (λ b x c. b ≤ mostBudget → WholeBy mv (handOut s) b x c) bs fresh cs
   -- "It answers "spent" exactly when as many moves as the budget were made and none was a hand-out or an end."
-  pub spent : EachCall (λ b x c. b ≤ mostBudget → SpentBy (moveOn s o) b x c) bs fresh cs
+  pub spent : EachCall (λ b x c. b ≤ mostBudget → SpentBy mv b x c) bs fresh cs
   -- "Rules 1 to 5, carried on from the fresh start for the same budgets alone, also give each call's answer, its moves and its ladder"
-  pub rules : cs ≡ callsOn s o bs
-  -- the side's list; those handed out are a front of it, and all of it once a call has answered end
+  pub rules : cs ≡ callsBy mv (handOut s) bs fresh
+  -- the side's list; what is handed out is a front of what the run hands out of it, in its order, and all of that once a call has answered end
   pub list : List (List ℕ)
   pub listed : PreferredList t s o list
-  pub few : length list ≤ mostSets t
-  pub front : (rest : List (List ℕ)) × (handouts cs ++ rest ≡ list)
-  pub complete : (c : Call) → List·Memᴰ c cs → c .answer ≡ end → handouts cs ≡ list
+  pub front : (rest : List (List ℕ)) × (handouts cs ++ rest ≡ of list)
+  pub complete : (c : Call) → List·Memᴰ c cs → c .answer ≡ end → handouts cs ≡ of list
+
+-- of runs that hand out the whole list, which is not long, and soon
+pub record Demand (t : Table) (s : Side) (o : List ℕ) (bs : List ℕ) (cs : List Call) : Type 0 where
+  pub hands : HandsBy (moveOn s o) (λ l. l) t s o bs cs
+  pub few : length (hands .list) ≤ mostSets t
   -- the moves from the start up to and with the first hand-out, or so far
   pub start : movesUntil isHandOut cs ≤ startLimit (s .count)
   -- the moves after a hand-out up to and with the next hand-out or the first end, or so far
   pub gap : (sooner later : List Call) (c : Call) (y : List ℕ) → cs ≡ sooner ++ (c ∷ later) → c .answer ≡ handed y
       → movesUntil isHandOutOrEnd later ≤ gapLimit (s .count)
 
--- the same of the runs that omit (02, R-2): what holds of the list bs of budgets, any numbers, and the list cs of calls made with them from the fresh start
-pub record DemandKeeping (t : Table) (s : Side) (o : List ℕ) (keep : List ℕ → Bool) (bs : List ℕ) (cs : List Call) : Type 0 where
-  -- a call is refused exactly when its budget is above 1,000,000, and then with 18; it changes nothing
-  pub only18 : EachCall Only18 bs fresh cs
-  -- any other call makes its whole budget of moves unless a hand-out or an end stops it first; an omitted set does not stop it
-  pub whole : EachCall (λ b x c. b ≤ mostBudget → WholeBy (keepingOn s o keep) (handOut s) b x c) bs fresh cs
-  -- "spent" exactly when as many moves as the budget were made and none was a hand-out or an end; at an omitted set there is none
-  pub spent : EachCall (λ b x c. b ≤ mostBudget → SpentBy (keepingOn s o keep) b x c) bs fresh cs
-  -- rules 1 to 5 for the same budgets give each call's answer, its moves and its ladder
-  pub rules : cs ≡ callsKeeping s o keep bs
-  -- the side's list; the sets handed out are a front of its kept part, in its order, and all of that once a call has answered end
-  pub list : List (List ℕ)
-  pub listed : PreferredList t s o list
-  pub front : (rest : List (List ℕ)) × (handouts cs ++ rest ≡ kept keep list)
-  pub complete : (c : Call) → List·Memᴰ c cs → c .answer ≡ end → handouts cs ≡ kept keep list
+-- of runs that omit (02, R-2)
+abbrev pub DemandKeeping : Table → Side → List ℕ → (List ℕ → Bool) → List ℕ → List Call → Type 0
+DemandKeeping t s o keep bs cs = HandsBy (keepingOn s o keep) (keptSets keep) t s o bs cs

@@ -6,12 +6,6 @@ use borrow.Author.Needs.{needs}
 use Rattle.preference.proofs.check.Statement.{statement}
 use Rattle.preference.proofs.check.Tie as tie
 
-check-table-requires : tie.Need-check-table-requires
-check-table-requires c κs = search needs
-
-enum-known-checked : tie.Need-enum-known-checked
-enum-known-checked c = search needs
-
 returns : tie.Need-returns
 returns c =
     let k = c .before in
@@ -19,9 +13,6 @@ returns c =
 
 enum-told : tie.Need-enum-told
 enum-told c = search needs
-
-check-order-requires : tie.Need-check-order-requires
-check-order-requires c κs = search needs
 
 returns-2 : tie.Need-returns-2
 returns-2 c =
@@ -32,9 +23,9 @@ pub check-spec : {M : Type 1} → statement M
 check-spec =
     tie.close
     (tie.spec
-    check-table-requires
-    enum-known-checked
+    (λ c κs. search needs)
+    (λ c. search needs)
     returns
     enum-told
-    check-order-requires
+    (λ c κs. search needs)
     returns-2)

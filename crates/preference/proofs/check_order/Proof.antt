@@ -6,9 +6,6 @@ use borrow.Author.Needs.{needs}
 use Rattle.preference.proofs.check_order.Statement.{statement}
 use Rattle.preference.proofs.check_order.Tie as tie
 
-place-all-requires : tie.Need-place-all-requires
-place-all-requires c κs = search needs
-
 returns : tie.Need-returns
 returns c = order-refused _ _ _ (c .before .before .place-all .ensures) (not-true _ (c .if1 .taken))
 
@@ -16,4 +13,4 @@ returns-2 : tie.Need-returns-2
 returns-2 c = order-passes _ _ _ (c .before .before .place-all .ensures) (not-false _ (c .if1 .left))
 
 pub check-order-spec : {M : Type 1} → statement M
-check-order-spec = tie.close (tie.spec place-all-requires returns returns-2)
+check-order-spec = tie.close (tie.spec (λ c κs. search needs) returns returns-2)

@@ -19,24 +19,6 @@ loop-holds c = (omega arith, gathered-none _ _)
 returns : tie.Need-returns Inv-loop μ-loop
 returns c = gathered-all _ _ _ (c .before .before .loop .i) _ (c .before .before .loop .inv .1) (c .before .before .loop .inv .0) (inr (c .if1 .taken))
 
-element-copy-out-row-numbered : tie.Need-element-copy-out-row-numbered Inv-loop μ-loop
-element-copy-out-row-numbered c = omega arith
-
-row-numbered-requires : tie.Need-row-numbered-requires Inv-loop μ-loop
-row-numbered-requires c κs = search needs
-
-mul-out : tie.Need-mul-out Inv-loop μ-loop
-mul-out c = omega arith
-
-array-write-out : tie.Need-array-write-out Inv-loop μ-loop
-array-write-out c = omega arith
-
-add-i : tie.Need-add-i Inv-loop μ-loop
-add-i c = omega arith
-
-loop-less : tie.Need-loop-less Inv-loop μ-loop
-loop-less c = omega arith
-
 loop-again : tie.Need-loop-again Inv-loop μ-loop
 loop-again c = (omega arith, gathered-more _ _ _ _ (c .before .before .before .before .loop .inv .1) (omega arith) _ (c .row-numbered .ensures))
 
@@ -51,11 +33,11 @@ gather-spec =
     μ-loop
     loop-holds
     returns
-    element-copy-out-row-numbered
-    row-numbered-requires
-    mul-out
-    array-write-out
-    add-i
-    loop-less
+    (λ c. omega arith)
+    (λ c κs. search needs)
+    (λ c. omega arith)
+    (λ c. omega arith)
+    (λ c. omega arith)
+    (λ c. omega arith)
     loop-again
     returns-2)

@@ -14,17 +14,8 @@ Inv-loop order n lift strays₀ i₀ strays i = Counted n order strays i
 abbrev μ-loop : tie.MeasureT-loop
 μ-loop order n lift strays₀ i₀ strays i = 64 - i
 
-lift-of-requires : tie.Need-lift-of-requires Inv-loop μ-loop
-lift-of-requires c κs = search needs
-
 loop-holds : tie.Need-loop-holds Inv-loop μ-loop
 loop-holds c = counted-none _ _
-
-element-copy-out-if1 : tie.Need-element-copy-out-if1 Inv-loop μ-loop
-element-copy-out-if1 c = omega arith
-
-cast-plain-number : tie.Need-cast-plain-number Inv-loop μ-loop
-cast-plain-number c = omega arith
 
 plain-number-requires : tie.Need-plain-number-requires Inv-loop μ-loop
 plain-number-requires c κs = (omega arith, omega arith)
@@ -36,26 +27,11 @@ due p =
     let t = p .before .before in
     lifted-at _ _ _ _ (t .loop-test .taken) (t .before .before .lift-of .ensures) (p .plain-number .ensures)
 
-add-strays : tie.Need-add-strays Inv-loop μ-loop
-add-strays c = omega arith
-
-add-i : tie.Need-add-i Inv-loop μ-loop
-add-i c = omega arith
-
-loop-less : tie.Need-loop-less Inv-loop μ-loop
-loop-less c = omega arith
-
 loop-again : tie.Need-loop-again Inv-loop μ-loop
 loop-again c =
     let p = c .before in
     let t = p .before .before in
     counted-stray _ _ _ _ _ (t .before .loop .inv) (t .loop-test .taken) (due p) (c .if1 .taken)
-
-add-i-2 : tie.Need-add-i-2 Inv-loop μ-loop
-add-i-2 c = omega arith
-
-loop-less-2 : tie.Need-loop-less-2 Inv-loop μ-loop
-loop-less-2 c = omega arith
 
 loop-again-2 : tie.Need-loop-again-2 Inv-loop μ-loop
 loop-again-2 c =
@@ -72,16 +48,16 @@ is-plain-spec =
     (tie.spec
     Inv-loop
     μ-loop
-    lift-of-requires
+    (λ c κs. search needs)
     loop-holds
-    element-copy-out-if1
-    cast-plain-number
+    (λ c. omega arith)
+    (λ c. omega arith)
     plain-number-requires
-    add-strays
-    add-i
-    loop-less
+    (λ c. omega arith)
+    (λ c. omega arith)
+    (λ c. omega arith)
     loop-again
-    add-i-2
-    loop-less-2
+    (λ c. omega arith)
+    (λ c. omega arith)
     loop-again-2
     returns)

@@ -6,12 +6,6 @@ use Rattle.preference.proofs.PlainOrder.{plain-front, plain-rest}
 use Rattle.preference.proofs.plain_number.Statement.{statement}
 use Rattle.preference.proofs.plain_number.Tie as tie
 
-add-if1 : tie.Need-add-if1
-add-if1 c = search needs
-
-add-result : tie.Need-add-result
-add-result c = search needs
-
 returns : tie.Need-returns
 returns c = plain-front _ _ _ (omega (arith, c .if1 .taken)) refl
 
@@ -19,4 +13,4 @@ returns-2 : tie.Need-returns-2
 returns-2 c = plain-rest _ _ (omega (arith, c .if1 .left))
 
 pub plain-number-spec : {M : Type 1} → statement M
-plain-number-spec = tie.close (tie.spec add-if1 add-result returns returns-2)
+plain-number-spec = tie.close (tie.spec (λ c. search needs) (λ c. search needs) returns returns-2)

@@ -15,26 +15,11 @@ Inv-loop n lift numbers₀ i₀ numbers i = Filled (plainAt n) 64 numbers i
 abbrev μ-loop : tie.MeasureT-loop
 μ-loop n lift numbers₀ i₀ numbers i = 64 - i
 
-lift-of-requires : tie.Need-lift-of-requires Inv-loop μ-loop
-lift-of-requires c κs = search needs
-
 loop-holds : tie.Need-loop-holds Inv-loop μ-loop
 loop-holds c = filled-none _ _ _ refl
 
-cast-plain-number : tie.Need-cast-plain-number Inv-loop μ-loop
-cast-plain-number c = omega arith
-
 plain-number-requires : tie.Need-plain-number-requires Inv-loop μ-loop
 plain-number-requires c κs = (omega arith, omega arith)
-
-array-write-numbers : tie.Need-array-write-numbers Inv-loop μ-loop
-array-write-numbers c = omega arith
-
-add-i : tie.Need-add-i Inv-loop μ-loop
-add-i c = omega arith
-
-loop-less : tie.Need-loop-less Inv-loop μ-loop
-loop-less c = omega arith
 
 loop-again : tie.Need-loop-again Inv-loop μ-loop
 loop-again c =
@@ -51,12 +36,12 @@ plain-numbers-spec =
     (tie.spec
     Inv-loop
     μ-loop
-    lift-of-requires
+    (λ c κs. search needs)
     loop-holds
-    cast-plain-number
+    (λ c. omega arith)
     plain-number-requires
-    array-write-numbers
-    add-i
-    loop-less
+    (λ c. omega arith)
+    (λ c. omega arith)
+    (λ c. omega arith)
     loop-again
     returns)

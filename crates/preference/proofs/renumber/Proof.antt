@@ -24,21 +24,6 @@ loop-holds c = (omega arith, renumbered-none _ _ _ (picks-length c))
 returns : tie.Need-returns Inv-loop μ-loop
 returns c = renumbered-all _ _ _ _ (c .before .before .loop .i) (c .before .before .loop .inv .1) (c .before .before .loop .inv .0) (inr (c .if1 .taken))
 
-array-read-renumber-pick : tie.Need-array-read-renumber-pick Inv-loop μ-loop
-array-read-renumber-pick c = omega arith
-
-renumber-pick-requires : tie.Need-renumber-pick-requires Inv-loop μ-loop
-renumber-pick-requires c κs = search needs
-
-array-write-out : tie.Need-array-write-out Inv-loop μ-loop
-array-write-out c = omega arith
-
-add-i : tie.Need-add-i Inv-loop μ-loop
-add-i c = omega arith
-
-loop-less : tie.Need-loop-less Inv-loop μ-loop
-loop-less c = omega arith
-
 loop-again : tie.Need-loop-again Inv-loop μ-loop
 loop-again c = (omega arith, renumbered-more _ _ _ _ _ (c .before .before .before .loop .inv .1) (omega arith) _ (c .renumber-pick .ensures))
 
@@ -53,10 +38,10 @@ renumber-spec =
     μ-loop
     loop-holds
     returns
-    array-read-renumber-pick
-    renumber-pick-requires
-    array-write-out
-    add-i
-    loop-less
+    (λ c. omega arith)
+    (λ c κs. search needs)
+    (λ c. omega arith)
+    (λ c. omega arith)
+    (λ c. omega arith)
     loop-again
     returns-2)

@@ -1,6 +1,5 @@
 -- `preference::renumber_pick` meets its contract.
 use borrow.Author.Needs.{needs}
-use native.Mathlib.Omega.{arith}
 use mathlib.Core.Path.{refl}
 use Rattle.preference.proofs.Gathering.{one-zero, one-large, one-past, one-in}
 use borrow.Author.Needs.{needs}
@@ -16,15 +15,9 @@ returns-2 c = one-large _ _ _ _ (c .before .if1 .left) (c .if2 .taken) refl
 returns-3 : tie.Need-returns-3
 returns-3 c = one-past _ _ _ (c .before .before .if1 .left) (c .before .if2 .left) (c .if3 .taken)
 
-sub-result : tie.Need-sub-result
-sub-result c = search needs
-
-element-copy-out-result : tie.Need-element-copy-out-result
-element-copy-out-result c = search needs
-
 returns-4 : tie.Need-returns-4
 returns-4 c = one-in _ _ _ _ (c .before .before .before .if1 .left) (c .before .before .if2 .left) (c .before .if3 .left) refl
 
 pub renumber-pick-spec : {M : Type 1} → statement M
 renumber-pick-spec =
-    tie.close (tie.spec returns returns-2 returns-3 sub-result element-copy-out-result returns-4)
+    tie.close (tie.spec returns returns-2 returns-3 (λ c. search needs) (λ c. search needs) returns-4)

@@ -6,12 +6,6 @@ use Rattle.recorded.proofs.Checking.{test-listed, test-fits, test-range
 use Rattle.recorded.proofs.check_test.Statement.{statement}
 use Rattle.recorded.proofs.check_test.Tie as tie
 
-check-table-requires : tie.Need-check-table-requires
-check-table-requires c κs = search needs
-
-enum-known-checked : tie.Need-enum-known-checked
-enum-known-checked c = search needs
-
 returns : tie.Need-returns
 returns c =
     test-listed _ (c .before .checked .given .0 .0)
@@ -20,21 +14,12 @@ returns c =
 enum-told : tie.Need-enum-told
 enum-told c = search needs
 
-readable-requires : tie.Need-readable-requires
-readable-requires c κs = search needs
-
-readings-fit-requires : tie.Need-readings-fit-requires
-readings-fit-requires c κs = search needs
-
 returns-2 : tie.Need-returns-2
 returns-2 c =
     test-fits _
     (verdict-accepted _ _ (c .before .before .before .before .before .enum-told .given .1)
     (c .before .before .before .before .before .before .before .check-table .ensures)) _ (c .before .before .before .before .readable .ensures) _
     (c .before .readings-fit .ensures) (not-true _ (c .if1 .taken))
-
-readings-within-requires : tie.Need-readings-within-requires
-readings-within-requires c κs = search needs
 
 returns-3 : tie.Need-returns-3
 returns-3 c =
@@ -56,13 +41,13 @@ pub check-test-spec : {M : Type 1} → statement M
 check-test-spec =
     tie.close
     (tie.spec
-    check-table-requires
-    enum-known-checked
+    (λ c κs. search needs)
+    (λ c. search needs)
     returns
     enum-told
-    readable-requires
-    readings-fit-requires
+    (λ c κs. search needs)
+    (λ c κs. search needs)
     returns-2
-    readings-within-requires
+    (λ c κs. search needs)
     returns-3
     returns-4)

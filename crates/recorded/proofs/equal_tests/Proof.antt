@@ -27,15 +27,6 @@ second-entries c = search needs
 second-readings : (c : tie.Start) → length (c .args .b .readings) ≡ 4096
 second-readings c = search needs
 
-check-test-requires : tie.Need-check-test-requires
-check-test-requires c κs = search needs
-
-enum-known-first : tie.Need-enum-known-first
-enum-known-first c = search needs
-
-refuse-compared-requires : tie.Need-refuse-compared-requires
-refuse-compared-requires c κs = search needs
-
 returns : tie.Need-returns
 returns c =
     let k = c .before .before in
@@ -45,27 +36,12 @@ returns c =
 enum-told : tie.Need-enum-told
 enum-told c = search needs
 
-check-test-requires-2 : tie.Need-check-test-requires-2
-check-test-requires-2 c κs = search needs
-
-enum-known-second : tie.Need-enum-known-second
-enum-known-second c = search needs
-
-refuse-compared-requires-2 : tie.Need-refuse-compared-requires-2
-refuse-compared-requires-2 c κs = search needs
-
 returns-2 : tie.Need-returns-2
 returns-2 c =
     let k = c .before .before in
     let d = k .before .before in
     second-refused _ _ (passed (d .before)) (k .second .given .0 .0) (verdict-refused _ _ _ (k .second .given .1) (d .check-test2 .ensures)) _
     (c .refuse-compared2 .ensures)
-
-enum-told-2 : tie.Need-enum-told-2
-enum-told-2 c = search needs
-
-same-parts-requires : tie.Need-same-parts-requires
-same-parts-requires c κs = search needs
 
 returns-3 : tie.Need-returns-3
 returns-3 c =
@@ -78,15 +54,15 @@ pub equal-tests-spec : {M : Type 1} → statement M
 equal-tests-spec =
     tie.close
     (tie.spec
-    check-test-requires
-    enum-known-first
-    refuse-compared-requires
+    (λ c κs. search needs)
+    (λ c. search needs)
+    (λ c κs. search needs)
     returns
     enum-told
-    check-test-requires-2
-    enum-known-second
-    refuse-compared-requires-2
+    (λ c κs. search needs)
+    (λ c. search needs)
+    (λ c κs. search needs)
     returns-2
-    enum-told-2
-    same-parts-requires
+    (λ c. search needs)
+    (λ c κs. search needs)
     returns-3)

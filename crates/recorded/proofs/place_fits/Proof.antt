@@ -5,14 +5,8 @@ use Rattle.recorded.proofs.Turns.{fits-zero, fits-bit}
 use Rattle.recorded.proofs.place_fits.Statement.{statement}
 use Rattle.recorded.proofs.place_fits.Tie as tie
 
-magnitude-requires : tie.Need-magnitude-requires
-magnitude-requires c κs = search needs
-
 returns : tie.Need-returns
 returns c = fits-zero _ _ _ _ _ (toZ-ofZ (c .before .before .fits .v)) (c .before .magnitude .ensures) (c .if1 .taken)
-
-has-requires : tie.Need-has-requires
-has-requires c κs = search needs
 
 returns-2 : tie.Need-returns-2
 returns-2 c =
@@ -20,4 +14,4 @@ returns-2 c =
     (c .has .ensures)
 
 pub place-fits-spec : {M : Type 1} → statement M
-place-fits-spec = tie.close (tie.spec magnitude-requires returns has-requires returns-2)
+place-fits-spec = tie.close (tie.spec (λ c κs. search needs) returns (λ c κs. search needs) returns-2)

@@ -6,14 +6,8 @@ use Rattle.recorded.proofs.Turns.{reaches-not, reaches-by}
 use Rattle.recorded.proofs.reaches.Statement.{statement}
 use Rattle.recorded.proofs.reaches.Tie as tie
 
-has-requires : tie.Need-has-requires
-has-requires c κs = search needs
-
 returns : tie.Need-returns
 returns c = reaches-not _ _ _ _ _ (c .before .has .ensures) (not-true _ (c .if1 .taken))
-
-magnitude-requires : tie.Need-magnitude-requires
-magnitude-requires c κs = search needs
 
 returns-2 : tie.Need-returns-2
 returns-2 c =
@@ -21,4 +15,4 @@ returns-2 c =
     (c .magnitude .ensures)
 
 pub reaches-spec : {M : Type 1} → statement M
-reaches-spec = tie.close (tie.spec has-requires returns magnitude-requires returns-2)
+reaches-spec = tie.close (tie.spec (λ c κs. search needs) returns (λ c κs. search needs) returns-2)

@@ -25,37 +25,13 @@ mul-p c = record { fits = omega arith }
 add-p : tie.Need-add-p Inv-loop μ-loop
 add-p c = record { fits = omega arith }
 
-mul-v : tie.Need-mul-v Inv-loop μ-loop
-mul-v c = omega arith
-
-element-copy-out-v : tie.Need-element-copy-out-v Inv-loop μ-loop
-element-copy-out-v c = omega arith
-
-reaches-requires : tie.Need-reaches-requires Inv-loop μ-loop
-reaches-requires c κs = search needs
-
-shl-set : tie.Need-shl-set Inv-loop μ-loop
-shl-set c = omega arith
-
 add-set : tie.Need-add-set Inv-loop μ-loop
 add-set c = record { fits = below-room _ _ _ (c .before .before .before .before .loop .inv) (c .before .before .before .loop-test .taken) }
-
-add-k : tie.Need-add-k Inv-loop μ-loop
-add-k c = omega arith
-
-loop-less : tie.Need-loop-less Inv-loop μ-loop
-loop-less c = omega arith
 
 loop-again : tie.Need-loop-again Inv-loop μ-loop
 loop-again c =
     below-in _ _ _ (c .before .before .before .before .loop .inv) (c .before .before .before .loop-test .taken) _
     (c .before .reaches .ensures ∙ ap (reaches _ _ _) (toZ-ofZ (sfits-of (c .before .before .v .given)))) (c .if1 .taken)
-
-add-k-2 : tie.Need-add-k-2 Inv-loop μ-loop
-add-k-2 c = omega arith
-
-loop-less-2 : tie.Need-loop-less-2 Inv-loop μ-loop
-loop-less-2 c = omega arith
 
 loop-again-2 : tie.Need-loop-again-2 Inv-loop μ-loop
 loop-again-2 c =
@@ -75,15 +51,15 @@ reaching-row-spec =
     loop-holds
     mul-p
     add-p
-    mul-v
-    element-copy-out-v
-    reaches-requires
-    shl-set
+    (λ c. omega arith)
+    (λ c. omega arith)
+    (λ c κs. search needs)
+    (λ c. omega arith)
     add-set
-    add-k
-    loop-less
+    (λ c. omega arith)
+    (λ c. omega arith)
     loop-again
-    add-k-2
-    loop-less-2
+    (λ c. omega arith)
+    (λ c. omega arith)
     loop-again-2
     returns)

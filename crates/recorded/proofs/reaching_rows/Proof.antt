@@ -17,26 +17,8 @@ abbrev μ-loop : tie.MeasureT-loop
 loop-holds : tie.Need-loop-holds Inv-loop μ-loop
 loop-holds c = filled-none _ 64 _ (length-replicate {A = ℕ} 64 0)
 
-mul-entry : tie.Need-mul-entry Inv-loop μ-loop
-mul-entry c = omega arith
-
-element-copy-out-entry : tie.Need-element-copy-out-entry Inv-loop μ-loop
-element-copy-out-entry c = omega arith
-
 reaching-row-requires : tie.Need-reaching-row-requires Inv-loop μ-loop
 reaching-row-requires c κs = (c .before .loop-test .taken, c .before .before .before .pre .1)
-
-mul-rows : tie.Need-mul-rows Inv-loop μ-loop
-mul-rows c = omega arith
-
-array-write-rows : tie.Need-array-write-rows Inv-loop μ-loop
-array-write-rows c = omega arith
-
-add-i : tie.Need-add-i Inv-loop μ-loop
-add-i c = omega arith
-
-loop-less : tie.Need-loop-less Inv-loop μ-loop
-loop-less c = omega arith
 
 loop-again : tie.Need-loop-again Inv-loop μ-loop
 loop-again c = filled-more (c .reaching-row .result) (c .before .before .before .loop .inv) (c .before .before .loop-test .taken) (c .reaching-row .ensures)
@@ -51,12 +33,12 @@ reaching-rows-spec =
     Inv-loop
     μ-loop
     loop-holds
-    mul-entry
-    element-copy-out-entry
+    (λ c. omega arith)
+    (λ c. omega arith)
     reaching-row-requires
-    mul-rows
-    array-write-rows
-    add-i
-    loop-less
+    (λ c. omega arith)
+    (λ c. omega arith)
+    (λ c. omega arith)
+    (λ c. omega arith)
     loop-again
     returns)

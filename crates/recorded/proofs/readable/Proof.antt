@@ -7,9 +7,6 @@ use Rattle.recorded.proofs.readable.Tie as tie
 enum-told : tie.Need-enum-told
 enum-told c = search needs
 
-enum-told-2 : tie.Need-enum-told-2
-enum-told-2 c = search needs
-
 returns : tie.Need-returns
 returns c = readable-none _ _ (c .enum-told .given .1)
 
@@ -17,4 +14,4 @@ returns-2 : tie.Need-returns-2
 returns-2 c = readable-all _ _ (c .enum-told2 .given .1)
 
 pub readable-spec : {M : Type 1} → statement M
-readable-spec = tie.close (tie.spec enum-told enum-told-2 returns returns-2)
+readable-spec = tie.close (tie.spec enum-told (λ c. search needs) returns returns-2)

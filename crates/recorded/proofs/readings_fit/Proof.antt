@@ -23,31 +23,10 @@ abbrev μ-loop : tie.MeasureT-loop
 loop-holds : tie.Need-loop-holds Inv-loop μ-loop
 loop-holds c = (omega arith, all-none _)
 
-mul-v : tie.Need-mul-v Inv-loop μ-loop
-mul-v c = omega arith
-
-element-copy-out-v : tie.Need-element-copy-out-v Inv-loop μ-loop
-element-copy-out-v c = omega arith
-
-mul-place-fits : tie.Need-mul-place-fits Inv-loop μ-loop
-mul-place-fits c = omega arith
-
-element-copy-out-place-fits : tie.Need-element-copy-out-place-fits Inv-loop μ-loop
-element-copy-out-place-fits c = omega arith
-
-place-fits-requires : tie.Need-place-fits-requires Inv-loop μ-loop
-place-fits-requires c κs = search needs
-
 returns : tie.Need-returns Inv-loop μ-loop
 returns c =
     all-fails _ 4096 _ _ (c .before .before .before .before .loop-test .taken)
     (fits-place _ _ _ _ _ (toZ-ofZ (sfits-of (c .before .before .before .v .given))) (c .before .place-fits .ensures)) (not-true _ (c .if1 .taken))
-
-add-p : tie.Need-add-p Inv-loop μ-loop
-add-p c = omega arith
-
-loop-less : tie.Need-loop-less Inv-loop μ-loop
-loop-less c = omega arith
 
 loop-again : tie.Need-loop-again Inv-loop μ-loop
 loop-again c = (
@@ -66,13 +45,13 @@ readings-fit-spec =
     Inv-loop
     μ-loop
     loop-holds
-    mul-v
-    element-copy-out-v
-    mul-place-fits
-    element-copy-out-place-fits
-    place-fits-requires
+    (λ c. omega arith)
+    (λ c. omega arith)
+    (λ c. omega arith)
+    (λ c. omega arith)
+    (λ c κs. search needs)
     returns
-    add-p
-    loop-less
+    (λ c. omega arith)
+    (λ c. omega arith)
     loop-again
     returns-2)

@@ -4,20 +4,8 @@ use Rattle.recorded.proofs.Checking.{rows-integer}
 use Rattle.recorded.proofs.rows_at.Statement.{statement}
 use Rattle.recorded.proofs.rows_at.Tie as tie
 
-enum-told : tie.Need-enum-told
-enum-told c = search needs
-
-enum-told-2 : tie.Need-enum-told-2
-enum-told-2 c = search needs
-
-reaching-rows-requires : tie.Need-reaching-rows-requires
-reaching-rows-requires c κs = search needs
-
-returns : tie.Need-returns
-returns c = search needs
-
 returns-2 : tie.Need-returns-2
 returns-2 c = rows-integer _ _ _ _ _ (c .before .before .before .enum-told2 .given .1) (c .reaching-rows .ensures)
 
 pub rows-at-spec : {M : Type 1} → statement M
-rows-at-spec = tie.close (tie.spec enum-told enum-told-2 reaching-rows-requires returns returns-2)
+rows-at-spec = tie.close (tie.spec (λ c. search needs) (λ c. search needs) (λ c κs. search needs) (λ c. search needs) returns-2)

@@ -1,9 +1,12 @@
 -- `recorded::same_readings` meets its contract: what is passed agrees.
+use mathlib.Core.List.{List}
 use Prim.Native.Nat.{_-_}
 use native.Mathlib.Omega.{arith}
 use borrow.Author.Needs.{sfits-of}
-use lib.IntN.{pos}
-use Rattle.recorded.proofs.Equal.{bits-is, bits-not, Agreeing, agree-none, agree-more, same-all, same-not}
+use lib.IntN.{ℤ, pos}
+use lib.ListN.{getD}
+use Rattle.table.proofs.Agreement.{part-differs, Agreeing, agree-none, agree-more}
+use Rattle.recorded.proofs.Equal.{bits-is, bits-not, same-all}
 use Rattle.recorded.proofs.same_readings.Statement.{statement}
 use Rattle.recorded.proofs.same_readings.Tie as tie
 
@@ -16,26 +19,8 @@ abbrev μ-loop : tie.MeasureT-loop
 loop-holds : tie.Need-loop-holds Inv-loop μ-loop
 loop-holds c = agree-none (pos 0) 4096 _ _
 
-mul-x : tie.Need-mul-x Inv-loop μ-loop
-mul-x c = omega arith
-
-element-copy-out-x : tie.Need-element-copy-out-x Inv-loop μ-loop
-element-copy-out-x c = omega arith
-
-mul-y : tie.Need-mul-y Inv-loop μ-loop
-mul-y c = omega arith
-
-element-copy-out-y : tie.Need-element-copy-out-y Inv-loop μ-loop
-element-copy-out-y c = omega arith
-
 returns : tie.Need-returns Inv-loop μ-loop
-returns c = same-not (pos 0) _ _ (c .before .before .before .before .loop .p) (bits-not _ _ (c .if1 .taken))
-
-add-p : tie.Need-add-p Inv-loop μ-loop
-add-p c = omega arith
-
-loop-less : tie.Need-loop-less Inv-loop μ-loop
-loop-less c = omega arith
+returns c = let l = c .before .before .before .before in part-differs (λ (x : List ℤ). getD x (l .loop .p) (pos 0)) _ _ (bits-not _ _ (c .if1 .taken))
 
 loop-again : tie.Need-loop-again Inv-loop μ-loop
 loop-again c =
@@ -52,12 +37,12 @@ same-readings-spec =
     Inv-loop
     μ-loop
     loop-holds
-    mul-x
-    element-copy-out-x
-    mul-y
-    element-copy-out-y
+    (λ c. omega arith)
+    (λ c. omega arith)
+    (λ c. omega arith)
+    (λ c. omega arith)
     returns
-    add-p
-    loop-less
+    (λ c. omega arith)
+    (λ c. omega arith)
     loop-again
     returns-2)

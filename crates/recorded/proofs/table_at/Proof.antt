@@ -26,25 +26,10 @@ claimed : (c : tie.Start) (r : Made) → made r ≡ tableAt (c .args .t) (c .arg
     → (made r ≡ tableAt (c .args .t) (c .args .cutoff)) × (verdict (r .verdict) ≡ 0 → CutoffClaims (c .args .t) (c .args .cutoff) (r .table .rows))
 claimed c r e = (e, cutoff-claims (c .args .t) (entries-length c) (readings-length c) (c .args .cutoff) r e)
 
-in-range-requires : tie.Need-in-range-requires
-in-range-requires c κs = search needs
-
-refuse-requires : tie.Need-refuse-requires
-refuse-requires c κs = search needs
-
 returns : tie.Need-returns
 returns c =
     claimed (c .before .before .before) (c .refuse .result)
     (c .refuse .ensures ∙ answer-refused CutoffRange _ _ _ (cutoff-out _ _ _ (c .before .before .in-range .ensures) (not-true _ (c .before .if1 .taken))))
-
-check-test-requires : tie.Need-check-test-requires
-check-test-requires c κs = search needs
-
-enum-known-checked : tie.Need-enum-known-checked
-enum-known-checked c = search needs
-
-refuse-requires-2 : tie.Need-refuse-requires-2
-refuse-requires-2 c κs = search needs
 
 returns-2 : tie.Need-returns-2
 returns-2 c =
@@ -56,9 +41,6 @@ returns-2 c =
 
 enum-told : tie.Need-enum-told
 enum-told c = search needs
-
-rows-at-requires : tie.Need-rows-at-requires
-rows-at-requires c κs = search needs
 
 returns-3 : tie.Need-returns-3
 returns-3 c =
@@ -74,13 +56,13 @@ pub table-at-spec : {M : Type 1} → statement M
 table-at-spec =
     tie.close
     (tie.spec
-    in-range-requires
-    refuse-requires
+    (λ c κs. search needs)
+    (λ c κs. search needs)
     returns
-    check-test-requires
-    enum-known-checked
-    refuse-requires-2
+    (λ c κs. search needs)
+    (λ c. search needs)
+    (λ c κs. search needs)
     returns-2
     enum-told
-    rows-at-requires
+    (λ c κs. search needs)
     returns-3)

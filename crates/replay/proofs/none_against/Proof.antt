@@ -17,12 +17,6 @@ abbrev μ-loop : tie.MeasureT-loop
 loop-holds : tie.Need-loop-holds Inv-loop μ-loop
 loop-holds c = passed-none _ _ _ refl
 
-first-requires : tie.Need-first-requires Inv-loop μ-loop
-first-requires c κs = search needs
-
-rest-requires : tie.Need-rest-requires Inv-loop μ-loop
-rest-requires c κs = search needs
-
 -- the place that a turn looks at
 lowest : (c : tie.After-first Inv-loop μ-loop) → Lowest (c .before .before .loop .rest) (c .first .result)
 lowest c = c .first .ensures .some (c .before .loop-test .taken)
@@ -32,9 +26,6 @@ mul-against c = omega (arith, lowest (c .before))
 
 element-copy-out-against : tie.Need-element-copy-out-against Inv-loop μ-loop
 element-copy-out-against c = lowest (c .before) .below
-
-against-requires : tie.Need-against-requires Inv-loop μ-loop
-against-requires c κs = search needs
 
 -- from a turn's answer back to its place, and to its start
 abbrev place : tie.After-against Inv-loop μ-loop → tie.After-first Inv-loop μ-loop
@@ -64,11 +55,11 @@ none-against-spec =
     Inv-loop
     μ-loop
     loop-holds
-    first-requires
-    rest-requires
+    (λ c κs. search needs)
+    (λ c κs. search needs)
     mul-against
     element-copy-out-against
-    against-requires
+    (λ c κs. search needs)
     returns
     loop-less
     loop-again

@@ -17,35 +17,20 @@ Inv-loop rows n picks count unpicked₀ left₀ before₀ last₀ i₀ unpicked 
 abbrev μ-loop : tie.MeasureT-loop
 μ-loop rows n picks count unpicked₀ left₀ before₀ last₀ i₀ unpicked left before last i = count - i
 
-not-replayed-requires : tie.Need-not-replayed-requires Inv-loop μ-loop
-not-replayed-requires c κs = search needs
-
 returns : tie.Need-returns Inv-loop μ-loop
 returns c = replays-no _ _ _ _ _ (c .not-replayed .ensures) (λ p h. omega (arith, picked-few _ _ _ _ p h))
-
-lowest-requires : tie.Need-lowest-requires Inv-loop μ-loop
-lowest-requires c κs = search needs
 
 loop-holds : tie.Need-loop-holds Inv-loop μ-loop
 loop-holds c = (omega arith, low-none _ _ (c .lowest .ensures), going-none _ _ _ _ _ _ (c .lowest .ensures) (sym full-is) (sym full-is))
 
-element-copy-out-wide : tie.Need-element-copy-out-wide Inv-loop μ-loop
-element-copy-out-wide c = omega arith
-
-wide-requires : tie.Need-wide-requires Inv-loop μ-loop
-wide-requires c κs = search needs
-
-not-replayed-requires-2 : tie.Need-not-replayed-requires-2 Inv-loop μ-loop
-not-replayed-requires-2 c κs = search needs
-
 -- the places of a turn, one from the other: its start, its test, the number, whether that is unpicked, its row, and what is judged
-abbrev turn : tie.After-wide Inv-loop μ-loop → tie.At-loop Inv-loop μ-loop
+abbrev turn : tie.After-index Inv-loop μ-loop → tie.At-loop Inv-loop μ-loop
 turn c = c .before .before .before
 
-abbrev tested : tie.After-wide Inv-loop μ-loop → tie.In-loop Inv-loop μ-loop
+abbrev tested : tie.After-index Inv-loop μ-loop → tie.In-loop Inv-loop μ-loop
 tested c = c .before .before
 
-abbrev number : tie.After-has Inv-loop μ-loop → tie.After-wide Inv-loop μ-loop
+abbrev number : tie.After-has Inv-loop μ-loop → tie.After-index Inv-loop μ-loop
 number c = c .before .before
 
 abbrev unpicked-of : tie.After-row Inv-loop μ-loop → tie.After-has Inv-loop μ-loop
@@ -55,24 +40,15 @@ abbrev row-of : tie.After-judge Inv-loop μ-loop → tie.After-row Inv-loop μ-l
 row-of c = c .before .before
 
 -- the number's place is among the 64
-place-low : (c : tie.Else3 Inv-loop μ-loop) → number (c .before) .wide .result - 1 < 64
+place-low : (c : tie.Else3 Inv-loop μ-loop) → number (c .before) .index .result - 1 < 64
 place-low c = turn (number (c .before)) .loop .inv .1 _ (sym (c .before .has .ensures) ∙ not-false _ (c .if3 .left))
 
 returns-2 : tie.Need-returns-2 Inv-loop μ-loop
 returns-2 c =
     let w = c .before .before in
     let l = turn w .loop in
-    replays-no _ _ _ _ _ (c .not-replayed2 .ensures) (λ p h. bad-zero _ _ _ _ _ _ _ (l .i) (l .inv .2) _ _ (tested w .loop-test .taken) (w .wide .ensures) p h
+    replays-no _ _ _ _ _ (c .not-replayed2 .ensures) (λ p h. bad-zero _ _ _ _ _ _ _ (l .i) (l .inv .2) _ _ (tested w .loop-test .taken) (w .index .ensures) p h
     (c .before .if2 .taken))
-
-sub-g : tie.Need-sub-g Inv-loop μ-loop
-sub-g c = omega arith
-
-has-requires : tie.Need-has-requires Inv-loop μ-loop
-has-requires c κs = search needs
-
-not-replayed-requires-3 : tie.Need-not-replayed-requires-3 Inv-loop μ-loop
-not-replayed-requires-3 c κs = search needs
 
 returns-3 : tie.Need-returns-3 Inv-loop μ-loop
 returns-3 c =
@@ -80,7 +56,7 @@ returns-3 c =
     let w = number b in
     let l = turn w .loop in
     replays-no _ _ _ _ _ (c .not-replayed3 .ensures) (λ p h.
-    bad-place _ _ _ _ _ _ _ (l .i) (l .inv .2) _ _ (tested w .loop-test .taken) (w .wide .ensures) p h _ refl _ (b .has .ensures)
+    bad-place _ _ _ _ _ _ _ (l .i) (l .inv .2) _ _ (tested w .loop-test .taken) (w .index .ensures) p h _ refl _ (b .has .ensures)
     (not-true _ (c .before .if3 .taken)))
 
 mul-row : tie.Need-mul-row Inv-loop μ-loop
@@ -89,21 +65,12 @@ mul-row c = omega (arith, place-low c)
 element-copy-out-row : tie.Need-element-copy-out-row Inv-loop μ-loop
 element-copy-out-row c = place-low c
 
-not-replayed-requires-4 : tie.Need-not-replayed-requires-4 Inv-loop μ-loop
-not-replayed-requires-4 c κs = search needs
-
 returns-4 : tie.Need-returns-4 Inv-loop μ-loop
 returns-4 c =
     let w = number (unpicked-of (c .before .before)) in
     let l = turn w .loop in
     replays-no _ _ _ _ _ (c .not-replayed4 .ensures) (λ p h.
-    bad-empty _ _ _ _ _ _ _ (l .i) (l .inv .2) _ _ (tested w .loop-test .taken) (w .wide .ensures) p h _ refl _ refl (c .before .if4 .taken))
-
-judge-requires : tie.Need-judge-requires Inv-loop μ-loop
-judge-requires c κs = search needs
-
-not-replayed-requires-5 : tie.Need-not-replayed-requires-5 Inv-loop μ-loop
-not-replayed-requires-5 c κs = search needs
+    bad-empty _ _ _ _ _ _ _ (l .i) (l .inv .2) _ _ (tested w .loop-test .taken) (w .index .ensures) p h _ refl _ refl (c .before .if4 .taken))
 
 returns-5 : tie.Need-returns-5 Inv-loop μ-loop
 returns-5 c =
@@ -111,17 +78,8 @@ returns-5 c =
     let w = number (unpicked-of (row-of j)) in
     let l = turn w .loop in
     replays-no _ _ _ _ _ (c .not-replayed5 .ensures) (λ p h.
-    bad-judge _ _ _ _ _ _ _ (l .i) (l .inv .2) _ _ (tested w .loop-test .taken) (w .wide .ensures) p h _ refl _ refl _ (j .judge .ensures)
+    bad-judge _ _ _ _ _ _ _ (l .i) (l .inv .2) _ _ (tested w .loop-test .taken) (w .index .ensures) p h _ refl _ refl _ (j .judge .ensures)
     (not-true _ (c .before .if5 .taken)))
-
-without-requires : tie.Need-without-requires Inv-loop μ-loop
-without-requires c κs = search needs
-
-add-i : tie.Need-add-i Inv-loop μ-loop
-add-i c = omega arith
-
-loop-less : tie.Need-loop-less Inv-loop μ-loop
-loop-less c = omega arith
 
 loop-again : tie.Need-loop-again Inv-loop μ-loop
 loop-again c =
@@ -131,16 +89,10 @@ loop-again c =
     let l = turn w .loop in (
       omega arith,
       low-more _ _ _ (l .inv .1) (c .without .ensures),
-      going-more _ _ _ _ _ _ _ (l .i) (l .inv .2) _ _ _ (w .wide .ensures) (b .before .if2 .left) refl _ (b .has .ensures)
+      going-more _ _ _ _ _ _ _ (l .i) (l .inv .2) _ _ _ (w .index .ensures) (b .before .if2 .left) refl _ (b .has .ensures)
           (not-false _ (row-of j .before .if3 .left)) refl
           (j .before .if4 .left) _ (j .judge .ensures) (not-false _ (c .before .if5 .left)) _ (c .without .ensures),
     )
-
-none-against-requires : tie.Need-none-against-requires Inv-loop μ-loop
-none-against-requires c κs = search needs
-
-not-replayed-requires-6 : tie.Need-not-replayed-requires-6 Inv-loop μ-loop
-not-replayed-requires-6 c κs = search needs
 
 -- the end of the loop
 abbrev last-turn : tie.After-none-against Inv-loop μ-loop → tie.At-loop Inv-loop μ-loop
@@ -169,30 +121,30 @@ replay-spec =
     (tie.spec
     Inv-loop
     μ-loop
-    not-replayed-requires
+    (λ c κs. search needs)
     returns
-    lowest-requires
+    (λ c κs. search needs)
     loop-holds
-    element-copy-out-wide
-    wide-requires
-    not-replayed-requires-2
+    (λ c. omega arith)
+    (λ c κs. search needs)
+    (λ c κs. search needs)
     returns-2
-    sub-g
-    has-requires
-    not-replayed-requires-3
+    (λ c. omega arith)
+    (λ c κs. search needs)
+    (λ c κs. search needs)
     returns-3
     mul-row
     element-copy-out-row
-    not-replayed-requires-4
+    (λ c κs. search needs)
     returns-4
-    judge-requires
-    not-replayed-requires-5
+    (λ c κs. search needs)
+    (λ c κs. search needs)
     returns-5
-    without-requires
-    add-i
-    loop-less
+    (λ c κs. search needs)
+    (λ c. omega arith)
+    (λ c. omega arith)
     loop-again
-    none-against-requires
-    not-replayed-requires-6
+    (λ c κs. search needs)
+    (λ c κs. search needs)
     returns-6
     returns-7)

@@ -54,9 +54,6 @@ module _ (kids : List ℕ → List ℕ) where
   abbrev pub Quiet : ℕ → State → Type 0
   Quiet k x = QuietBy (move kids) k x
 
-  abbrev pub lastOf : ℕ → State → Given
-  lastOf k x = lastBy (move kids) k x
-
   abbrev pub Whole : (List ℕ → List ℕ) → ℕ → State → Call → Type 0
   Whole out b x c = WholeBy (move kids) out b x c
 

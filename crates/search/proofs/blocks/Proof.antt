@@ -5,9 +5,6 @@ use Rattle.search.proofs.SearchLoops.{blocks-out, blocks-more, blocks-s
 use Rattle.search.proofs.blocks.Statement.{statement}
 use Rattle.search.proofs.blocks.Tie as tie
 
-subset-requires : tie.Need-subset-requires
-subset-requires c κs = search needs
-
 returns : tie.Need-returns
 returns c = blocks-out _ _ _ _ (c .before .subset .ensures) (not-true _ (c .if1 .taken))
 
@@ -18,4 +15,4 @@ returns-3 : tie.Need-returns-3
 returns-3 c = blocks-same _ _ _ _ (c .before .before .subset .ensures) (not-false _ (c .before .if1 .left)) (c .if2 .left)
 
 pub blocks-spec : {M : Type 1} → statement M
-blocks-spec = tie.close (tie.spec subset-requires returns returns-2 returns-3)
+blocks-spec = tie.close (tie.spec (λ c κs. search needs) returns returns-2 returns-3)

@@ -7,9 +7,6 @@ use Rattle.search.proofs.Within.{of-absent}
 use Rattle.search.proofs.is_candidate_of.Statement.{statement}
 use Rattle.search.proofs.is_candidate_of.Tie as tie
 
-has-requires : tie.Need-has-requires
-has-requires c κs = search needs
-
 returns : tie.Need-returns
 returns c = of-absent _ _ _ _ (sym (c .before .has .ensures) ∙ not-true _ (c .if1 .taken))
 
@@ -22,4 +19,4 @@ returns-2 : tie.Need-returns-2
 returns-2 c = c .stands .ensures
 
 pub is-candidate-of-spec : {M : Type 1} → statement M
-is-candidate-of-spec = tie.close (tie.spec has-requires returns stands-requires returns-2)
+is-candidate-of-spec = tie.close (tie.spec (λ c κs. search needs) returns stands-requires returns-2)

@@ -15,17 +15,8 @@ Inv-loop rows set left from rest₀ rest = Passed (λ (i : ℕ). candidateIn (wi
 abbrev μ-loop : tie.MeasureT-loop
 μ-loop rows set left from rest₀ rest = rest
 
-upper-requires : tie.Need-upper-requires Inv-loop μ-loop
-upper-requires c κs = search needs
-
 loop-holds : tie.Need-loop-holds Inv-loop μ-loop
 loop-holds c = passed-none _ _ _ refl
-
-first-requires : tie.Need-first-requires Inv-loop μ-loop
-first-requires c κs = search needs
-
-rest-requires : tie.Need-rest-requires Inv-loop μ-loop
-rest-requires c κs = search needs
 
 -- the place that a turn looks at, and from a turn's answer back to it and to its start
 lowest : (c : tie.After-first Inv-loop μ-loop) → Lowest (c .before .before .loop .rest) (c .first .result)
@@ -64,10 +55,10 @@ next-candidate-of-spec =
     (tie.spec
     Inv-loop
     μ-loop
-    upper-requires
+    (λ c κs. search needs)
     loop-holds
-    first-requires
-    rest-requires
+    (λ c κs. search needs)
+    (λ c κs. search needs)
     stands-requires
     returns
     loop-less

@@ -19,23 +19,11 @@ Inv-loop rows set left g own rest₀ rest = Passed (λ (h : ℕ). blocks (bitAnd
 abbrev μ-loop : tie.MeasureT-loop
 μ-loop rows set left g own rest₀ rest = rest
 
-mul-own : tie.Need-mul-own Inv-loop μ-loop
-mul-own c = omega arith
-
-element-copy-out-own : tie.Need-element-copy-out-own Inv-loop μ-loop
-element-copy-out-own c = omega arith
-
 returns : tie.Need-returns Inv-loop μ-loop
 returns c = of-empty _ _ _ _ (c .before .before .pre .0) (c .before .before .pre .1) (c .if1 .taken)
 
 loop-holds : tie.Need-loop-holds Inv-loop μ-loop
 loop-holds c = passed-none _ _ _ refl
-
-first-requires : tie.Need-first-requires Inv-loop μ-loop
-first-requires c κs = search needs
-
-rest-requires : tie.Need-rest-requires Inv-loop μ-loop
-rest-requires c κs = search needs
 
 -- the place that a turn looks at, and from a turn's answer back to it, to its start and to the gauge
 lowest : (c : tie.After-first Inv-loop μ-loop) → Lowest (c .before .before .loop .rest) (c .first .result)
@@ -55,9 +43,6 @@ mul-blocks c = omega (arith, lowest (c .before))
 
 element-copy-out-blocks : tie.Need-element-copy-out-blocks Inv-loop μ-loop
 element-copy-out-blocks c = lowest (c .before) .below
-
-blocks-requires : tie.Need-blocks-requires Inv-loop μ-loop
-blocks-requires c κs = search needs
 
 returns-2 : tie.Need-returns-2 Inv-loop μ-loop
 returns-2 c =
@@ -86,15 +71,15 @@ stands-spec =
     (tie.spec
     Inv-loop
     μ-loop
-    mul-own
-    element-copy-out-own
+    (λ c. omega arith)
+    (λ c. omega arith)
     returns
     loop-holds
-    first-requires
-    rest-requires
+    (λ c κs. search needs)
+    (λ c κs. search needs)
     mul-blocks
     element-copy-out-blocks
-    blocks-requires
+    (λ c κs. search needs)
     returns-2
     loop-less
     loop-again

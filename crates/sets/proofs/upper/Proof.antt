@@ -7,14 +7,8 @@ use Rattle.sets.proofs.upper.Tie as tie
 returns : tie.Need-returns
 returns c = upper-past _ _ (c .before .fits .a .fits) (c .if1 .taken)
 
-shr-result : tie.Need-shr-result
-shr-result c = search needs
-
-shl-result : tie.Need-shl-result
-shl-result c = search needs
-
 returns-2 : tie.Need-returns-2
 returns-2 c = rw (shifted (c .before .args .a) (c .before .args .k) (c .before .fits .a .fits)) (upper-of _ _)
 
 pub upper-spec : {M : Type 1} → statement M
-upper-spec = tie.close (tie.spec returns shr-result shl-result returns-2)
+upper-spec = tie.close (tie.spec returns (λ c. search needs) (λ c. search needs) returns-2)

@@ -8,12 +8,9 @@ use Rattle.sets.proofs.with.Tie as tie
 returns : tie.Need-returns
 returns c = with-past _ _ (c .if1 .taken)
 
-shl-result : tie.Need-shl-result
-shl-result c = search needs
-
 returns-2 : tie.Need-returns-2
 unfolding join
 returns-2 c = rw (power _ (c .if1 .left)) (with-of _ _ (c .if1 .left))
 
 pub with-spec : {M : Type 1} → statement M
-with-spec = tie.close (tie.spec returns shl-result returns-2)
+with-spec = tie.close (tie.spec returns (λ c. search needs) returns-2)

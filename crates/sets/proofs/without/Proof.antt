@@ -6,9 +6,6 @@ use Rattle.sets.proofs.OnePlace.{power, in-places, large, without-of, w
 use Rattle.sets.proofs.without.Statement.{statement}
 use Rattle.sets.proofs.without.Tie as tie
 
-has-requires : tie.Need-has-requires
-has-requires c κs = search needs
-
 returns : tie.Need-returns
 returns c = without-absent _ _ (sym (c .before .has .ensures) ∙ not-true _ (c .if1 .taken))
 
@@ -26,4 +23,4 @@ returns-2 c =
     (without-of _ _ (sym (c .before .has .ensures) ∙ not-false _ (c .if1 .left)))
 
 pub without-spec : {M : Type 1} → statement M
-without-spec = tie.close (tie.spec has-requires returns shl-result sub-result returns-2)
+without-spec = tie.close (tie.spec (λ c κs. search needs) returns shl-result sub-result returns-2)

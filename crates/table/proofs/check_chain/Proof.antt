@@ -11,12 +11,6 @@ use Rattle.table.proofs.check_chain.Tie as tie
 passes : (c : tie.After-enum-told) → tableRefusal (c .before .before .before .args .t) ≡ 0
 passes c = verdict-accepted _ _ (c .enum-told .given .1) (c .before .before .check-table .ensures)
 
-check-table-requires : tie.Need-check-table-requires
-check-table-requires c κs = search needs
-
-enum-known-checked : tie.Need-enum-known-checked
-enum-known-checked c = search needs
-
 returns : tie.Need-returns
 returns c =
     let k = c .before in
@@ -27,9 +21,6 @@ enum-told c = search needs
 
 returns-2 : tie.Need-returns-2
 returns-2 c = no-count _ _ (passes (c .before .before .before)) (c .if1 .taken)
-
-rows-within-requires : tie.Need-rows-within-requires
-rows-within-requires c κs = search needs
 
 returns-3 : tie.Need-returns-3
 returns-3 c =
@@ -45,11 +36,11 @@ pub check-chain-spec : {M : Type 1} → statement M
 check-chain-spec =
     tie.close
     (tie.spec
-    check-table-requires
-    enum-known-checked
+    (λ c κs. search needs)
+    (λ c. search needs)
     returns
     enum-told
     returns-2
-    rows-within-requires
+    (λ c κs. search needs)
     returns-3
     returns-4)

@@ -1,10 +1,12 @@
--- `table::refuse` meets its contract: what it makes is the refusal's number with the blank table, part by part.
-use mathlib.Core.Path.{refl}
+-- `table::refuse` meets its contract: beside the refusal's number stands the blank table.
+use mathlib.Core.Path.{ap}
+use Rattle.refusals.specs.Answers.{refused}
+use borrow.Author.Needs.{needs}
 use Rattle.table.proofs.refuse.Statement.{statement}
 use Rattle.table.proofs.refuse.Tie as tie
 
 returns : tie.Need-returns
-returns c = refl
+returns c = ap (refused (c .before .args .why)) (c .blank-table .ensures)
 
 pub refuse-spec : {M : Type 1} → statement M
-refuse-spec = tie.close (tie.spec returns)
+refuse-spec = tie.close (tie.spec (λ c κs. search needs) returns)

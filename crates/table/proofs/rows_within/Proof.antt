@@ -19,31 +19,10 @@ abbrev μ-loop : tie.MeasureT-loop
 loop-holds : tie.Need-loop-holds Inv-loop μ-loop
 loop-holds c = (omega arith, refl)
 
-mul-subset : tie.Need-mul-subset Inv-loop μ-loop
-mul-subset c = omega arith
-
-element-copy-out-subset : tie.Need-element-copy-out-subset Inv-loop μ-loop
-element-copy-out-subset c = omega arith
-
-mul-subset-2 : tie.Need-mul-subset-2 Inv-loop μ-loop
-mul-subset-2 c = omega arith
-
-element-copy-out-subset-2 : tie.Need-element-copy-out-subset-2 Inv-loop μ-loop
-element-copy-out-subset-2 c = omega arith
-
-subset-requires : tie.Need-subset-requires Inv-loop μ-loop
-subset-requires c κs = search needs
-
 returns : tie.Need-returns Inv-loop μ-loop
 returns c =
     let l = c .before .before .before .before .before in
     within-no _ _ (l .loop .i) _ _ (omega arith) (omega arith) (l .loop .inv .1) (c .before .subset .ensures) (not-true _ (c .if1 .taken))
-
-add-i : tie.Need-add-i Inv-loop μ-loop
-add-i c = omega arith
-
-loop-less : tie.Need-loop-less Inv-loop μ-loop
-loop-less c = omega arith
 
 loop-again : tie.Need-loop-again Inv-loop μ-loop
 loop-again c =
@@ -60,13 +39,13 @@ rows-within-spec =
     Inv-loop
     μ-loop
     loop-holds
-    mul-subset
-    element-copy-out-subset
-    mul-subset-2
-    element-copy-out-subset-2
-    subset-requires
+    (λ c. omega arith)
+    (λ c. omega arith)
+    (λ c. omega arith)
+    (λ c. omega arith)
+    (λ c κs. search needs)
     returns
-    add-i
-    loop-less
+    (λ c. omega arith)
+    (λ c. omega arith)
     loop-again
     returns-2)

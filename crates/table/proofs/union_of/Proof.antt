@@ -1,43 +1,27 @@
--- `table::union_of` meets its contract: what is seen joined with the union of the rows to come is the whole union.
+-- `table::union_of` meets its contract: what is seen is the union of the rows passed.
 use Prim.Native.Nat.{_≤_, _-_}
 use mathlib.Core.Path.{_≡_}
 use native.Mathlib.Omega.{arith}
-use lib.Seq.{slice}
-use Rattle.sets.specs.Sets.{join}
-use Rattle.sets.proofs.Joins.{none-join}
-use Rattle.table.specs.private.Unions.{union}
-use Rattle.table.proofs.CheckLoops.{union-more, union-done}
+use borrow.Author.Needs.{needs}
+use Rattle.table.specs.Unions.{unionFrom}
+use Rattle.table.proofs.Unions.{union-start, union-more, union-done}
 use Rattle.table.proofs.union_of.Statement.{statement}
 use Rattle.table.proofs.union_of.Tie as tie
 
 abbrev Inv-loop : tie.InvT-loop
-Inv-loop rows from to seen₀ i₀ seen i = (i ≤ to) × (join seen (union (slice i to rows)) ≡ union (slice from to rows))
+Inv-loop rows from to last seen₀ i₀ seen i = (from ≤ i) × (i - from ≤ last - from) × (seen ≡ unionFrom rows from (i - from))
 
 abbrev μ-loop : tie.MeasureT-loop
-μ-loop rows from to seen₀ i₀ seen i = to - i
+μ-loop rows from to last seen₀ i₀ seen i = last - i
 
 loop-holds : tie.Need-loop-holds Inv-loop μ-loop
-loop-holds c = (omega arith, none-join _)
-
-mul-seen : tie.Need-mul-seen Inv-loop μ-loop
-mul-seen c = omega arith
-
-element-copy-out-seen : tie.Need-element-copy-out-seen Inv-loop μ-loop
-element-copy-out-seen c = omega arith
-
-add-i : tie.Need-add-i Inv-loop μ-loop
-add-i c = omega arith
-
-loop-less : tie.Need-loop-less Inv-loop μ-loop
-loop-less c = omega arith
+loop-holds c = (omega arith, omega arith, union-start _ _)
 
 loop-again : tie.Need-loop-again Inv-loop μ-loop
-loop-again c =
-    let l = c .before .before in
-    (omega arith, union-more _ _ (l .before .args .to) _ _ (c .before .loop-test .taken) (omega arith) (l .loop .inv .1))
+loop-again c = let l = c .before .before .loop in (omega arith, omega arith, union-more _ _ (l .i) _ (l .inv .0) (l .inv .2))
 
 returns : tie.Need-returns Inv-loop μ-loop
-returns c = union-done _ (c .before .loop .i) (c .before .before .args .to) _ _ (omega arith) (c .before .loop .inv .1)
+returns c = let l = c .before in union-done _ _ _ _ (l .loop .i) _ (l .before .at-most-rows .ensures) (l .loop .inv .1) (c .loop-test .left) (l .loop .inv .2)
 
 pub union-of-spec : {M : Type 1} → statement M
 union-of-spec =
@@ -45,10 +29,11 @@ union-of-spec =
     (tie.spec
     Inv-loop
     μ-loop
+    (λ c κs. search needs)
     loop-holds
-    mul-seen
-    element-copy-out-seen
-    add-i
-    loop-less
+    (λ c. omega arith)
+    (λ c. omega arith)
+    (λ c. omega arith)
+    (λ c. omega arith)
     loop-again
     returns)

@@ -1,14 +1,10 @@
--- One row turned, as the private step of the code does it. No public promise mentions it.
+-- Columns put from a place of a buffer on.
 use mathlib.Core.Path.{_≡_}
-use mathlib.Core.Bool.{_&&_, _||_}
 use mathlib.Core.List.{List}
-use Prim.Native.Nat.{ℕ, _<_}
-use lib.Dec.{eqb}
-use lib.ListN.{length}
-use Rattle.sets.specs.Sets.{bit}
-use Rattle.table.specs.Pairs.{row}
+use Prim.Native.Nat.{ℕ}
+use lib.Seq.{sets as stored}
+use Rattle.transpose.specs.Transposing.{transpose}
 
--- t′ is t with place i put into the rows at the places of a set
-pub record Puts (set i : ℕ) (t t′ : List ℕ) : Type 0 where
-  pub size : length t′ ≡ 64
-  pub bits : (k j : ℕ) → k < 64 → bit (row t′ k) j ≡ (bit (row t k) j || (bit set k && eqb j i))
+-- the first k columns of the rows xs
+pub record Putting (xs before : List ℕ) (at k : ℕ) (now : List ℕ) : Type 0 where
+  pub words : now ≡ stored before at (transpose k xs)

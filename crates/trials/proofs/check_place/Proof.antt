@@ -11,12 +11,6 @@ use Rattle.trials.proofs.check_place.Tie as tie
 passed : (c : tie.After-enum-told) → tableRefusal (c .before .before .before .args .t) ≡ 0
 passed c = verdict-accepted _ _ (c .enum-told .given .1) (c .before .before .check-table .ensures)
 
-check-table-requires : tie.Need-check-table-requires
-check-table-requires c κs = search needs
-
-enum-known-checked : tie.Need-enum-known-checked
-enum-known-checked c = search needs
-
 returns : tie.Need-returns
 returns c =
     place-refused _ _ _ (c .before .checked .given .0 .0)
@@ -25,14 +19,8 @@ returns c =
 enum-told : tie.Need-enum-told
 enum-told c = search needs
 
-in-range-requires : tie.Need-in-range-requires
-in-range-requires c κs = search needs
-
 returns-2 : tie.Need-returns-2
 returns-2 c = place-no-gauge _ _ _ (passed (c .before .before)) _ (c .before .in-range .ensures) (not-true _ (c .if1 .taken))
-
-in-range-requires-2 : tie.Need-in-range-requires-2
-in-range-requires-2 c κs = search needs
 
 returns-3 : tie.Need-returns-3
 returns-3 c =
@@ -50,12 +38,12 @@ pub check-place-spec : {M : Type 1} → statement M
 check-place-spec =
     tie.close
     (tie.spec
-    check-table-requires
-    enum-known-checked
+    (λ c κs. search needs)
+    (λ c. search needs)
     returns
     enum-told
-    in-range-requires
+    (λ c κs. search needs)
     returns-2
-    in-range-requires-2
+    (λ c κs. search needs)
     returns-3
     returns-4)

@@ -31,15 +31,6 @@ told d = d .before .before .before .before
 accepted : (k : tie.After-enum-told2) → verdict (k .before .before .trial .result .verdict) ≡ 0
 accepted k = ap verdict (k .enum-told2 .given .1)
 
-check-table-requires : tie.Need-check-table-requires
-check-table-requires c κs = search needs
-
-enum-known-checked : tie.Need-enum-known-checked
-enum-known-checked c = search needs
-
-refuse-requires : tie.Need-refuse-requires
-refuse-requires c κs = search needs
-
 returns : tie.Need-returns
 returns c =
     let k = c .before .before in
@@ -49,15 +40,6 @@ returns c =
 enum-told : tie.Need-enum-told
 enum-told c = search needs
 
-trial-requires : tie.Need-trial-requires
-trial-requires c κs = search needs
-
-enum-known-verdict : tie.Need-enum-known-verdict
-enum-known-verdict c = search needs
-
-refuse-requires-2 : tie.Need-refuse-requires-2
-refuse-requires-2 c κs = search needs
-
 returns-2 : tie.Need-returns-2
 returns-2 c =
     let k = c .before .before in
@@ -65,15 +47,6 @@ returns-2 c =
     let s = start (told d) in
     committed-trial _ _ _ (passed (told d)) (table-size s) (chain-size s) _ (d .trial .ensures)
     (rw (k .verdict .given .1) (number-pos (k .verdict .given .0 .0))) (c .refuse2 .ensures)
-
-enum-told-2 : tie.Need-enum-told-2
-enum-told-2 c = search needs
-
-same-proposal-requires : tie.Need-same-proposal-requires
-same-proposal-requires c κs = search needs
-
-refuse-requires-3 : tie.Need-refuse-requires-3
-refuse-requires-3 c κs = search needs
 
 returns-3 : tie.Need-returns-3
 returns-3 c =
@@ -103,18 +76,18 @@ pub commit-spec : {M : Type 1} → statement M
 commit-spec =
     tie.close
     (tie.spec
-    check-table-requires
-    enum-known-checked
-    refuse-requires
+    (λ c κs. search needs)
+    (λ c. search needs)
+    (λ c κs. search needs)
     returns
     enum-told
-    trial-requires
-    enum-known-verdict
-    refuse-requires-2
+    (λ c κs. search needs)
+    (λ c. search needs)
+    (λ c κs. search needs)
     returns-2
-    enum-told-2
-    same-proposal-requires
-    refuse-requires-3
+    (λ c. search needs)
+    (λ c κs. search needs)
+    (λ c κs. search needs)
     returns-3
     flip-requires
     returns-4)

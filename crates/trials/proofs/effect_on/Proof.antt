@@ -12,17 +12,8 @@ table-size c = search needs
 chain-size : (c : tie.Start) → length (c .args .s .rows) ≡ 64
 chain-size c = search needs
 
-judge-maximal-requires : tie.Need-judge-maximal-requires
-judge-maximal-requires c κs = search needs
-
 enum-told : tie.Need-enum-told
 enum-told c = search needs
-
-enum-told-2 : tie.Need-enum-told-2
-enum-told-2 c = search needs
-
-enum-told-3 : tie.Need-enum-told-3
-enum-told-3 c = search needs
 
 returns : tie.Need-returns
 returns c =
@@ -42,4 +33,4 @@ returns-3 c =
 pub effect-on-spec : {M : Type 1} → statement M
 effect-on-spec =
     tie.close
-    (tie.spec judge-maximal-requires enum-told enum-told-2 enum-told-3 returns returns-2 returns-3)
+    (tie.spec (λ c κs. search needs) enum-told (λ c. search needs) (λ c. search needs) returns returns-2 returns-3)

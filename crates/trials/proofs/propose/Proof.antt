@@ -4,14 +4,8 @@ use Rattle.trials.proofs.Effects.{shaped-of}
 use Rattle.trials.proofs.propose.Statement.{statement}
 use Rattle.trials.proofs.propose.Tie as tie
 
-flip-requires : tie.Need-flip-requires
-flip-requires c κs = search needs
-
 effect-on-requires : tie.Need-effect-on-requires
 effect-on-requires c κs = shaped-of _ _ _ (c .before .pre .0) _ (c .flip .ensures) _ (c .before .pre .1)
 
-returns : tie.Need-returns
-returns c = search needs
-
 pub propose-spec : {M : Type 1} → statement M
-propose-spec = tie.close (tie.spec flip-requires effect-on-requires returns)
+propose-spec = tie.close (tie.spec (λ c κs. search needs) effect-on-requires (λ c. search needs))

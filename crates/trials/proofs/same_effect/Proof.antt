@@ -4,14 +4,8 @@ use Rattle.trials.proofs.Comparing.{effect-by-number}
 use Rattle.trials.proofs.same_effect.Statement.{statement}
 use Rattle.trials.proofs.same_effect.Tie as tie
 
-effect-number-requires : tie.Need-effect-number-requires
-effect-number-requires c κs = search needs
-
-effect-number-requires-2 : tie.Need-effect-number-requires-2
-effect-number-requires-2 c κs = search needs
-
 returns : tie.Need-returns
 returns c = effect-by-number _ _ _ _ (c .before .effect-number .ensures) (c .effect-number2 .ensures)
 
 pub same-effect-spec : {M : Type 1} → statement M
-same-effect-spec = tie.close (tie.spec effect-number-requires effect-number-requires-2 returns)
+same-effect-spec = tie.close (tie.spec (λ c κs. search needs) (λ c κs. search needs) returns)

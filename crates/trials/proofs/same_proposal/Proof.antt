@@ -1,19 +1,14 @@
 -- `trials::same_proposal` meets its contract: a part that differs decides, and where none does the effects decide.
 use borrow.Author.Needs.{needs}
 use borrow.Author.Tests.{not-true, not-false}
+use Rattle.table.proofs.Agreement.{part-differs, part-unlike}
 use Rattle.trials.specs.declared.Proposal.{Proposal}
-use Rattle.trials.proofs.Comparing.{part-differs, part-unlike, proposal-by-effect}
+use Rattle.trials.proofs.Comparing.{proposal-by-effect}
 use Rattle.trials.proofs.same_proposal.Statement.{statement}
 use Rattle.trials.proofs.same_proposal.Tie as tie
 
-same-table-requires : tie.Need-same-table-requires
-same-table-requires c κs = search needs
-
 returns : tie.Need-returns
 returns c = part-unlike (λ (x : Proposal). x .table) _ _ _ (c .before .same-table .ensures) (not-true _ (c .if1 .taken))
-
-same-chain-requires : tie.Need-same-chain-requires
-same-chain-requires c κs = search needs
 
 returns-2 : tie.Need-returns-2
 returns-2 c = part-unlike (λ (x : Proposal). x .chain) _ _ _ (c .before .same-chain .ensures) (not-true _ (c .if2 .taken))
@@ -23,9 +18,6 @@ returns-3 c = part-differs (λ (x : Proposal). x .gauge .0) _ _ (c .if3 .taken)
 
 returns-4 : tie.Need-returns-4
 returns-4 c = part-differs (λ (x : Proposal). x .case .0) _ _ (c .if4 .taken)
-
-same-effect-requires : tie.Need-same-effect-requires
-same-effect-requires c κs = search needs
 
 returns-5 : tie.Need-returns-5
 returns-5 c =
@@ -40,11 +32,11 @@ pub same-proposal-spec : {M : Type 1} → statement M
 same-proposal-spec =
     tie.close
     (tie.spec
-    same-table-requires
+    (λ c κs. search needs)
     returns
-    same-chain-requires
+    (λ c κs. search needs)
     returns-2
     returns-3
     returns-4
-    same-effect-requires
+    (λ c κs. search needs)
     returns-5)

@@ -5,21 +5,12 @@ use Rattle.trials.proofs.Flips.{toggle-out, toggle-in}
 use Rattle.trials.proofs.toggled.Statement.{statement}
 use Rattle.trials.proofs.toggled.Tie as tie
 
-has-requires : tie.Need-has-requires
-has-requires c κs = search needs
-
-without-requires : tie.Need-without-requires
-without-requires c κs = search needs
-
 returns : tie.Need-returns
 returns c = toggle-out _ _ _ (sym (c .before .before .has .ensures) ∙ c .before .if1 .taken) (c .without .ensures)
-
-with-requires : tie.Need-with-requires
-with-requires c κs = search needs
 
 returns-2 : tie.Need-returns-2
 returns-2 c =
     toggle-in _ _ _ (c .before .before .before .pre) (sym (c .before .before .has .ensures) ∙ c .before .if1 .left) (c .with .ensures)
 
 pub toggled-spec : {M : Type 1} → statement M
-toggled-spec = tie.close (tie.spec has-requires without-requires returns with-requires returns-2)
+toggled-spec = tie.close (tie.spec (λ c κs. search needs) (λ c κs. search needs) returns (λ c κs. search needs) returns-2)

@@ -22,15 +22,6 @@ table-size c = search needs
 placed : (k : tie.After-enum-told) → Placed (start k .args .t) (start k .args .g .0) (start k .args .c .0)
 placed k = placed-of _ _ _ (table-size (start k)) (passed k)
 
-check-place-requires : tie.Need-check-place-requires
-check-place-requires c κs = search needs
-
-enum-known-checked : tie.Need-enum-known-checked
-enum-known-checked c = search needs
-
-refuse-requires : tie.Need-refuse-requires
-refuse-requires c κs = search needs
-
 returns : tie.Need-returns
 returns c =
     let k = c .before .before in
@@ -40,28 +31,10 @@ returns c =
 enum-told : tie.Need-enum-told
 enum-told c = search needs
 
-judge-maximal-requires : tie.Need-judge-maximal-requires
-judge-maximal-requires c κs = search needs
-
-enum-told-2 : tie.Need-enum-told-2
-enum-told-2 c = search needs
-
 propose-requires : tie.Need-propose-requires
 propose-requires c κs =
     let j = c .before .before in
     (placed (j .before), yes-passed _ _ _ _ (passed (j .before)) _ (j .judge-maximal .ensures) (c .enum-told2 .given .1))
-
-enum-told-3 : tie.Need-enum-told-3
-enum-told-3 c = search needs
-
-refuse-requires-2 : tie.Need-refuse-requires-2
-refuse-requires-2 c κs = search needs
-
-enum-known-judged : tie.Need-enum-known-judged
-enum-known-judged c = search needs
-
-refuse-requires-3 : tie.Need-refuse-requires-3
-refuse-requires-3 c κs = search needs
 
 returns-2 : tie.Need-returns-2
 returns-2 c =
@@ -83,18 +56,18 @@ pub trial-spec : {M : Type 1} → statement M
 trial-spec =
     tie.close
     (tie.spec
-    check-place-requires
-    enum-known-checked
-    refuse-requires
+    (λ c κs. search needs)
+    (λ c. search needs)
+    (λ c κs. search needs)
     returns
     enum-told
-    judge-maximal-requires
-    enum-told-2
+    (λ c κs. search needs)
+    (λ c. search needs)
     propose-requires
-    enum-told-3
-    refuse-requires-2
-    enum-known-judged
-    refuse-requires-3
+    (λ c. search needs)
+    (λ c κs. search needs)
+    (λ c. search needs)
+    (λ c κs. search needs)
     returns-2
     returns-3
     returns-4)

@@ -5,14 +5,8 @@ use borrow.Author.Needs.{needs}
 use Rattle.wiring.proofs.case_count.Statement.{statement}
 use Rattle.wiring.proofs.case_count.Tie as tie
 
-count-requires : tie.Need-count-requires
-count-requires c κs = search needs
-
-cast-result : tie.Need-cast-result
-cast-result c = search needs
-
 returns : tie.Need-returns
 returns c = (c .count .ensures, omega (arith, c .count .ensures, ones-le 64 (c .before .args .row) (omega arith)))
 
 pub case-count-spec : {M : Type 1} → statement M
-case-count-spec = tie.close (tie.spec count-requires cast-result returns)
+case-count-spec = tie.close (tie.spec (λ c κs. search needs) (λ c. search needs) returns)

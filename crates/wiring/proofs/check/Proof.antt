@@ -4,17 +4,8 @@ use Rattle.wiring.proofs.Checking.{chain-passes, chain-refused, chain-n
 use Rattle.wiring.proofs.check.Statement.{statement}
 use Rattle.wiring.proofs.check.Tie as tie
 
-judge-chain-requires : tie.Need-judge-chain-requires
-judge-chain-requires c κs = search needs
-
-enum-known-judged : tie.Need-enum-known-judged
-enum-known-judged c = search needs
-
 enum-told : tie.Need-enum-told
 enum-told c = search needs
-
-enum-told-2 : tie.Need-enum-told-2
-enum-told-2 c = search needs
 
 check-ladder-requires : tie.Need-check-ladder-requires
 check-ladder-requires c κs = chain-passes _ _ (c .before .before .before .args .ladder) _ (c .before .before .judge-chain .ensures) (c .enum-told2 .given .1)
@@ -32,10 +23,10 @@ pub check-spec : {M : Type 1} → statement M
 check-spec =
     tie.close
     (tie.spec
-    judge-chain-requires
-    enum-known-judged
+    (λ c κs. search needs)
+    (λ c. search needs)
     enum-told
-    enum-told-2
+    (λ c. search needs)
     check-ladder-requires
     returns
     returns-2

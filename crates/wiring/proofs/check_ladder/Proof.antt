@@ -20,17 +20,8 @@ ladder-size s = search needs
 abbrev start : tie.After-enum-told2 → tie.Start
 start c = c .before .before .before
 
-judge-maximal-requires : tie.Need-judge-maximal-requires
-judge-maximal-requires c κs = search needs
-
-enum-known-judged : tie.Need-enum-known-judged
-enum-known-judged c = search needs
-
 enum-told : tie.Need-enum-told
 enum-told c = search needs
-
-enum-told-2 : tie.Need-enum-told-2
-enum-told-2 c = search needs
 
 contains-requires : tie.Need-contains-requires
 contains-requires c κs = let s = start (c .before .before .before .before) in few-gauges _ _ (s .pre) (table-size s) (chain-size s)
@@ -59,10 +50,10 @@ pub check-ladder-spec : {M : Type 1} → statement M
 check-ladder-spec =
     tie.close
     (tie.spec
-    judge-maximal-requires
-    enum-known-judged
+    (λ c κs. search needs)
+    (λ c. search needs)
     enum-told
-    enum-told-2
+    (λ c. search needs)
     contains-requires
     returns
     returns-2

@@ -4,7 +4,7 @@ use mathlib.Core.Path.{_≡_}
 use mathlib.Core.Bool.{false}
 use native.Mathlib.Omega.{arith}
 use borrow.Author.Needs.{needs}
-use Rattle.orders.specs.private.Growing.{beyond}
+use Rattle.pair_orders.specs.private.Growing.{beyond}
 use Rattle.search.proofs.SearchLoops.{first-found, first-none, below-next}
 use Rattle.wiring.proofs.lowest_beyond.Statement.{statement}
 use Rattle.wiring.proofs.lowest_beyond.Tie as tie
@@ -18,19 +18,10 @@ abbrev μ-loop : tie.MeasureT-loop
 loop-holds : tie.Need-loop-holds Inv-loop μ-loop
 loop-holds c = (omega arith, λ i a b. absurd (omega arith))
 
-beyond-requires : tie.Need-beyond-requires Inv-loop μ-loop
-beyond-requires c κs = search needs
-
 returns : tie.Need-returns Inv-loop μ-loop
 returns c =
     first-found _ _ _ _ _ (omega arith) (c .before .before .loop-test .taken) (c .before .before .before .loop .inv .1) (c .before .beyond .ensures)
     (c .if1 .taken)
-
-add-k : tie.Need-add-k Inv-loop μ-loop
-add-k c = omega arith
-
-loop-less : tie.Need-loop-less Inv-loop μ-loop
-loop-less c = omega arith
 
 loop-again : tie.Need-loop-again Inv-loop μ-loop
 loop-again c = (omega arith, below-next _ _ _ _ (c .before .before .before .loop .inv .1) (c .before .beyond .ensures) (c .if1 .left))
@@ -45,9 +36,9 @@ lowest-beyond-spec =
     Inv-loop
     μ-loop
     loop-holds
-    beyond-requires
+    (λ c κs. search needs)
     returns
-    add-k
-    loop-less
+    (λ c. omega arith)
+    (λ c. omega arith)
     loop-again
     returns-2)

@@ -2,6 +2,7 @@
 use Prim.Native.Nat.{_<_, _≤_}
 use native.Mathlib.Omega.{arith}
 use borrow.Author.Needs.{needs}
+use Rattle.wiring.proofs.Rows.{widest-room}
 use Rattle.wiring.proofs.Placing.{row-in, next-place}
 use Rattle.wiring.proofs.next_pair.Statement.{statement}
 use Rattle.wiring.proofs.next_pair.Tie as tie
@@ -15,39 +16,28 @@ few c = c .before .pre .between .few
 next-row-requires : tie.Need-next-row-requires
 next-row-requires c κs = c .pre .between .few
 
-mul-room : tie.Need-mul-room
-mul-room c = search needs
-
-element-copy-out-room : tie.Need-element-copy-out-room
-element-copy-out-room c = omega (arith, low c, few c)
-
-room-requires : tie.Need-room-requires
-room-requires c κs = (few (c .before), omega (arith, low (c .before), few (c .before)))
-
-mul-lowest-beyond : tie.Need-mul-lowest-beyond
-mul-lowest-beyond c = search needs
+element-copy-out-widest : tie.Need-element-copy-out-widest
+element-copy-out-widest c = omega (arith, low c, few c)
 
 element-copy-out-lowest-beyond : tie.Need-element-copy-out-lowest-beyond
 element-copy-out-lowest-beyond c = omega (arith, low (c .before .before), few (c .before .before))
-
-lowest-beyond-requires : tie.Need-lowest-beyond-requires
-lowest-beyond-requires c κs = search needs
 
 returns : tie.Need-returns
 returns c =
     let r = c .before .before in
     let f = r .before .before in
-    next-place _ _ _ (f .before .pre .between) _ (f .next-row .ensures) (f .before .pre .missing) _ (r .room .ensures) _ (c .lowest-beyond .ensures)
+    next-place _ _ _ (f .before .pre .between) _ (f .next-row .ensures) (f .before .pre .missing) _
+    (widest-room _ _ _ _ _ (low f) (few f) (r .widest .ensures)) _ (c .lowest-beyond .ensures)
 
 pub next-pair-spec : {M : Type 1} → statement M
 next-pair-spec =
     tie.close
     (tie.spec
     next-row-requires
-    mul-room
-    element-copy-out-room
-    room-requires
-    mul-lowest-beyond
+    (λ c. search needs)
+    element-copy-out-widest
+    (λ c κs. search needs)
+    (λ c. search needs)
     element-copy-out-lowest-beyond
-    lowest-beyond-requires
+    (λ c κs. search needs)
     returns)

@@ -3,7 +3,7 @@ use Prim.Native.Nat.{_≤_, _-_, _*_}
 use mathlib.Core.Path.{_≡_, ap, _∙_}
 use native.Mathlib.Omega.{arith}
 use borrow.Author.Needs.{needs}
-use Rattle.orders.specs.private.Growing.{pairsIn}
+use Rattle.pair_orders.specs.private.Growing.{pairsIn}
 use Rattle.wiring.proofs.Rows.{pairs-none, pairs-more}
 use Rattle.wiring.proofs.pairs_in.Statement.{statement}
 use Rattle.wiring.proofs.pairs_in.Tie as tie
@@ -17,23 +17,8 @@ abbrev μ-loop : tie.MeasureT-loop
 loop-holds : tie.Need-loop-holds Inv-loop μ-loop
 loop-holds c = (omega arith, pairs-none _, omega arith)
 
-mul-case-count : tie.Need-mul-case-count Inv-loop μ-loop
-mul-case-count c = omega arith
-
-element-copy-out-case-count : tie.Need-element-copy-out-case-count Inv-loop μ-loop
-element-copy-out-case-count c = omega arith
-
-case-count-requires : tie.Need-case-count-requires Inv-loop μ-loop
-case-count-requires c κs = search needs
-
 add-total : tie.Need-add-total Inv-loop μ-loop
 add-total c = omega (arith, c .case-count .ensures .1)
-
-add-i : tie.Need-add-i Inv-loop μ-loop
-add-i c = omega arith
-
-loop-less : tie.Need-loop-less Inv-loop μ-loop
-loop-less c = omega arith
 
 loop-again : tie.Need-loop-again Inv-loop μ-loop
 loop-again c =
@@ -53,11 +38,11 @@ pairs-in-spec =
     Inv-loop
     μ-loop
     loop-holds
-    mul-case-count
-    element-copy-out-case-count
-    case-count-requires
+    (λ c. omega arith)
+    (λ c. omega arith)
+    (λ c κs. search needs)
     add-total
-    add-i
-    loop-less
+    (λ c. omega arith)
+    (λ c. omega arith)
     loop-again
     returns)

@@ -41,9 +41,6 @@ mul-with c = omega (arith, found c .row)
 array-read-with : tie.Need-array-read-with Inv-loop μ-loop
 array-read-with c = omega (arith, found c .row, few c)
 
-with-requires : tie.Need-with-requires Inv-loop μ-loop
-with-requires c κs = search needs
-
 mul-rows : tie.Need-mul-rows Inv-loop μ-loop
 mul-rows c = omega (arith, found (c .before) .row)
 
@@ -60,12 +57,6 @@ put-pair-requires : tie.Need-put-pair-requires Inv-loop μ-loop
 put-pair-requires c κs =
     let p = c .before .before in
     (room p, omega (arith, found p .row, few p), omega (arith, found p .case))
-
-add-at : tie.Need-add-at Inv-loop μ-loop
-add-at c = omega arith
-
-loop-less : tie.Need-loop-less Inv-loop μ-loop
-loop-less c = omega arith
 
 loop-again : tie.Need-loop-again Inv-loop μ-loop
 loop-again c =
@@ -90,14 +81,14 @@ put-order-spec =
     next-pair-requires
     mul-with
     array-read-with
-    with-requires
+    (λ c κs. search needs)
     mul-rows
     array-write-rows
     add-t17
     add-t25
     put-pair-requires
-    add-at
-    loop-less
+    (λ c. omega arith)
+    (λ c. omega arith)
     loop-again
     same-length
     returns)

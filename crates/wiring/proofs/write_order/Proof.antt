@@ -5,8 +5,8 @@ use native.Mathlib.Omega.{arith}
 use lib.ListN.{length}
 use borrow.Author.Needs.{needs}
 use Rattle.refusals.specs.Answers.{verdict}
-use Rattle.orders.specs.private.Growing.{pairsIn}
-use Rattle.orders.proofs.Orders.{order-claims}
+use Rattle.pair_orders.specs.private.Growing.{pairsIn}
+use Rattle.pair_orders.proofs.Orders.{order-claims}
 use Rattle.wiring.proofs.Answers.{Plan, plan, plan-ready, wires-refused, wires-short, wires-written}
 use Rattle.wiring.proofs.write_order.Statement.{statement}
 use Rattle.wiring.proofs.write_order.Tie as tie
@@ -39,12 +39,6 @@ counted : (c : tie.After-pairs-in2)
     ≡ pairsIn (start (told c) .args .s .rows) (start (told c) .args .t .gauges) + (c .before .before .pairs-in .result - c .pairs-in2 .result)
 counted c = omega (arith, planned (told c) .count, c .before .before .pairs-in .ensures .0, c .pairs-in2 .ensures .0)
 
-check-requires : tie.Need-check-requires
-check-requires c κs = search needs
-
-enum-known-checked : tie.Need-enum-known-checked
-enum-known-checked c = search needs
-
 returns : tie.Need-returns
 returns c =
     let k = c .before .before .before in
@@ -62,9 +56,6 @@ pairs-in-requires-2 c κs = planned (c .before .before .before .before .before) 
 sub-count : tie.Need-sub-count
 sub-count c = omega (arith, planned (told c) .count, c .before .before .pairs-in .ensures .0, c .pairs-in2 .ensures .0)
 
-mul-size : tie.Need-mul-size
-mul-size c = search needs
-
 returns-2 : tie.Need-returns-2
 returns-2 c =
     let e = told (c .before) in (
@@ -77,9 +68,6 @@ put-order-requires c κs =
     let p = c .before .before .before in
     let e = told p in
     plan-ready _ _ _ _ _ (e .before .before .check .ensures) (ap verdict (e .enum-told .given .1)) (planned e) _ (counted p) (c .before .before .if1 .left)
-
-same-length : tie.Need-same-length
-same-length c = search needs
 
 returns-3 : tie.Need-returns-3
 returns-3 c =
@@ -96,15 +84,15 @@ pub write-order-spec : {M : Type 1} → statement M
 write-order-spec =
     tie.close
     (tie.spec
-    check-requires
-    enum-known-checked
+    (λ c κs. search needs)
+    (λ c. search needs)
     returns
     enum-told
     pairs-in-requires
     pairs-in-requires-2
     sub-count
-    mul-size
+    (λ c. search needs)
     returns-2
     put-order-requires
-    same-length
+    (λ c. search needs)
     returns-3)

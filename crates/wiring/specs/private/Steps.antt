@@ -1,12 +1,12 @@
 -- What the private steps of the code promise each other. `Wires` of specs/Wiring.antt is what the public function promises; the tests by which a pair
--- is found are in crate `orders`, specs/private/Growing.antt.
+-- is found are in crate `pair_orders`, specs/private/Growing.antt.
 use mathlib.Core.Path.{_≡_}
-use mathlib.Core.Bool.{Bool, _&&_}
+use mathlib.Core.Bool.{Bool}
 use mathlib.Core.List.{List}
 use Prim.Native.Nat.{ℕ, suc, _≤_, _<_}
 use lib.ListN.{length, take}
 use lib.Seq.{sets}
-use Rattle.sets.specs.Sets.{bit, isSubset}
+use Rattle.sets.specs.Sets.{isSubset}
 use Rattle.sets.specs.Lists.{allBelow}
 use Rattle.table.specs.declared.Table.{Table}
 use Rattle.table.specs.declared.Chain.{Chain}
@@ -14,8 +14,7 @@ use Rattle.table.specs.Pairs.{row, Within, Cases}
 use Rattle.table.specs.Chains.{IsChain}
 use Rattle.table.specs.Tables.{chainRows, chainRefusal}
 use Rattle.pairs.specs.PairOrder.{Pair}
-use Rattle.orders.specs.Adding.{Next, FirstOrder, pairBytes}
-use Rattle.orders.specs.private.Growing.{spares}
+use Rattle.pair_orders.specs.Adding.{Next, FirstOrder, pairBytes}
 use Rattle.wiring.specs.Wiring.{Leads, LadderChecks, Checks}
 
 -- ---- the checks, and what is known where they pass
@@ -36,10 +35,6 @@ unfoldable pub includes : List ℕ → List ℕ → ℕ → Bool
 includes x s n = allBelow (λ i. isSubset (row s i) (row x i)) n
 
 -- ---- the pair that comes next
--- r has the places of the set `wide` that the row `other` spares
-pub record Narrowed (wide own other r : ℕ) : Type 0 where
-  pub bits : (k : ℕ) → bit r k ≡ (bit wide k && spares own other k)
-
 -- of the 64 rows x and s, the first n are a chain and a chain that contains it
 pub record Between (x s : List ℕ) (n : ℕ) : Type 0 where
   pub few : n ≤ 64

@@ -4,15 +4,6 @@ use borrow.Author.Needs.{needs}
 use Rattle.words.proofs.chain_at.Statement.{statement}
 use Rattle.words.proofs.chain_at.Tie as tie
 
-add-rows-at : tie.Need-add-rows-at
-add-rows-at c = search needs
-
-rows-at-requires : tie.Need-rows-at-requires
-rows-at-requires c κs = search needs
-
-word-at-requires : tie.Need-word-at-requires
-word-at-requires c κs = search needs
-
 returns : tie.Need-returns
 returns c =
     let r = c .before in
@@ -20,4 +11,4 @@ returns c =
     chain-is (s .args .w .now) (s .args .at) _ _ (c .word-at .ensures) (r .rows-at .ensures)
 
 pub chain-at-spec : {M : Type 1} → statement M
-chain-at-spec = tie.close (tie.spec add-rows-at rows-at-requires word-at-requires returns)
+chain-at-spec = tie.close (tie.spec (λ c. search needs) (λ c κs. search needs) (λ c κs. search needs) returns)

@@ -5,24 +5,6 @@ use borrow.Author.Needs.{needs}
 use Rattle.words.proofs.put_table.Statement.{statement}
 use Rattle.words.proofs.put_table.Tie as tie
 
-put-word-requires : tie.Need-put-word-requires
-put-word-requires c κs = search needs
-
-add-put-word : tie.Need-add-put-word
-add-put-word c = search needs
-
-put-word-requires-2 : tie.Need-put-word-requires-2
-put-word-requires-2 c κs = search needs
-
-add-put-rows : tie.Need-add-put-rows
-add-put-rows c = search needs
-
-put-rows-requires : tie.Need-put-rows-requires
-put-rows-requires c κs = search needs
-
-same-length : tie.Need-same-length
-same-length c = search needs
-
 returns : tie.Need-returns
 returns c =
     let w2 = c .before .before .before .before .before .before in
@@ -33,10 +15,10 @@ pub put-table-spec : {M : Type 1} → statement M
 put-table-spec =
     tie.close
     (tie.spec
-    put-word-requires
-    add-put-word
-    put-word-requires-2
-    add-put-rows
-    put-rows-requires
-    same-length
+    (λ c κs. search needs)
+    (λ c. search needs)
+    (λ c κs. search needs)
+    (λ c. search needs)
+    (λ c κs. search needs)
+    (λ c. search needs)
     returns)

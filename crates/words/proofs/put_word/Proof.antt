@@ -8,17 +8,8 @@ use Rattle.words.proofs.put_word.Tie as tie
 returns : tie.Need-returns
 returns c = put-behind (c .if1 .taken)
 
-mul-out : tie.Need-mul-out
-mul-out c = search needs
-
-slice-write-out : tie.Need-slice-write-out
-slice-write-out c = search needs
-
-same-length : tie.Need-same-length
-same-length c = search needs
-
 returns-2 : tie.Need-returns-2
 returns-2 c = record { words = refl }
 
 pub put-word-spec : {M : Type 1} → statement M
-put-word-spec = tie.close (tie.spec returns mul-out slice-write-out same-length returns-2)
+put-word-spec = tie.close (tie.spec returns (λ c. search needs) (λ c. search needs) (λ c. search needs) returns-2)

@@ -5,15 +5,6 @@ use Rattle.refusals.proofs.Answering.{verdict-refused, verdict-accepted, answer
 use Rattle.table.proofs.Table.from_rows.Statement.{statement}
 use Rattle.table.proofs.Table.from_rows.Tie as tie
 
-check-table-requires : tie.Need-check-table-requires
-check-table-requires c κs = search needs
-
-enum-known-checked : tie.Need-enum-known-checked
-enum-known-checked c = search needs
-
-refuse-requires : tie.Need-refuse-requires
-refuse-requires c κs = search needs
-
 returns : tie.Need-returns
 returns c =
     let k = c .before .before in
@@ -29,4 +20,4 @@ returns-2 c = answer-given _ _ _ (verdict-accepted _ _ (c .enum-told .given .1) 
 pub from-rows-spec : {M : Type 1} → statement M
 from-rows-spec =
     tie.close
-    (tie.spec check-table-requires enum-known-checked refuse-requires returns enum-told returns-2)
+    (tie.spec (λ c κs. search needs) (λ c. search needs) (λ c κs. search needs) returns enum-told returns-2)

@@ -16,9 +16,6 @@ rows-length c = search needs
 gauge-range : (c : tie.Else1) → (1 ≤ c .before .before .args .g .0) × (c .before .before .args .g .0 ≤ 64)
 gauge-range c = range-is 64 _ (sym (c .before .in-range .ensures) ∙ not-false _ (c .if1 .left))
 
-in-range-requires : tie.Need-in-range-requires
-in-range-requires c κs = search needs
-
 returns : tie.Need-returns
 returns c =
     let s = c .before .before in
@@ -37,13 +34,10 @@ mul-row c = omega (arith, gauge-range (c .before .before))
 array-read-row : tie.Need-array-read-row
 array-read-row c = omega (arith, gauge-range (c .before .before))
 
-has-requires : tie.Need-has-requires
-has-requires c κs = search needs
-
 returns-3 : tie.Need-returns-3
 returns-3 c = has-bit _ _ _ _ (gauge-range (c .before .before .before) .0) (c .before .before .if2 .left) (c .has .ensures)
 
 pub has-spec : {M : Type 1} → statement M
 has-spec =
     tie.close
-    (tie.spec in-range-requires returns returns-2 sub-i mul-row array-read-row has-requires returns-3)
+    (tie.spec (λ c κs. search needs) returns returns-2 sub-i mul-row array-read-row (λ c κs. search needs) returns-3)
