@@ -14,6 +14,7 @@ use native.Mathlib.Nat.{suc-mul, mul-one, mul-le-mul-left, mul-div-cancel, sub-z
 use native.Mathlib.Omega.{arith}
 use lib.ListN.{length, take, drop, replicate, length-append}
 use lib.Seq.{take-at, drop-at, drop-drop}
+use Rattle.basics.proofs.Clash.{clash}
 use Rattle.table.specs.declared.Table.{Table}
 use Rattle.table.specs.Pairs.{Within}
 use Rattle.table.specs.Tables.{Legal, tableRows, tableRefusal, padded, noRows}
@@ -30,10 +31,11 @@ use Rattle.runs.specs.Omitting.{movesOf}
 use Rattle.runs.specs.Batches.{Ending, denied, full, used, over, Tale, onward, batchBy, joined}
 use Rattle.runs.specs.private.Either.{callOf}
 use Rattle.runs.specs.private.Listing.{wordsOf, Puts}
+use Rattle.runs.proofs.Carrying.{carry-most}
 use Rattle.runs.proofs.Words.{stored-front}
 use Rattle.runs.proofs.Demands.{Started, reached-next}
-use Rattle.writer.specs.Writing.{writeFile}
-use Rattle.writer.proofs.Sizes.{write-length, write-six}
+use Rattle.file_writer.specs.Writing.{writeFile}
+use Rattle.file_writer.proofs.Sizes.{write-length, write-six}
 use Rattle.blocks.specs.Filling.{pairTable, files, longest, calls, after, isEnd, isNone, has}
 use Rattle.blocks.specs.private.Turning.{shape, ladders, mostBytes, Lent}
 use Rattle.blocks.proofs.Chains.{pair-legal, handed-within, never-spent}
@@ -52,22 +54,13 @@ module _ (mv : State → Move) (out : List ℕ → List ℕ) where
       go (hands p) ih k = refl
       go ends ih k = refl
 
-  carry-few : (b : ℕ) (s : State) → carryBy mv out b s .moves ≤ b
-  carry-few zero s = omega arith
-  carry-few (suc b) s = go (mv s .given) (carry-few b (mv s .next))
-    where
-      go : (g : Given) → carryBy mv out b (mv s .next) .moves ≤ b → proceedBy mv out (carryBy mv out b) g (mv s .next) .moves ≤ suc b
-      go nothing ih = omega arith
-      go (hands p) ih = omega arith
-      go ends ih = omega arith
-
   call-larger : (b c : ℕ) (s : State) → b ≤ c → c ≤ mostBudget → (callBy mv out b s .answer ≡ spent → ⊥) → callBy mv out c s ≡ callBy mv out b s
   call-larger b c s l m h =
       let e : callBy mv out b s ≡ carryBy mv out b s = within-by mv out b s (omega arith) in
       within-by mv out c s m ∙ carry-larger b c s l (λ z. h (ap (λ (x : Call). x .answer) e ∙ z)) ∙ sym e
 
   call-few : (b : ℕ) (s : State) → b ≤ mostBudget → callBy mv out b s .moves ≤ b
-  call-few b s l = subst (λ (x : Call). x .moves ≤ b) (sym (within-by mv out b s l)) (carry-few b s)
+  call-few b s l = subst (λ (x : Call). x .moves ≤ b) (sym (within-by mv out b s l)) (carry-most mv out b s)
 
 -- ---- a batch as calls
 -- how a batch that stopped so says that a call handed nothing out, and that one answered end
@@ -152,7 +145,7 @@ module _ (t : Table) (order : List ℕ) (omit : Bool) where
       next = n;
       stop = rw (e, f) d;
       over = rw e (o ∙ sym (or-false (isEnd a)));
-      whole = λ y. let w : _≡_ {A = Bool} true false = sym d ∙ y in let q : _≡_ {A = ℕ} 0 1 = cc in absurd (omega arith);
+      whole = λ y. let w : _≡_ {A = Bool} true false = sym d ∙ y in clash cc;
     }
       where
         or-false : (c : Bool) → (c || false) ≡ c

@@ -13,6 +13,7 @@ use Prim.Native.Nat.{ℕ, zero, suc, _+_, _≤_, _<_}
 use native.Mathlib.Nat.{zero-add, suc-add}
 use native.Mathlib.Omega.{arith}
 use lib.ListN.{length, length-append}
+use Rattle.basics.proofs.Clash.{clash}
 use Rattle.table.specs.declared.Table.{Table}
 use Rattle.rules.specs.Machine.{State}
 use Rattle.rules.specs.Calls.{Reply, refused, spent, handed, end, Call, mostBudget, answered, handouts}
@@ -24,7 +25,7 @@ use Rattle.runs.specs.Calling.{arrangement}
 use Rattle.runs.specs.private.Either.{callOf}
 use Rattle.runs.specs.Omitting.{movesOf}
 use Rattle.runs.proofs.Demands.{Started, reached-next}
-use Rattle.writer.specs.Writing.{writeFile}
+use Rattle.file_writer.specs.Writing.{writeFile}
 use Rattle.blocks.specs.Filling.{pairTable, files, calls, after, text, isEnd, isNone, has, Stops}
 use Rattle.blocks.proofs.Chains.{never-spent}
 
@@ -51,10 +52,10 @@ none-ends [] e = refl
 none-ends (c ∷ cs) e = go (c .answer) e (none-ends cs)
   where
     go : (a : Reply) → (isNone a || has isNone cs) ≡ false → (has isNone cs ≡ false → has isEnd cs ≡ false) → (isEnd a || has isEnd cs) ≡ false
-    go (refused n) e more = let z : _≡_ {A = ℕ} 0 1 = cc in absurd (omega arith)
-    go spent e more = let z : _≡_ {A = ℕ} 0 1 = cc in absurd (omega arith)
+    go (refused n) e more = clash cc
+    go spent e more = clash cc
     go (handed x) e more = more e
-    go end e more = let z : _≡_ {A = ℕ} 0 1 = cc in absurd (omega arith)
+    go end e more = clash cc
 
 -- no file is empty
 file-pos : (t : Table) → 0 < length (writeFile t)
@@ -68,10 +69,10 @@ files-some t (x ∷ xs) h = omega (arith, length-append (writeFile (pairTable t 
 
 -- a call that hands a set out has a file, and that has a byte
 added-some : (t : Table) (a : Reply) → isNone a ≡ false → 0 < length (files t (answered a []))
-added-some t (refused n) e = let q : _≡_ {A = ℕ} 0 1 = cc in absurd (omega arith)
-added-some t spent e = let q : _≡_ {A = ℕ} 0 1 = cc in absurd (omega arith)
+added-some t (refused n) e = clash cc
+added-some t spent e = clash cc
 added-some t (handed x) e = omega (arith, length-append (writeFile (pairTable t x)) [], file-pos (pairTable t x))
-added-some t end e = let q : _≡_ {A = ℕ} 0 1 = cc in absurd (omega arith)
+added-some t end e = clash cc
 
 module _ (t : Table) (order : List ℕ) (omit : Bool) where
   abbrev made : State → Call
@@ -140,7 +141,7 @@ module _ (t : Table) (order : List ℕ) (omit : Bool) where
           inl (ap (has isNone) (calls-one n s) ∙ has-append isNone (calls t order omit n s) (made (after t order omit n s) ∷ [])
           ∙ ap (λ (b : Bool). b || has isNone (made (after t order omit n s) ∷ [])) e)
       go h false e true f = inl (has-one isNone n s e ∙ f)
-      go (inl h) false e false f = let q : _≡_ {A = ℕ} 0 1 = cc in absurd (omega arith)
+      go (inl h) false e false f = clash cc
       go (inr h) false e false f =
           inr (omega (
             arith,

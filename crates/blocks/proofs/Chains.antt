@@ -6,6 +6,7 @@ use Prim.Native.Nat.{ℕ, _^_, _≤_, _<_}
 use native.Mathlib.Omega.{arith}
 use lib.ListN.{length}
 use borrow.Author.Tests.{lt-ltb, ltb-true}
+use Rattle.basics.proofs.Clash.{clash}
 use Rattle.sets.specs.Sets.{_⊆_, lowest}
 use Rattle.sets.proofs.Order.{sub-trans, subset-is, is-subset}
 use Rattle.sets.proofs.Masks.{below-lowest}
@@ -60,9 +61,9 @@ pair-legal t l x w = record {
     size = w .size ∙ length-rows t l
 
 says-handed : (out : List ℕ → List ℕ) (g : Given) (x : List ℕ) → says out g ≡ handed x → (p : List ℕ) × (out p ≡ x)
-says-handed out nothing x e = let z : _≡_ {A = ℕ} 0 1 = cc in absurd (omega arith)
+says-handed out nothing x e = clash cc
 says-handed out (hands p) x e = (p, cc)
-says-handed out ends x e = let z : _≡_ {A = ℕ} 0 1 = cc in absurd (omega arith)
+says-handed out ends x e = clash cc
 
 pub handed-within : (t : Table) (order : List ℕ) (omit : Bool) (s : State) (x : List ℕ)
     → callOf t (gaugeSide t) (arrangement (gaugeSide t) order) omit mostBudget s .answer ≡ handed x → Within (tableRows t) x

@@ -26,10 +26,10 @@ use Rattle.runs.proofs.Answered.{paused-state}
 use Rattle.runs.proofs.Deciding.{paused-decided}
 use Rattle.runs.proofs.Demands.{Started}
 use Rattle.runs.proofs.Starting.{gauge-started}
-use Rattle.writer.specs.Writing.{writeFile}
-use Rattle.writer.proofs.Sizes.{fullTable, full-length}
+use Rattle.file_writer.specs.Writing.{writeFile}
+use Rattle.file_writer.proofs.Sizes.{fullTable, full-length}
 use Rattle.blocks.specs.declared.Block.{Block}
-use Rattle.blocks.specs.Filling.{longest, Filling, filling, calls, after, text, isEnd, isNone, has, Untouched, Stops, Fills, Filled}
+use Rattle.blocks.specs.Filling.{longest, Filling, block, calls, after, text, isEnd, isNone, has, Untouched, Stops, Fills, Filled}
 use Rattle.blocks.proofs.Calls.{calls-stop-at}
 use Rattle.blocks.proofs.Fillings.{refusing}
 
@@ -188,7 +188,7 @@ module _ (v : Value) (rows : length (v .table .rows) ≡ 64) (long : length (v .
       go (yes z) l = by-state z l (paused-decided gaugeSide v (starts z))
 
 -- ---- no two answers read alike
-pub filling-injective : (a b : Block) → filling a ≡ filling b → a ≡ b
+pub filling-injective : (a b : Block) → block a ≡ block b → a ≡ b
 filling-injective a b e =
     go (a .verdict) (b .verdict) (a .run) (b .run) (a .used) (b .used) (a .over) (b .over)
     (verdict-injective (a .verdict) (b .verdict) (ap (λ (f : Filling). f .refusal) e))

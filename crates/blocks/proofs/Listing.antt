@@ -11,6 +11,7 @@ use native.Mathlib.Decide.{decLt}
 use native.Mathlib.Omega.{arith}
 use lib.ListN.{length, take, replicate, length-append}
 use lib.Seq.{take-at}
+use Rattle.basics.proofs.Clash.{clash}
 use Rattle.table.specs.declared.Table.{Table}
 use Rattle.rules.specs.Sequences.{factorial}
 use Rattle.rules.specs.Machine.{State, fresh}
@@ -30,13 +31,13 @@ use Rattle.blocks.proofs.Calls.{files-append, handouts-append, has-appe
 
 -- ---- a call that answered end
 end-of : (a : Reply) → isEnd a ≡ true → a ≡ end
-end-of (refused n) e = let z : _≡_ {A = ℕ} 0 1 = cc in absurd (omega arith)
-end-of spent e = let z : _≡_ {A = ℕ} 0 1 = cc in absurd (omega arith)
-end-of (handed x) e = let z : _≡_ {A = ℕ} 0 1 = cc in absurd (omega arith)
+end-of (refused n) e = clash cc
+end-of spent e = clash cc
+end-of (handed x) e = clash cc
 end-of end e = refl
 
 end-in : (cs : List Call) → has isEnd cs ≡ true → Ended cs
-end-in [] e = let z : _≡_ {A = ℕ} 0 1 = cc in absurd (omega arith)
+end-in [] e = clash cc
 end-in (c ∷ cs) e = go (isEnd (c .answer)) refl e (end-in cs)
   where
     go : (b : Bool) → isEnd (c .answer) ≡ b → (b || has isEnd cs) ≡ true → (has isEnd cs ≡ true → Ended cs) → Ended (c ∷ cs)
@@ -73,7 +74,7 @@ module _ (t : Table) (order : List ℕ) (l : Started gaugeSide t order) (s : Sta
         go : Stops t order false s (length (i .before)) (f .count) → 0 < length (text t order false (f .count) s)
         go (inl e) =
             let z : _≡_ {A = Bool} false true = sym o ∙ f .over ∙ stop-ends t order l (f .count) s h e in
-            let y : _≡_ {A = ℕ} 0 1 = cc in absurd (omega arith)
+            clash cc
         go (inr e) = omega arith
 
 -- ---- what blocks from the state s on put out
@@ -84,7 +85,7 @@ record PutOut (t : Table) (order : List ℕ) (s : State) (is : List Item) : Type
   pub many : isOver is ≡ false → length is ≤ length (handouts (calls t order false count s))
 
 neither : (a b : Bool) → (a || b) ≡ false → (a ≡ false) × (b ≡ false)
-neither true b e = let z : _≡_ {A = ℕ} 0 1 = cc in absurd (omega arith)
+neither true b e = clash cc
 neither false b e = (refl, e)
 
 put-out : (t : Table) (order : List ℕ) → Started gaugeSide t order → (s : State) → ReachedOn (gaugeSide t) (arrangement (gaugeSide t) order) s
@@ -117,13 +118,13 @@ put-out t order l s h (i ∷ is) b =
 pub blocks-listed : (t : Table) (order : List ℕ) → Started gaugeSide t order → (is : List Item) → Blocks (paused t order false fresh) is → Listed t order is
 blocks-listed t order l is b = record {
   front = λ xs g. (
-    d .front .0,
-    ap (λ (y : List ℕ). y ++ files t (d .front .0)) (o .bytes) ∙ sym (files-append t (handouts made) (d .front .0))
-        ∙ ap (files t) (d .front .1 ∙ list-unique (d .list) xs (d .listed) g),
+    d .hands .front .0,
+    ap (λ (y : List ℕ). y ++ files t (d .hands .front .0)) (o .bytes) ∙ sym (files-append t (handouts made) (d .hands .front .0))
+        ∙ ap (files t) (d .hands .front .1 ∙ list-unique (d .hands .list) xs (d .hands .listed) g),
   );
   complete = λ xs g e.
       let c = end-in made (sym (o .over) ∙ e) in
-      o .bytes ∙ ap (files t) (d .complete (c .0) (c .1) (c .2) ∙ list-unique (d .list) xs (d .listed) g);
+      o .bytes ∙ ap (files t) (d .hands .complete (c .0) (c .1) (c .2) ∙ list-unique (d .hands .list) xs (d .hands .listed) g);
   ends = λ h. ended h (isOver is) refl;
 }
   where
@@ -138,7 +139,7 @@ blocks-listed t order l is b = record {
 
     ended : factorial (min (t .gauges) (t .cases)) < length is → (b : Bool) → isOver is ≡ b → b ≡ true
     ended h true e = refl
-    ended h false e = absurd (omega (arith, h, o .many e, d .few, ap length (d .front .1), length-append (handouts made) (d .front .0)))
+    ended h false e = absurd (omega (arith, h, o .many e, d .few, ap length (d .hands .front .1), length-append (handouts made) (d .hands .front .0)))
 
 -- one block more
 blocks-more : (v : Value) (is : List Item) (i : Item) → Blocks v is → Filled (leaves v is) (i .before) (i .answer) (i .now) → i .answer .refusal ≡ 0

@@ -16,6 +16,7 @@ use native.Mathlib.Omega.{arith}
 use lib.ListN.{length, take, drop, length-append, length-drop, take-append-drop, drop-of-length-le}
 use lib.Seq.{take-all, take-at, length-take-le, drop-drop, drop-append-add}
 use borrow.Author.Tests.{lt-ltb, ne-eqb}
+use Rattle.basics.proofs.Clash.{clash}
 use Rattle.table.specs.declared.Table.{Table}
 use Rattle.table.specs.Pairs.{Within}
 use Rattle.table.specs.Tables.{Legal, tableRows, tableRefusal}
@@ -31,7 +32,7 @@ use Rattle.lists.specs.Lists.{Side, gaugeSide}
 use Rattle.lists.specs.OnTable.{handOut}
 use Rattle.preference.proofs.Placing.{passes-both}
 use Rattle.runs.specs.Paused.{Value, paused}
-use Rattle.runs.specs.Calling.{Step, byRules, told, refusal, held, valueRefusal, PausedAt}
+use Rattle.runs.specs.Calling.{Step, byRules, told, refusalStep, held, valueRefusal, PausedAt}
 use Rattle.runs.specs.Omitting.{movesOf}
 use Rattle.runs.specs.Batches.{Batch, Tale, joined, Denied, Comes, batchOn, Batched}
 use Rattle.runs.specs.private.Either.{callOf, CalledOf}
@@ -39,8 +40,8 @@ use Rattle.runs.specs.private.Listing.{wordsOf}
 use Rattle.runs.proofs.BatchDeciding.{batched-cases, gauge-words}
 use Rattle.runs.proofs.Demands.{Starts}
 use Rattle.runs.proofs.Words.{words-more}
-use Rattle.writer.specs.Writing.{writeFile, roomRefusal, writeRefusal, writeAnswer, bufferAfter}
-use Rattle.writer.proofs.Files.{long-enough}
+use Rattle.file_writer.specs.Writing.{writeFile, roomRefusal, writeRefusal, writeAnswer, bufferAfter}
+use Rattle.file_writer.proofs.Files.{long-enough}
 use Rattle.blocks.specs.Filling.{pairTable, files, longest, calls, text, Stops}
 use Rattle.blocks.specs.private.Turning.{Checked, placed, Put, PutAll, shape, ladders, mostBytes, Lent, Added, Turned}
 use Rattle.blocks.proofs.Calls.{files-append, files-some}
@@ -71,7 +72,7 @@ module _ (v : Value) (b : ℕ) (r : Step) (c : CalledOf gaugeSide v b r) (ok : v
       only18-by (movesOf (v .table) (gaugeSide (v .table)) (held gaugeSide v) (v .omit)) (handOut (gaugeSide (v .table))) b s .else l n (same-answer ∙ e)
 
 -- ---- the check of a value
-refused-same : (r : Step) (n m : ℕ) → r .answer ≡ refused n → r ≡ refusal m → n ≡ m
+refused-same : (r : Step) (n m : ℕ) → r .answer ≡ refused n → r ≡ refusalStep m → n ≡ m
 refused-same r n m e d = let z : refused n ≡ refused m = sym e ∙ ap (λ (x : Step). x .answer) d in cc
 
 pub checked-refused : (v : Value) (r : Step) → CalledOf gaugeSide v 0 r → (n : ℕ) → r .answer ≡ refused n → Checked v n
@@ -331,7 +332,7 @@ module _ (v : Value) (size : length (v .table .rows) ≡ 64) (start : Starts gau
           room-for = rw long (lent .called (l .gauges-low) (l .gauges-high) (l .cases-high))
 
           sooner : (i : ℕ) → i < m .many → ¬ Stops (v .table) (v .order) (v .omit) s (length before - at) i
-          sooner i low (inl e) = let z : _≡_ {A = Bool} false true = sym (m .going i low) ∙ e in let q : _≡_ {A = ℕ} 0 1 = cc in omega arith
+          sooner i low (inl e) = let z : _≡_ {A = Bool} false true = sym (m .going i low) ∙ e in clash cc
           sooner i low (inr z) =
               let xs : List (List ℕ) = handouts (calls (v .table) (v .order) (v .omit) i s) in
               let n : length xs ≤ length part / v .table .gauges - 1 = omega (arith, handed-most (v .table) (v .order) (v .omit) i s, low, m .most) in

@@ -2,6 +2,8 @@
 -- the gauge list (`plain-list`), and (min G L)! + 1 blocks put out the files of the whole gauge list (`whole-gauge-list`).
 --
 -- Elsewhere: the same for any preference, Listing.antt and Existence.antt.
+--
+-- Pins, which nothing else cites: `whole-gauge-list`.
 use mathlib.Core.Path.{_≡_, sym, ap, _∙_, subst}
 use mathlib.Core.Logic.{_↔_}
 use mathlib.Core.Bool.{false}

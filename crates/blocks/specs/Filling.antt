@@ -24,7 +24,7 @@ use Rattle.lists.specs.OnTable.{handOut}
 use Rattle.runs.specs.Paused.{Value, paused, blankValue, gaugeValue}
 use Rattle.runs.specs.Calling.{arrangement, valueRefusal, PausedAt}
 use Rattle.runs.specs.Omitting.{movesOf}
-use Rattle.writer.specs.Writing.{writeFile}
+use Rattle.file_writer.specs.Writing.{writeFile}
 use Rattle.blocks.specs.declared.Block.{Block}
 
 -- ---- files
@@ -50,8 +50,8 @@ pub record Filling : Type 0 where
   pub over : Bool
 
 -- how the code's answer reads
-abbrev pub filling : Block → Filling
-filling b = record { refusal = verdict (b .verdict); value = gaugeValue (b .run); used = b .used; over = b .over }
+abbrev pub block : Block → Filling
+block b = record { refusal = verdict (b .verdict); value = gaugeValue (b .run); used = b .used; over = b .over }
 
 -- the first n calls of the gauge run on t with the preference in the 64 numbers of order (02, R-12), one that omits or does not, from the state s
 -- on, each with the greatest budget, and the state after them

@@ -2,17 +2,14 @@
 // for sure, and the blocks one after another are the files of the run's list. In each call of the greatest budget a run that omits nothing
 // hands a ladder out or ends; one that omits may be spent, and its block stops there. The calls are made in batches, so that a value is checked
 // and copied once for many ladders. No public function has a `requires`; nothing outside the lent buffer is kept.
-use preference::GaugeOrder;
+use file_writer;
+use file_writer::Written;
 use refusals::Refusal;
 use refusals::Verdict;
 use runs;
-use runs::GaugePicks;
 use runs::GaugeRun;
 use runs::Outcome;
-use runs::Phase;
 use table::Table;
-use writer;
-use writer::Written;
 ghost use mathlib.Core.Path.{_≡_};
 ghost use mathlib.Core.Bool.{false};
 ghost use Prim.Native.Nat.{_+_, _≤_, _<_};
@@ -21,7 +18,7 @@ ghost use Rattle.table.specs.Tables.{padded};
 ghost use Rattle.refusals.specs.Answers.{verdict, number};
 ghost use Rattle.runs.specs.Paused.{gaugeValue, blankValue};
 ghost use Rattle.runs.specs.private.Listing.{wordsOf};
-ghost use Rattle.blocks.specs.Filling.{Filled, filling, CarriesList, longest};
+ghost use Rattle.blocks.specs.Filling.{Filled, block, CarriesList, longest};
 ghost use Rattle.blocks.specs.private.Turning.{Checked, FillsOn, Put, PutAll, Lent, Turned, shape, ladders};
 
 // The moves asked of one call: the greatest budget.
@@ -52,8 +49,8 @@ struct Turn {
 // Fills a buffer with the files of the next ladders, on any paused value: 10, 11, 27 and 15 are refused, then 16 for a buffer shorter than the
 // longest file. After the blocks that led to the value, it carries the list on.
 pub fn fill(run: GaugeRun, out: &mut [u8]) -> Block
-    ensures { λ r. ⌜ Filled (gaugeValue run) (now (out .entry)) (filling r) (now (out .exit)) ⌝ }
-    ensures listed { λ r. ⌜ CarriesList (gaugeValue run) (record { before = now (out .entry); answer = filling r; now = now (out .exit) }) ⌝ }
+    ensures { λ r. ⌜ Filled (gaugeValue run) (now (out .entry)) (block r) (now (out .exit)) ⌝ }
+    ensures listed { λ r. ⌜ CarriesList (gaugeValue run) (record { before = now (out .entry); answer = block r; now = now (out .exit) }) ⌝ }
 {
     let checked = check_run(run);
     if let Verdict::Refused(why) = checked {
@@ -67,7 +64,7 @@ pub fn fill(run: GaugeRun, out: &mut [u8]) -> Block
 
 // The files of a value that passes its check, in a buffer that has room for one.
 fn fill_on(start: GaugeRun, out: &mut [u8]) -> Block
-    ensures { λ r. ⌜ FillsOn (gaugeValue start) (now (out .entry)) (filling r) (now (out .exit)) ⌝ }
+    ensures { λ r. ⌜ FillsOn (gaugeValue start) (now (out .entry)) (block r) (now (out .exit)) ⌝ }
 {
     let most = out.len();
     let mut words = [0u64; 1024];
@@ -92,7 +89,7 @@ fn fill_on(start: GaugeRun, out: &mut [u8]) -> Block
 }
 
 fn accept(run: GaugeRun, used: usize, over: bool) -> Block
-    ensures { λ r. ⌜ filling r ≡ record { refusal = 0; value = gaugeValue run; used = used; over = over } ⌝ }
+    ensures { λ r. ⌜ block r ≡ record { refusal = 0; value = gaugeValue run; used = used; over = over } ⌝ }
 {
     Block {
         verdict: Verdict::Accepted,
@@ -104,22 +101,9 @@ fn accept(run: GaugeRun, used: usize, over: bool) -> Block
 
 // A refusal: no bytes, and the blank run.
 fn refuse(why: Refusal) -> Block
-    ensures { λ r. ⌜ filling r ≡ record { refusal = number why; value = blankValue; used = 0; over = false } ⌝ }
+    ensures { λ r. ⌜ block r ≡ record { refusal = number why; value = blankValue; used = 0; over = false } ⌝ }
 {
-    let blank = Table {
-        gauges: 0,
-        cases: 0,
-        rows: [0u64; 64],
-    };
-    let none = GaugeOrder([0u8; 64]);
-    let run = GaugeRun {
-        table: blank,
-        order: none,
-        picks: GaugePicks([0u8; 64]),
-        count: 0,
-        phase: Phase::Down,
-        omit: false,
-    };
+    let run = runs::to_gauges(runs::blank_side(false));
     Block {
         verdict: Verdict::Refused(why),
         run: run,
@@ -252,7 +236,7 @@ fn put_table(t: Table, out: &mut [u8], at: usize) -> usize
     requires { ⌜ at ≤ length (now out) ⌝ }
     ensures { λ r. ⌜ Put t (now (out .entry)) at r (now (out .exit)) ⌝ }
 {
-    let written = writer::write(t, &mut out[at..]);
+    let written = file_writer::write(t, &mut out[at..]);
     match written {
         Written::Length(n) => at + n,
         Written::Refused(_) => at,

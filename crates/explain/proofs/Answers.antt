@@ -1,12 +1,13 @@
--- What the entries answer, for either side: a run call that makes no move refuses what 10, 11, 27 and 15 refuse, and no other value
--- (`refused-explained`); the question put to a value that passes (`Asked`), whose picks are numbers of rows (`numbers`); the answer that the
--- search gives (`named-explained`), and the claim of R-6 beside it (`has-reasons`). Last, one answer (`explained-unique`), for every value
--- (`explained-made`), and no two answers of the code read alike.
+-- What the entries answer, for either side: the checks, of the value and then of the pair (`asks-refused`, `asks-pair`), and an answer that they refuse
+-- (`refused-explained`); of a value that passes, the picks are numbers of rows (`numbers`); the answer that the search gives (`named-explained`), and the
+-- claim of R-6 beside it (`has-reasons`). What differs between the sides goes by their mark (`side-sees`, `own-is`, `rows-few`, `gauge-rows`, `case-rows`),
+-- and what holds of either holds of one (`explained-at-side`). Last, one answer (`explained-unique`), for every value (`explained-made`), and no two
+-- answers of the code read alike.
 use mathlib.Core.Path.{_≡_, refl, sym, ap, ap₂, _∙_, subst}
 use mathlib.Core.Logic.{⊎-elim, _↔_}
 use mathlib.Core.Bool.{Bool, true, false, cond}
 use mathlib.Core.List.{List, [], _∷_, _++_, map, List·Memᴰ, List·Memᴰ·cases-cons, List·Memᴰ·not-nil}
-use Prim.Native.Nat.{ℕ, zero, suc, _-_, _≤_, _<_}
+use Prim.Native.Nat.{ℕ, zero, suc, _-_, _≤_, _<_, min}
 use native.Mathlib.Decide.{ℕ-discrete, decLe}
 use native.Mathlib.Omega.{arith}
 use lib.Dec.{T, not-T}
@@ -17,16 +18,17 @@ use Rattle.sets.specs.Sets.{bit}
 use Rattle.sets.proofs.Tests.{is-true, is-false}
 use Rattle.table.specs.declared.Table.{Table}
 use Rattle.table.specs.Pairs.{row, Has}
-use Rattle.table.specs.Tables.{Legal, tableRefusal, padded}
+use Rattle.table.specs.Tables.{Legal, tableRows, tableRefusal, padded}
 use Rattle.table.proofs.Padding.{pad-getD}
-use Rattle.refusals.specs.Answers.{Answer, answer, number}
-use Rattle.refusals.specs.declared.Refusal.{Refusal}
+use Rattle.table.proofs.Legality.{length-rows}
+use Rattle.transpose.specs.Transposing.{transpose}
+use Rattle.transpose.specs.Places.{places}
+use Rattle.transpose.proofs.Transposition.{length-transpose}
+use Rattle.refusals.specs.Answers.{Answer, answer}
 use Rattle.refusals.specs.declared.Verdict.{Verdict}
-use Rattle.refusals.proofs.Answering.{number-pos, verdict-injective}
-use Rattle.rules.specs.Machine.{Phase, Down, Handed, Back, Ended, State, at}
-use Rattle.rules.specs.Calls.{Reply, refused, spent, handed, end, Call}
-use Rattle.rules.proofs.Calls.{within-by}
-use Rattle.lists.specs.Lists.{Side}
+use Rattle.refusals.proofs.Answering.{verdict-injective}
+use Rattle.rules.specs.Machine.{Handed, State, at}
+use Rattle.lists.specs.Lists.{Side, gaugeSide, caseSide}
 use Rattle.lists.specs.OnTable.{handOut, ReachedOn}
 use Rattle.conflicts.specs.Tests.{hasPair}
 use Rattle.conflicts.proofs.Testing.{has-test}
@@ -36,23 +38,22 @@ use Rattle.essentials.proofs.Answers.{pair-absent, pair-present}
 use Rattle.preference.specs.Preferences.{preferredRefusal}
 use Rattle.preference.proofs.Placing.{passes-both}
 use Rattle.replay.proofs.Numbers.{length-numbers, getD-numbers}
-use Rattle.runs.specs.Paused.{Value, numbered as byNumber, paused}
-use Rattle.runs.specs.Calling.{Step, outcome, arrangement, told, held, valueRefusal, PausedAt}
-use Rattle.runs.specs.private.Either.{CalledOf}
-use Rattle.runs.specs.Omitting.{movesOf}
+use Rattle.runs.specs.Paused.{Value, paused}
+use Rattle.runs.specs.Calling.{arrangement, held, valueRefusal, PausedAt}
+use Rattle.runs.specs.Sides.{sideOf, ChecksAt}
 use Rattle.runs.specs.private.Working.{Works}
-use Rattle.runs.specs.declared.Outcome.{Outcome}
-use Rattle.runs.specs.declared.Outcome.the-variants.{HandedOut, Spent, End, Refused}
 use Rattle.runs.proofs.Padding.{take-padded}
 use Rattle.runs.proofs.Answered.{paused-state}
 use Rattle.runs.proofs.Demands.{Starts}
+use Rattle.runs.proofs.Sides.{gauge-works, case-works}
+use Rattle.runs.proofs.PhaseChecks.{never-at, passes-at, some-at}
 use Rattle.explain.specs.declared.GaugeReason.{GaugeReason}
 use Rattle.explain.specs.declared.CaseReason.{CaseReason}
-use Rattle.explain.specs.Reasons.{Question, firstLacking, reasonRefusal, noPick, Explained, madeBefore, HasReasons, gaugeReason, caseReason}
-use Rattle.explain.specs.private.Asking.{isHanded, unasked, keptBy, Numbered, rowHas, foundIn}
+use Rattle.explain.specs.Reasons.{Question, questionOf, firstLacking, reasonRefusal, noPick, Explained, madeBefore, HasReasons, gaugeReason, caseReason}
+use Rattle.explain.specs.private.Asking.{ownOf, AsksAt, RowsOf, keptBy, Numbered, rowHas, foundIn}
 use Rattle.explain.proofs.Leaves.{LeavesFrom, Leaves, leaves-reached}
 use Rattle.explain.proofs.Picks.{first-same, None, Found, search-before}
-use Rattle.explain.proofs.Reasoning.{Sees, place, none-kept, lacking-out, reasoned}
+use Rattle.explain.proofs.Reasoning.{Sees, place, gauge-sees, case-sees, none-kept, lacking-out, reasoned}
 
 stable : {P : Type 0} → Dec P → ((P → ⊥) → ⊥) → P
 stable (yes p) n = p
@@ -101,25 +102,49 @@ kept-answer n m x w a b d = rw (a, b, d)
 named-answer : (n m x w : ℕ) → n ≡ 0 → m ≡ 0 → w ≡ x → record { refusal = n; value = x } ≡ answer m w 0
 named-answer n m x w a b d = rw (a, b, d)
 
--- ---- what a call that makes no move says
--- it is not refused
-abbrev Unrefused : Step → Type 0
-Unrefused r = (n : ℕ) → r .answer ≡ refused n → ⊥
+-- ---- the rows of a side in an array
+works-rows : (s : Side) (n : ℕ) (R : List ℕ) → Works s n R → RowsOf s R
+works-rows s n R w = record {
+  row-is = λ j l.
+      sym (getD-take n R j 0 (omega (arith, ap length (w .rows-are), length-take-le n R (omega (arith, w .sized .few, w .sized .size)))))
+      ∙ ap (λ (x : List ℕ). row x j) (w .rows-are);
+}
 
-unrefused-by : (r : Step) (a : Reply) → r .answer ≡ a → ((n : ℕ) → a ≡ refused n → ⊥) → Unrefused r
-unrefused-by r a d f n z = f n (sym d ∙ z)
+pub gauge-rows : (t : Table) → Legal t → RowsOf (gaugeSide t) (t .rows)
+gauge-rows t l = works-rows (gaugeSide t) (t .gauges) (t .rows) (gauge-works t l)
 
--- the question may be put: the value is not refused, its phase is Handed, and the pair is in the table
-pub record Asked (v : Value) (r : Step) (g c : ℕ) : Type 0 where
-  pub unrefused : (n : ℕ) → r .answer ≡ refused n → ⊥
-  pub handed : isHanded (v .phase) ≡ true
-  pub present : hasPair (v .table .rows) g c ≡ true
+pub case-rows : (t : Table) (R : List ℕ) → R ≡ padded (transpose (min (t .cases) 64) (places (t .gauges) (t .rows))) → Legal t → RowsOf (caseSide t) R
+case-rows t R e l = works-rows (caseSide t) (t .cases) R (case-works t l R e)
 
--- the rows of a side, in the array that the core has them in
-pub works-row : (s : Side) (n : ℕ) (R : List ℕ) → Works s n R → (j : ℕ) → j < length (s .rows) → row R j ≡ row (s .rows) j
-works-row s n R w j l =
-    sym (getD-take n R j 0 (omega (arith, ap length (w .rows-are), length-take-le n R (omega (arith, w .sized .few, w .sized .size)))))
-    ∙ ap (λ (x : List ℕ). row x j) (w .rows-are)
+-- ---- by the mark of a side
+pub side-sees : (b : Bool) (t : Table) → Legal t → (g c : ℕ) → 1 ≤ g → 1 ≤ c → Sees t (sideOf b t) (questionOf b t g c) g c (ownOf b c g)
+side-sees false t l g c = gauge-sees t l g c
+side-sees true t l g c = case-sees t l g c
+
+pub own-is : (b : Bool) (t : Table) (g c : ℕ) → ownOf b g c ≡ questionOf b t g c .own
+own-is false t g c = refl
+own-is true t g c = refl
+
+pub rows-few : (b : Bool) (t : Table) → Legal t → length (sideOf b t .rows) ≤ 64
+rows-few false t l = omega (arith, length-rows t l, l .gauges-high)
+rows-few true t l = omega (arith, length-transpose (t .cases) (tableRows t), l .cases-high)
+
+pub explained-at-side : {a b : Bool} {u v : Value} {g c : ℕ} {r : Answer ℕ} → a ≡ b → u ≡ v
+    → Explained (sideOf a) (questionOf a) u g c r × HasReasons (sideOf a) (questionOf a) u
+    → Explained (sideOf b) (questionOf b) v g c r × HasReasons (sideOf b) (questionOf b) v
+explained-at-side d e h = rw (← d, ← e) h
+
+-- ---- the checks: a refusal of the value, and else the pair
+pub asks-refused : (side : Table → Side) (v : Value) (b : Bool) (n : ℕ) → 0 < n → ChecksAt side v Handed n → AsksAt side v b n
+asks-refused side v b n l c =
+    record { table = c .table; value = c .value; stands = λ z p h. absurd (never-at side v Handed n c l z p h) }
+
+pub asks-pair : (side : Table → Side) (v : Value) (b : Bool) (n : ℕ) → n ≡ cond b 0 19 → ChecksAt side v Handed 0 → AsksAt side v b n
+asks-pair side v b n e c = record {
+  table = λ y. absurd (omega (arith, passes-at side v Handed 0 c refl));
+  value = λ z none. absurd (some-at side v Handed 0 c refl none);
+  stands = λ z p h. e;
+}
 
 -- ---- a value of either side
 module _ (side : Table → Side) (v : Value) (starts : Starts side v) where
@@ -151,169 +176,103 @@ module _ (side : Table → Side) (v : Value) (starts : Starts side v) where
   number-at p h i l =
       ap (λ (x : List ℕ). getD x i 0) (picks-are p h) ∙ pad-getD (map suc p) i ∙ getD-numbers p i (omega (arith, count-is p h))
 
-  -- ---- a call that makes no move
-  module _ (r : Step) (called : CalledOf side v 0 r) where
-    spent-at : Passes → (s : State) → PausedAt side v s → r .answer ≡ spent
-    spent-at z s p =
-        ap (λ (x : Step). x .answer) (called .rules z s p)
-        ∙ ap (λ (x : Call). told t (side t) (v .order) (v .omit) x .answer)
-        (within-by (movesOf t (side t) (held side v) (v .omit)) (handOut (side t)) 0 s (omega arith))
-
-    passes : Unrefused r → Passes
-    passes o = go (ℕ-discrete (valueRefusal side v) 0)
+  module _ (g c : ℕ) (size : length (t .rows) ≡ 64) where
+    -- ---- refusals
+    pub refused-explained : (question : Table → ℕ → ℕ → Question) (n : ℕ) → 0 < n → AsksAt side v (hasPair (t .rows) g c) n
+        → Explained side question v g c (noPick n)
+    refused-explained question n l a = record {
+      table = λ y. ap noPick (a .table y);
+      value = λ z none. ap noPick (a .value z none);
+      pick = λ z p h. go z p (a .stands z p h) (hasPair (t .rows) g c) refl;
+    }
       where
-        go : Dec Passes → Passes
-        go (yes e) = e
-        go (no e) = absurd (o (valueRefusal side v) (ap (λ (x : Step). x .answer) (called .table (omega arith))))
+        go : Passes → (p : List ℕ) → n ≡ cond (hasPair (t .rows) g c) 0 19 → (b : Bool) → hasPair (t .rows) g c ≡ b
+            → noPick n ≡ answer (reasonRefusal t (side t) p g c) (firstLacking (question t g c .meets) (map suc p)) 0
+        go z p e true d = let n0 : n ≡ 0 = e ∙ ap (λ (x : Bool). cond x 0 19) d in absurd (omega arith)
+        go z p e false d =
+            let n19 : n ≡ 19 = e ∙ ap (λ (x : Bool). cond x 0 19) d in
+            let absent = sym (pair-absent t g c size (table-passes z) (hasPair (t .rows) g c) (has-is (t .rows) g c) d) in
+            rw (n19, reason-absent t (side t) p g c absent)
 
-    by-number : (n m : ℕ) → r .answer ≡ refused n → r .answer ≡ refused m → n ≡ m
-    by-number n m a b = cc
-
-    never-both : (n : ℕ) {P : Type 0} → r .answer ≡ refused n → r .answer ≡ spent → P
-    never-both n a b = let z : _≡_ {A = ℕ} 0 1 = cc in absurd (omega arith)
-
-    -- of a value that is not refused, in the phase Handed, there is a state: it cannot be that there is none
-    handed-some : Unrefused r → isHanded (v .phase) ≡ true → ((p : List ℕ) → Stands p → ⊥) → ⊥
-    handed-some o e none = o 15 (ap (λ (x : Step). x .answer) (called .value (passes o) (λ s h. at-phase (s .phase) (s .picks) h)))
-      where
-        no-phase : (f : Phase) → v .phase ≡ byNumber f → isHanded (byNumber f) ≡ false → ⊥
-        no-phase f d w = let b : true ≡ false = sym e ∙ ap isHanded d ∙ w in let z : _≡_ {A = ℕ} 0 1 = cc in omega arith
-
-        at-phase : (f : Phase) (p : List ℕ) → PausedAt side v (at p f) → ⊥
-        at-phase Down p h = no-phase Down (ap (λ (y : Value). y .phase) (h .stands)) refl
-        at-phase Handed p h = none p h
-        at-phase (Back k) p h = no-phase (Back k) (ap (λ (y : Value). y .phase) (h .stands)) refl
-        at-phase Ended p h = no-phase Ended (ap (λ (y : Value). y .phase) (h .stands)) refl
-
-    module _ (g c : ℕ) (size : length (t .rows) ≡ 64) where
-      -- ---- refusals
-      module _ (question : Table → ℕ → ℕ → Question) where
-        call-refused : (n : ℕ) → r .answer ≡ refused n → Explained side question v g c (noPick n)
-        call-refused n e = record {
-          table = λ l. ap noPick (by-number n (valueRefusal side v) e (ap (λ (x : Step). x .answer) (called .table l)));
-          value = λ z none. ap noPick (by-number n 15 e (ap (λ (x : Step). x .answer) (called .value z (λ s p. never-both n e (spent-at z s p)))));
-          pick = λ z p h. never-both n e (spent-at z (at p Handed) h);
-        }
-
-        unasked-refused : Unrefused r → (n : ℕ) → 0 < n → n ≡ cond (isHanded (v .phase)) (cond (hasPair (t .rows) g c) 0 19) 15
-            → Explained side question v g c (noPick n)
-        unasked-refused o n l e = by-phase (isHanded (v .phase)) refl (hasPair (t .rows) g c) refl
-          where
-            by-phase : (h : Bool) → isHanded (v .phase) ≡ h → (b : Bool) → hasPair (t .rows) g c ≡ b → Explained side question v g c (noPick n)
-            by-phase false w b d =
-                let n15 : n ≡ 15 = e ∙ ap (λ (x : Bool). cond x (cond (hasPair (t .rows) g c) 0 19) 15) w in record {
-                  table = λ y. absurd (omega (arith, passes o));
-                  value = λ z none. ap noPick n15;
-                  pick = λ z p h. let y : true ≡ false = sym (ap (λ (x : Value). isHanded (x .phase)) (h .stands)) ∙ w in
-                      let q : _≡_ {A = ℕ} 0 1 = cc in absurd (omega arith);
-                }
-            by-phase true w false d =
-                let n19 : n ≡ 19 = e ∙ ap₂ (λ (x y : Bool). cond x (cond y 0 19) 15) w d in record {
-                  table = λ y. absurd (omega (arith, passes o));
-                  value = λ z none. absurd (handed-some o w none);
-                  pick = λ z p h.
-                      let absent = sym (pair-absent t g c size (table-passes z) (hasPair (t .rows) g c) (has-is (t .rows) g c) d) in
-                      rw (n19, reason-absent t (side t) p g c absent);
-                }
-            by-phase true w true d = let n0 : n ≡ 0 = e ∙ ap₂ (λ (x y : Bool). cond x (cond y 0 19) 15) w d in absurd (omega arith)
-
-        -- any refusal of the checks, after a call whose outcome is o
-        pub refused-explained : (o : Outcome) (w : List ℕ) → r .answer ≡ outcome o w → (k : Bool) → k ≡ isHanded (v .phase) → (x : Refusal)
-            → number x ≡ unasked o k (hasPair (t .rows) g c) → Explained side question v g c (noPick (number x))
-        refused-explained o w says k phase x e = go o says (e ∙ ap (λ (z : Bool). unasked o z (hasPair (t .rows) g c)) phase)
-          where
-            go : (y : Outcome) → r .answer ≡ outcome y w → number x ≡ unasked y (isHanded (v .phase)) (hasPair (t .rows) g c)
-                → Explained side question v g c (noPick (number x))
-            go HandedOut d z = unasked-refused (unrefused-by r (handed w) d (λ n y. let q : _≡_ {A = ℕ} 0 1 = cc in omega arith)) (number x) (number-pos x) z
-            go Spent d z = unasked-refused (unrefused-by r spent d (λ n y. let q : _≡_ {A = ℕ} 0 1 = cc in omega arith)) (number x) (number-pos x) z
-            go End d z = unasked-refused (unrefused-by r end d (λ n y. let q : _≡_ {A = ℕ} 0 1 = cc in omega arith)) (number x) (number-pos x) z
-            go (Refused y) d z = call-refused (number x) (d ∙ ap refused (sym z))
-
-      -- ---- a value that passes
-      pub asked : (o : Outcome) (w : List ℕ) → r .answer ≡ outcome o w → (k : Bool) → k ≡ isHanded (v .phase)
-          → unasked o k (hasPair (t .rows) g c) ≡ 0 → Asked v r g c
-      asked o w says k phase e = go o says (sym (ap (λ (z : Bool). unasked o z (hasPair (t .rows) g c)) phase) ∙ e)
+    -- ---- a value that passes
+    module _ (a : AsksAt side v (hasPair (t .rows) g c) 0) where
+      passes : Passes
+      passes = go (ℕ-discrete (valueRefusal side v) 0)
         where
-          both : (h b : Bool) → _≡_ {A = ℕ} (cond h (cond b 0 19) 15) 0 → (h ≡ true) × (b ≡ true)
-          both true true z = (refl, refl)
-          both true false z = absurd (omega arith)
-          both false b z = absurd (omega arith)
+          go : Dec Passes → Passes
+          go (yes e) = e
+          go (no e) = let l : 0 < valueRefusal side v = omega arith in absurd (omega (arith, a .table l))
 
-          facts : (a : Reply) → r .answer ≡ a → ((n : ℕ) → a ≡ refused n → ⊥)
-              → _≡_ {A = ℕ} (cond (isHanded (v .phase)) (cond (hasPair (t .rows) g c) 0 19) 15) 0 → Asked v r g c
-          facts a d f z = let m = both (isHanded (v .phase)) (hasPair (t .rows) g c) z in
-              record { unrefused = unrefused-by r a d f; handed = m .0; present = m .1 }
+      -- it cannot be that there is no state
+      some : ((p : List ℕ) → Stands p → ⊥) → ⊥
+      some none = omega (arith, a .value passes none)
 
-          go : (y : Outcome) → r .answer ≡ outcome y w → unasked y (isHanded (v .phase)) (hasPair (t .rows) g c) ≡ 0 → Asked v r g c
-          go HandedOut d z = facts (handed w) d (λ n y. let q : _≡_ {A = ℕ} 0 1 = cc in omega arith) z
-          go Spent d z = facts spent d (λ n y. let q : _≡_ {A = ℕ} 0 1 = cc in omega arith) z
-          go End d z = facts end d (λ n y. let q : _≡_ {A = ℕ} 0 1 = cc in omega arith) z
-          go (Refused y) d z = absurd (omega (arith, number-pos y))
+      present : hasPair (t .rows) g c ≡ true
+      present = go (hasPair (t .rows) g c) refl
+        where
+          go : (b : Bool) → hasPair (t .rows) g c ≡ b → hasPair (t .rows) g c ≡ true
+          go true d = d
+          go false d = absurd (some (λ p h. let e : _≡_ {A = ℕ} 0 19 = a .stands passes p h ∙ ap (λ (x : Bool). cond x 0 19) d in omega arith))
 
-      module _ (a : Asked v r g c) where
-        pub legal : Legal t
-        legal = starts (passes (a .unrefused)) .legal
+      pub legal : Legal t
+      legal = starts passes .legal
 
-        pub pair : Has (t .rows) g c
-        pair = has-is (t .rows) g c .0 (a .present)
+      pub pair : Has (t .rows) g c
+      pair = has-is (t .rows) g c .0 present
 
-        -- the picks are numbers of the side's rows: what is false of every state is false
-        pub numbers : length (v .picks) ≡ 64 → length (side t .rows) ≤ 64 → Numbered (v .picks) (v .count)
-        numbers wide few = record {
-          size = wide;
-          few = stable (decLe (v .count) 64) (λ n. some (λ p h. n (omega (arith, count-is p h, leaf-of (passes (a .unrefused)) p h .short))));
-          low = λ i l. stable (decLe 1 (getD (v .picks) i 0)) (λ n. some (λ p h. n (omega (arith, number-at p h i l))));
-          high = λ i l. stable (decLe (getD (v .picks) i 0) 64) (λ n. some (λ p h. n
-              (omega (arith, number-at p h i l, leaf-at (side t .rows) [] p (leaf-of (passes (a .unrefused)) p h .whole) i (omega (arith, count-is p h))))));
+      -- the picks are numbers of the side's rows: what is false of every state is false
+      pub numbers : length (v .picks) ≡ 64 → length (side t .rows) ≤ 64 → Numbered (v .picks) (v .count)
+      numbers wide few = record {
+        size = wide;
+        few = stable (decLe (v .count) 64) (λ n. some (λ p h. n (omega (arith, count-is p h, leaf-of passes p h .short))));
+        low = λ i l. stable (decLe 1 (getD (v .picks) i 0)) (λ n. some (λ p h. n (omega (arith, number-at p h i l))));
+        high = λ i l. stable (decLe (getD (v .picks) i 0) 64) (λ n. some (λ p h. n
+            (omega (arith, number-at p h i l, leaf-at (side t .rows) [] p (leaf-of passes p h .whole) i (omega (arith, count-is p h))))));
+      }
+
+      -- the pick that the search found on the side's rows, which stand in the array R
+      module _ (question : Table → ℕ → ℕ → Question) (other : ℕ) (sees : Sees t (side t) (question t g c) g c other) (R : List ℕ)
+          (rows-are : RowsOf (side t) R) (x : ℕ) (is : x ≡ foundIn R (other - 1) (v .picks) (v .count) (question t g c .own)) where
+        abbrev q : Question
+        q = question t g c
+
+        x-is : (p : List ℕ) → Stands p → x ≡ firstLacking (q .meets) (madeBefore (q .own) (map suc p))
+        x-is p h =
+            is ∙ ap (λ (y : List ℕ). firstLacking (rowHas R (other - 1)) (madeBefore (q .own) y)) (taken p h)
+            ∙ first-same (rowHas R (other - 1)) (q .meets) (q .own) p
+            (λ j m. agree j (leaf-mem (side t .rows) [] p (leaf-of passes p h .whole) j m))
+          where
+            agree : (j : ℕ) → j < length (side t .rows) → rowHas R (other - 1) (suc j) ≡ q .meets (suc j)
+            agree j l =
+                ap (λ (y : ℕ). bit (row R y) (other - 1)) (place j) ∙ ap (λ (y : ℕ). bit y (other - 1)) (rows-are .row-is j l) ∙ sym (sees .agrees j l)
+
+        pub named-explained : (n : ℕ) → n ≡ keptBy x → Explained side question v g c (record { refusal = n; value = x })
+        named-explained n e = record {
+          table = λ l. absurd (omega (arith, passes));
+          value = λ z none. absurd (some none);
+          pick = λ z p h. ⊎-elim (kept z p h) (λ f. found z p h (f .0) (f .1)) (search-before (q .meets) (q .own) p);
         }
           where
-            some : ((p : List ℕ) → Stands p → ⊥) → ⊥
-            some = handed-some (a .unrefused) (a .handed)
+            free : Passes → pairRefusal t g c ≡ 0
+            free z = sym (pair-present t g c size (table-passes z) (hasPair (t .rows) g c) (has-is (t .rows) g c) present)
 
-        -- the pick that the search found on the side's rows, which stand in the array R
-        module _ (question : Table → ℕ → ℕ → Question) (other : ℕ) (sees : Sees t (side t) (question t g c) g c other) (R : List ℕ)
-            (rows-are : (j : ℕ) → j < length (side t .rows) → row R j ≡ row (side t .rows) j) (x : ℕ)
-            (is : x ≡ foundIn R (other - 1) (v .picks) (v .count) (question t g c .own)) where
-          abbrev q : Question
-          q = question t g c
+            kept : Passes → (p : List ℕ) → Stands p → None (q .meets) (q .own) (map suc p)
+                → record { refusal = n; value = x } ≡ answer (reasonRefusal t (side t) p g c) (firstLacking (q .meets) (map suc p)) 0
+            kept z p h f =
+                let x0 : x ≡ 0 = x-is p h ∙ f .blank in
+                kept-answer n (reasonRefusal t (side t) p g c) x (firstLacking (q .meets) (map suc p)) (e ∙ ap keptBy x0)
+                (reason-pair t (side t) p g c (free z) true (has-is (handOut (side t) p) g c .1
+                (none-kept t (side t) q g c other p (leaf-of z p h) sees f (table-pairs t legal g c .0 pair)))) x0
 
-          x-is : (p : List ℕ) → Stands p → x ≡ firstLacking (q .meets) (madeBefore (q .own) (map suc p))
-          x-is p h =
-              is ∙ ap (λ (y : List ℕ). firstLacking (rowHas R (other - 1)) (madeBefore (q .own) y)) (taken p h)
-              ∙ first-same (rowHas R (other - 1)) (q .meets) (q .own) p
-              (λ j m. agree j (leaf-mem (side t .rows) [] p (leaf-of (passes (a .unrefused)) p h .whole) j m))
-            where
-              agree : (j : ℕ) → j < length (side t .rows) → rowHas R (other - 1) (suc j) ≡ q .meets (suc j)
-              agree j l =
-                  ap (λ (y : ℕ). bit (row R y) (other - 1)) (place j) ∙ ap (λ (y : ℕ). bit y (other - 1)) (rows-are j l) ∙ sym (sees .agrees j l)
-
-          pub named-explained : (n : ℕ) → n ≡ keptBy x → Explained side question v g c (record { refusal = n; value = x })
-          named-explained n e = record {
-            table = λ l. absurd (omega (arith, passes (a .unrefused)));
-            value = λ z none. absurd (handed-some (a .unrefused) (a .handed) none);
-            pick = λ z p h. ⊎-elim (kept z p h) (λ f. found z p h (f .0) (f .1)) (search-before (q .meets) (q .own) p);
-          }
-            where
-              free : Passes → pairRefusal t g c ≡ 0
-              free z = sym (pair-present t g c size (table-passes z) (hasPair (t .rows) g c) (has-is (t .rows) g c) (a .present))
-
-              kept : Passes → (p : List ℕ) → Stands p → None (q .meets) (q .own) (map suc p)
-                  → record { refusal = n; value = x } ≡ answer (reasonRefusal t (side t) p g c) (firstLacking (q .meets) (map suc p)) 0
-              kept z p h f =
-                  let x0 : x ≡ 0 = x-is p h ∙ f .blank in
-                  kept-answer n (reasonRefusal t (side t) p g c) x (firstLacking (q .meets) (map suc p)) (e ∙ ap keptBy x0)
-                  (reason-pair t (side t) p g c (free z) true (has-is (handOut (side t) p) g c .1
-                  (none-kept t (side t) q g c other p (leaf-of z p h) sees f (table-pairs t legal g c .0 pair)))) x0
-
-              found : Passes → (p : List ℕ) → Stands p → (y : ℕ) → Found (q .meets) (q .own) (map suc p) y
-                  → record { refusal = n; value = x } ≡ answer (reasonRefusal t (side t) p g c) (firstLacking (q .meets) (map suc p)) 0
-              found z p h y f =
-                  let xy : x ≡ y = x-is p h ∙ f .front in
-                  let pos : ¬ (x ≡ 0) = λ d. omega (arith, f .positive) in
-                  named-answer n (reasonRefusal t (side t) p g c) x (firstLacking (q .meets) (map suc p))
-                  (e ∙ ap (λ (b : Bool). cond b 22 0) (ne-eqb x 0 pos))
-                  (reason-pair t (side t) p g c (free z) false (has-not (handOut (side t) p) g c
-                  (lacking-out t (side t) q g c other p (leaf-of z p h) sees y (f .among) (f .first .lacks)))) (f .whole ∙ sym xy)
+            found : Passes → (p : List ℕ) → Stands p → (y : ℕ) → Found (q .meets) (q .own) (map suc p) y
+                → record { refusal = n; value = x } ≡ answer (reasonRefusal t (side t) p g c) (firstLacking (q .meets) (map suc p)) 0
+            found z p h y f =
+                let xy : x ≡ y = x-is p h ∙ f .front in
+                let pos : ¬ (x ≡ 0) = λ d. omega (arith, f .positive) in
+                named-answer n (reasonRefusal t (side t) p g c) x (firstLacking (q .meets) (map suc p))
+                (e ∙ ap (λ (b : Bool). cond b 22 0) (ne-eqb x 0 pos))
+                (reason-pair t (side t) p g c (free z) false (has-not (handOut (side t) p) g c
+                (lacking-out t (side t) q g c other p (leaf-of z p h) sees y (f .among) (f .first .lacks)))) (f .whole ∙ sym xy)
 
   -- ---- the claim of R-6, of the value's ladder
   pub has-reasons : (question : Table → ℕ → ℕ → Question) (other : ℕ → ℕ → ℕ)

@@ -15,13 +15,13 @@ use Rattle.lists.specs.Picks.{remainder}
 use Rattle.lists.specs.PickSequence.{isIn}
 use Rattle.lists.specs.Lists.{Side}
 use Rattle.lists.specs.OnTable.{ReachedOn}
-use Rattle.lists.specs.private.Arranging.{indexAt, arrange, prefer}
+use Rattle.lists.specs.private.Arranging.{indexAt, arrange}
 use Rattle.lists.proofs.Unpicked.{Un}
 use Rattle.lists.proofs.Standing.{index-place, index-below, place-below}
 use Rattle.lists.proofs.Candidates.{IsLeaf}
 use Rattle.lists.proofs.Existence.{filled-below, nothing-left}
 use Rattle.lists.proofs.PlacedCandidates.{AllBelow, isIn-index, remainder-placed}
-use Rattle.lists.proofs.PlacedRuns.{Placed, good-below, good-short, reached-placed}
+use Rattle.lists.proofs.PlacedRuns.{good-below, good-short, reached-placed}
 use Rattle.runs.proofs.HandOuts.{handed-leaf}
 
 module _ (rows : List ℕ) where

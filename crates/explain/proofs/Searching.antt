@@ -1,48 +1,15 @@
--- The code's checks and its loop: what `check` and `named` answer, and the search through the first `count` picks in their array, from each place
--- on (`Ahead`).
+-- The code's loop: the search through the first `count` picks in their array, from each place on (`Ahead`).
 use mathlib.Core.Path.{_≡_, refl, sym, ap, _∙_}
-use mathlib.Core.Logic.{⊎-elim}
-use mathlib.Core.Bool.{Bool, true, false, cond}
-use mathlib.Core.List.{List, [], _∷_}
+use mathlib.Core.Bool.{Bool, true, false}
+use mathlib.Core.List.{List}
 use Prim.Native.Nat.{ℕ, _+_, _-_, _≤_, _<_}
 use native.Mathlib.Omega.{arith}
 use lib.ListN.{length, getD, take}
 use lib.Seq.{length-take-le, getD-take}
 use Rattle.sets.specs.Sets.{bit}
-use Rattle.refusals.specs.Answers.{number}
-use Rattle.refusals.specs.declared.Refusal.{Refusal}
-use Rattle.runs.specs.declared.Outcome.{Outcome}
-use Rattle.runs.specs.declared.Outcome.the-variants.{HandedOut, Spent, End, Refused}
-use Rattle.runs.proofs.SideCalls.{tag, OneOf}
-use Rattle.explain.specs.private.Asking.{unasked, Numbered, rowHas, foundIn}
+use Rattle.explain.specs.private.Asking.{Numbered, rowHas, foundIn}
 use Rattle.explain.proofs.Picks.{from, turn-own, turn-lacks, turn-on, turn-end}
 
--- ---- the checks
-module _ (o : Outcome) (h b : Bool) where
-  pub call-refuses : (x : Refusal) → o ≡ Refused x → number x ≡ unasked o h b
-  call-refuses x e = sym (ap (λ (z : Outcome). unasked z h b) e)
-
-  -- a call that is not refused
-  call-passes : OneOf (0 ∷ 1 ∷ 2 ∷ []) (tag o) → cond h (cond b 0 19) 15 ≡ unasked o h b
-  call-passes k = go o k
-    where
-      go : (z : Outcome) → OneOf (0 ∷ 1 ∷ 2 ∷ []) (tag z) → cond h (cond b 0 19) 15 ≡ unasked z h b
-      go HandedOut m = refl
-      go Spent m = refl
-      go End m = refl
-      go (Refused x) m = ⊎-elim (λ i. absurd (omega arith)) (λ j. ⊎-elim (λ i. absurd (omega arith)) (λ i. absurd (omega arith)) j) m
-
-  module _ (k : OneOf (0 ∷ 1 ∷ 2 ∷ []) (tag o)) where
-    pub phase-refuses : h ≡ false → 15 ≡ unasked o h b
-    phase-refuses e = sym (ap (λ (z : Bool). cond z (cond b 0 19) 15) e) ∙ call-passes k
-
-    pub pair-refuses : h ≡ true → b ≡ false → 19 ≡ unasked o h b
-    pair-refuses e d = sym (ap (λ (z : Bool). cond z (cond b 0 19) 15) e ∙ ap (λ (z : Bool). cond z 0 19) d) ∙ call-passes k
-
-    pub nothing-refuses : h ≡ true → b ≡ true → 0 ≡ unasked o h b
-    nothing-refuses e d = sym (ap (λ (z : Bool). cond z (cond b 0 19) 15) e ∙ ap (λ (z : Bool). cond z 0 19) d) ∙ call-passes k
-
--- ---- the loop
 module _ (rows : List ℕ) (k : ℕ) (picks : List ℕ) (count own : ℕ) where
   -- what is found from place i on is what is found at all
   pub record Ahead (i : ℕ) : Type 0 where

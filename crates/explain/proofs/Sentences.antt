@@ -6,7 +6,7 @@ use mathlib.Core.Logic.{_↔_}
 use mathlib.Core.Bool.{Bool, true, false}
 use mathlib.Core.List.{List, _∷_, _++_, map, List·Memᴰ}
 use Prim.Native.Nat.{ℕ, suc}
-use native.Mathlib.Omega.{arith}
+use Rattle.basics.proofs.Clash.{clash}
 use Rattle.table.specs.declared.Table.{Table}
 use Rattle.table.specs.Pairs.{Has}
 use Rattle.table.specs.Tables.{tableRows}
@@ -17,7 +17,7 @@ use Rattle.explain.specs.Reasons.{Question, gaugeQuestion, caseQuestion,
 use Rattle.explain.proofs.Answers.{has-is}
 
 never : (b : Bool) → b ≡ true → b ≡ false → ⊥
-never b p q = let z : _≡_ {A = ℕ} 0 1 = cc in omega arith
+never b p q = clash cc
 
 -- "Among the picks made before the pair's own gauge .. such a pick exists for every pair left out and for no pair kept"
 pub reason-exactly : (t : Table) (s : Side) (q : Question) (g c : ℕ) (p : List ℕ) → Reasoned t s q g c p → Has (tableRows t) g c

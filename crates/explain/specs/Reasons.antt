@@ -3,7 +3,7 @@
 -- phase is Handed is the chain of its picks, `handOut` of crate `lists`, by gauge rows. Picks stand by number here, in the order of the picks.
 --
 -- In order: the question as each side puts it; the pick named; what the entries answer (`Explained`); the claim of R-6 on the picks before the
--- pair's own (`Reasoned`), which each entry promises of the ladder that it is asked about (`HasReasons`); how the two structs read.
+-- pair's own (`Reasoned`), which each entry promises of the ladder that it is asked about (`HasReasons`); how the structs read.
 --
 -- Elsewhere: that `Explained` leaves one answer and can be met, `explained-unique` and `explained-made` in proofs/Answers.antt; the claim,
 -- `reasoned` in proofs/Reasoning.antt.
@@ -25,6 +25,7 @@ use Rattle.runs.specs.Paused.{Value}
 use Rattle.runs.specs.Calling.{valueRefusal, PausedAt}
 use Rattle.explain.specs.declared.GaugeReason.{GaugeReason}
 use Rattle.explain.specs.declared.CaseReason.{CaseReason}
+use Rattle.explain.specs.declared.side.SideReason.{SideReason}
 
 -- ---- the question
 -- a pair as a side's run is asked about it: its own number on that side, and whether a pick has the pair's other number in the table
@@ -39,6 +40,11 @@ gaugeQuestion t g c = record { own = g; meets = λ x. hasPair (tableRows t) x c 
 -- in a case run: its own case; "the pair's gauge" responds under a picked case
 abbrev pub caseQuestion : Table → ℕ → ℕ → Question
 caseQuestion t g c = record { own = c; meets = λ x. hasPair (tableRows t) g x }
+
+-- by the mark of a side (`sideOf`, runs/specs/Sides)
+abbrev pub questionOf : Bool → Table → ℕ → ℕ → Question
+questionOf false = gaugeQuestion
+questionOf true = caseQuestion
 
 -- ---- the pick named
 -- the first of the picks that lacks the pair's other number; 0, which is no number, where there is none
@@ -92,9 +98,13 @@ HasReasons side question v =
     valueRefusal side v ≡ 0 → (p : List ℕ) → PausedAt side v (at p Handed) → (g c : ℕ)
     → Reasoned (v .table) (side (v .table)) (question (v .table) g c) g c p
 
--- ---- how the two structs read: 01's number, 0 where nothing is refused, and the pick's number
+-- ---- how the structs read: 01's number, 0 where nothing is refused, and the pick's number
 abbrev pub gaugeReason : GaugeReason → Answer ℕ
 gaugeReason r = record { refusal = verdict (r .verdict); value = r .pick .0 }
 
 abbrev pub caseReason : CaseReason → Answer ℕ
 caseReason r = record { refusal = verdict (r .verdict); value = r .pick .0 }
+
+-- of either side
+abbrev pub sideReason : SideReason → Answer ℕ
+sideReason r = record { refusal = verdict (r .verdict); value = r .pick }

@@ -11,6 +11,7 @@ use native.Mathlib.Omega.{arith}
 use lib.ListN.{length, length-map}
 use lib.Seq.{length-take-le}
 use borrow.Author.Tests.{lt-ltb, le-ltb, ne-eqb}
+use Rattle.basics.proofs.Clash.{clash}
 use Rattle.refusals.specs.Answers.{number as numberOf}
 use Rattle.refusals.specs.declared.Refusal.{Refusal}
 use Rattle.refusals.proofs.Answering.{number-pos, number-injective}
@@ -23,7 +24,7 @@ use Rattle.boards.specs.Boards.{board}
 use Rattle.covers.proofs.Covers.{none-smaller}
 use Rattle.covers.proofs.Sides.{least-few}
 use Rattle.covers.proofs.Fewest.{fewest-ladders, first-least-unique}
-use Rattle.mechanisms.specs.Covering.{Reading, replies, reading, refusal, mostTried, mostSide, mostLadders, refusalOf}
+use Rattle.mechanisms.specs.Covering.{Reading, coverOutcomeSays, fewest, refusalReading, mostTried, mostSide, mostLadders, refusalOf}
 use Rattle.mechanisms.specs.Covering.{withinBudget, byRule, Searched, Covers}
 use Rattle.mechanisms.specs.declared.CoverOutcome.{CoverOutcome}
 use Rattle.mechanisms.specs.declared.CoverOutcome.the-variants.{Covered, Spent, Refused}
@@ -66,32 +67,32 @@ module _ (t : Table) (b : ℕ) where
   abbrev xs : List (List ℕ)
   xs = chainsInOrder (tableRows t)
 
-  covers-refused : (n : ℕ) (r : Reading) → refusalOf t b (length xs) ≡ n → 0 < n → r ≡ refusal n → Covers t b r
+  covers-refused : (n : ℕ) (r : Reading) → refusalOf t b (length xs) ≡ n → 0 < n → r ≡ refusalReading n → Covers t b r
   covers-refused n r e l q = record {
     ladders = xs;
     listed = gauge-list-of t;
-    refuses = λ _. q ∙ ap refusal (sym e);
+    refuses = λ _. q ∙ ap refusalReading (sym e);
     searches = λ z. absurd (omega (arith, e, z));
   }
 
-  pub covers-table : (x : Refusal) (r : Reading) → r ≡ refusal (numberOf x) → numberOf x ≡ tableRefusal t → Covers t b r
+  pub covers-table : (x : Refusal) (r : Reading) → r ≡ refusalReading (numberOf x) → numberOf x ≡ tableRefusal t → Covers t b r
   covers-table x r q e =
       covers-refused (numberOf x) r (refused-table t b (length xs) (omega (arith, number-pos x, e)) ∙ sym e) (number-pos x) q
 
   module _ (passes : tableRefusal t ≡ 0) where
-    pub covers-budget : (r : Reading) → r ≡ refusal 18 → mostTried < b → Covers t b r
+    pub covers-budget : (r : Reading) → r ≡ refusalReading 18 → mostTried < b → Covers t b r
     covers-budget r q h = covers-refused 18 r (refused-budget t b (length xs) passes h) (omega arith) q
 
     module _ (small : b ≤ mostTried) where
-      pub covers-gauges : (r : Reading) → r ≡ refusal 23 → mostSide < t .gauges → Covers t b r
+      pub covers-gauges : (r : Reading) → r ≡ refusalReading 23 → mostSide < t .gauges → Covers t b r
       covers-gauges r q h = covers-refused 23 r (refused-gauges t b (length xs) passes small h) (omega arith) q
 
       module _ (low : t .gauges ≤ mostSide) where
-        pub covers-cases : (r : Reading) → r ≡ refusal 23 → mostSide < t .cases → Covers t b r
+        pub covers-cases : (r : Reading) → r ≡ refusalReading 23 → mostSide < t .cases → Covers t b r
         covers-cases r q h = covers-refused 23 r (refused-cases t b (length xs) passes small low h) (omega arith) q
 
         module _ (wide : t .cases ≤ mostSide) (n : ℕ) (boards : List ℕ) (l : Lists t n boards) where
-          pub covers-ladders : (r : Reading) → r ≡ refusal 24 → mostLadders < n → Covers t b r
+          pub covers-ladders : (r : Reading) → r ≡ refusalReading 24 → mostLadders < n → Covers t b r
           covers-ladders r q h =
               covers-refused 24 r (refused-ladders t b (length xs) passes small low wide (l .more h xs (gauge-list-of t))) (omega arith) q
 
@@ -124,14 +125,14 @@ covers-only t b r q c d = go (ℕ-discrete (refusalOf t b (length (c .ladders)))
 
     go : Dec (refusalOf t b (length (c .ladders)) ≡ 0) → r ≡ q
     go (yes z) = both (c .searches z) (d .searches (sym again ∙ z))
-    go (no z) = c .refuses (omega arith) ∙ ap refusal again ∙ sym (d .refuses (omega (arith, again)))
+    go (no z) = c .refuses (omega arith) ∙ ap refusalReading again ∙ sym (d .refuses (omega (arith, again)))
 
 pub covers-some : (t : Table) → length (t .rows) ≡ 64 → (b : ℕ) → (r : Reading) × Covers t b r
 covers-some t size b = go (ℕ-discrete (refusalOf t b (length (chainsInOrder (tableRows t)))) 0) (ℕ-discrete (tableRefusal t) 0)
   where
     refuse : ¬ (refusalOf t b (length (chainsInOrder (tableRows t))) ≡ 0) → (r : Reading) × Covers t b r
     refuse z = (
-      refusal (refusalOf t b (length (chainsInOrder (tableRows t)))),
+      refusalReading (refusalOf t b (length (chainsInOrder (tableRows t)))),
       record { ladders = chainsInOrder (tableRows t); listed = gauge-list-of t; refuses = λ _. refl; searches = λ e. absurd (z e) },
     )
 
@@ -158,18 +159,18 @@ covers-some t size b = go (ℕ-discrete (refusalOf t b (length (chainsInOrder (t
         )
 
 -- ---- no two answers read alike
-replies-injective : (x y : CoverOutcome) → replies x ≡ replies y → x ≡ y
+replies-injective : (x y : CoverOutcome) → coverOutcomeSays x ≡ coverOutcomeSays y → x ≡ y
 replies-injective Covered Covered e = refl
-replies-injective Covered Spent e = let z : _≡_ {A = ℕ} 0 1 = cc in absurd (omega arith)
-replies-injective Covered (Refused y) e = let z : _≡_ {A = ℕ} 0 1 = cc in absurd (omega arith)
-replies-injective Spent Covered e = let z : _≡_ {A = ℕ} 0 1 = cc in absurd (omega arith)
+replies-injective Covered Spent e = clash cc
+replies-injective Covered (Refused y) e = clash cc
+replies-injective Spent Covered e = clash cc
 replies-injective Spent Spent e = refl
-replies-injective Spent (Refused y) e = let z : _≡_ {A = ℕ} 0 1 = cc in absurd (omega arith)
-replies-injective (Refused x) Covered e = let z : _≡_ {A = ℕ} 0 1 = cc in absurd (omega arith)
-replies-injective (Refused x) Spent e = let z : _≡_ {A = ℕ} 0 1 = cc in absurd (omega arith)
+replies-injective Spent (Refused y) e = clash cc
+replies-injective (Refused x) Covered e = clash cc
+replies-injective (Refused x) Spent e = clash cc
 replies-injective (Refused x) (Refused y) e = let z : numberOf x ≡ numberOf y = cc in ap Refused (number-injective x y z)
 
-pub reading-injective : (x y : Fewest) → reading x ≡ reading y → x ≡ y
+pub reading-injective : (x y : Fewest) → fewest x ≡ fewest y → x ≡ y
 reading-injective x y e =
     ap₂ (λ (o : CoverOutcome) (r : Reading). record { outcome = o; number = r .number; tried = r .tried; cover = r .cover })
     (replies-injective (x .outcome) (y .outcome) (ap (λ (r : Reading). r .reply) e)) e

@@ -17,6 +17,7 @@ use lib.Dec.{eqb}
 use lib.ListN.{length, take, set, replicate, length-append, length-set}
 use lib.Pow.{pow-mono}
 use lib.Seq.{take-suc-set}
+use Rattle.basics.proofs.Clash.{clash}
 use Rattle.table.specs.declared.Table.{Table}
 use Rattle.table.specs.Pairs.{Within}
 use Rattle.table.specs.Tables.{Legal, tableRows, padded}
@@ -91,7 +92,7 @@ module _ (v : Value) (r : Step) (called : CalledOf gaugeSide v mostBudget r) whe
 
     -- nothing was handed out, and that is the end
     no-more : made .answer ≡ end → (b : ℕ) (w : Value) → Handed (v .table) made true b w
-    no-more e b w = record { ends = λ _. e; hands = λ z. let q : _≡_ {A = ℕ} 0 1 = cc in absurd (omega arith) }
+    no-more e b w = record { ends = λ _. e; hands = λ z. clash cc }
 
   pub hands-end : r .answer ≡ end → (b : ℕ) (w : Value) → Hands v true b w
   hands-end e b w l d o s p = no-more l d o s p (same-answer l d o s p ∙ e) b w
@@ -110,7 +111,7 @@ module _ (v : Value) (r : Step) (called : CalledOf gaugeSide v mostBudget r) whe
       let given : r ≡ byRules (v .table) (gaugeSide (v .table)) (v .order) false (handed x) (made l d o s p .moves) (made l d o s p .next) =
       as-answered l d o s p (handed x) e in
       record {
-        ends = λ z. let y : _≡_ {A = ℕ} 0 1 = cc in absurd (omega arith);
+        ends = λ z. clash cc;
         hands = λ _. (
           x,
           same-answer l d o s p ∙ e,
@@ -181,8 +182,8 @@ module _ (t : Table) (h : SmallTable t) (n : ℕ) (v : Value) (boards : List ℕ
   demand = demand3 t (h .legal) (gaugeSide t) (begun-plain .fair) o (begun-plain .arranged) (replicate (n + 1) mostBudget)
 
   -- the run's list is the gauge list
-  the-list : (xs : List (List ℕ)) → GaugeList t xs → demand .list ≡ xs
-  the-list xs g = list-unique (demand .list) xs (demand .listed) (plain-list t (h .legal) xs .1 g)
+  the-list : (xs : List (List ℕ)) → GaugeList t xs → demand .hands .list ≡ xs
+  the-list xs g = list-unique (demand .hands .list) xs (demand .hands .listed) (plain-list t (h .legal) xs .1 g)
 
   listing-ends : (b : ℕ) (w : Value) → Hands v true b w → Lists t n boards
   listing-ends b w f = record {
@@ -198,7 +199,7 @@ module _ (t : Table) (h : SmallTable t) (n : ℕ) (v : Value) (boards : List ℕ
       all xs g =
           sym (append-nil (handouts (sofar t n)))
           ∙ ap (λ (a : Reply). handouts (sofar t n) ++ answered a []) (sym ended) ∙ sym sets-last
-          ∙ demand .complete last (subst (List·Memᴰ last) (sym with-last) (Memᴰ·append-right (sofar t n) (List·Memᴰ·head refl))) ended
+          ∙ demand .hands .complete last (subst (List·Memᴰ last) (sym with-last) (Memᴰ·append-right (sofar t n) (List·Memᴰ·head refl))) ended
           ∙ the-list xs g
 
   -- a ladder more
@@ -240,8 +241,8 @@ module _ (t : Table) (h : SmallTable t) (n : ℕ) (v : Value) (boards : List ℕ
       size = i .size;
       whole = λ m xs g. absurd (omega (arith, l, m));
       more = λ m xs g.
-          let e : handouts (sofar t (n + 1)) ++ demand .front .0 ≡ xs = demand .front .1 ∙ the-list xs g in
-          omega (arith, ap length e, length-append (handouts (sofar t (n + 1))) (demand .front .0), many-more, l);
+          let e : handouts (sofar t (n + 1)) ++ demand .hands .front .0 ≡ xs = demand .hands .front .1 ∙ the-list xs g in
+          omega (arith, ap length e, length-append (handouts (sofar t (n + 1))) (demand .hands .front .0), many-more, l);
     }
 
 -- ---- the loop, from the value u of a fresh start on a small table in plain order

@@ -8,6 +8,7 @@ use Prim.Native.Nat.{ℕ, _+_, _-_, _≤_, _<_}
 use native.Mathlib.Omega.{arith}
 use borrow.Author.Tests.{lt-ltb, le-ltb}
 use lib.ListN.{length, take, replicate, length-map, length-replicate}
+use Rattle.basics.proofs.Clash.{clash}
 use Rattle.table.specs.declared.Table.{Table}
 use Rattle.table.specs.declared.Chain.{Chain}
 use Rattle.table.specs.Pairs.{Within}
@@ -121,8 +122,7 @@ module _ (t : Table) (h : SmallTable t) (xs : List (List ℕ)) (g : GaugeList t 
     some-cover m z =
         let w : Tried b o m none = whole-is b o m none (told-nothing 0 (spend b o) m (sym z ∙ f .says) ∙ sym (as-nothing m)) in
         let y : some (map board c) ≡ none = sym cover-is ∙ w .cover in
-        let q : _≡_ {A = ℕ} 0 1 = cc in
-        omega arith
+        clash cc
 
     module _ (rest count : ℕ) (z : s ≡ Cover rest count) where
       told : (c′ : List ℕ) × (spend b o ≡ found rest c′) × (count ≡ 0 + length c′)

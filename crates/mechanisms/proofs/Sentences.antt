@@ -9,6 +9,7 @@ use Prim.Native.Nat.{ℕ, suc, _≤_, _<_, min}
 use native.Mathlib.Decide.{decLt}
 use native.Mathlib.Omega.{arith}
 use lib.ListN.{length}
+use Rattle.basics.proofs.Clash.{clash}
 use Rattle.table.specs.declared.Table.{Table}
 use Rattle.table.specs.Tables.{tableRows}
 use Rattle.lists.specs.Lists.{Precedes}
@@ -20,7 +21,7 @@ use Rattle.mechanisms.specs.Covering.{covered, spent, Reading, spentAt, 
 use Rattle.mechanisms.proofs.Searching.{within-over, within-whole}
 
 apart : covered ≡ spent → ⊥
-apart e = let z : _≡_ {A = ℕ} 0 1 = cc in omega arith
+apart e = clash cc
 
 module _ (t : Table) (b : ℕ) (xs : List (List ℕ)) (r : Reading) (s : Searched t b xs r) where
   abbrev all : List Pair

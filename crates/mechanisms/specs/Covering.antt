@@ -28,25 +28,25 @@ use Rattle.mechanisms.specs.declared.CoverOutcome.the-variants.{Covered,
 use Rattle.mechanisms.specs.declared.Fewest.{Fewest}
 
 -- ---- an answer
-pub data Reply : Type 0 where
-  covered : Reply
-  spent : Reply
-  refused : ℕ → Reply
+pub data CoverReply : Type 0 where
+  covered : CoverReply
+  spent : CoverReply
+  refused : ℕ → CoverReply
 
 pub record Reading : Type 0 where
-  pub reply : Reply
+  pub reply : CoverReply
   pub number : ℕ
   pub tried : ℕ
   pub cover : List Chain
 
 -- how the code's answer reads
-abbrev pub replies : CoverOutcome → Reply
-replies Covered = covered
-replies Spent = spent
-replies (Refused x) = refused (numberOf x)
+abbrev pub coverOutcomeSays : CoverOutcome → CoverReply
+coverOutcomeSays Covered = covered
+coverOutcomeSays Spent = spent
+coverOutcomeSays (Refused x) = refused (numberOf x)
 
-abbrev pub reading : Fewest → Reading
-reading f = record { reply = replies (f .outcome); number = f .number; tried = f .tried; cover = f .cover }
+abbrev pub fewest : Fewest → Reading
+fewest f = record { reply = coverOutcomeSays (f .outcome); number = f .number; tried = f .tried; cover = f .cover }
 
 -- ---- the answers that there are
 -- the places of a cover, all blank
@@ -54,8 +54,8 @@ abbrev pub noChains : List Chain
 noChains = replicate 8 blankChain
 
 -- "A refusal yields its number and nothing else" (01)
-abbrev pub refusal : ℕ → Reading
-refusal n = record { reply = refused n; number = 0; tried = 0; cover = noChains }
+abbrev pub refusalReading : ℕ → Reading
+refusalReading n = record { reply = refused n; number = 0; tried = 0; cover = noChains }
 
 -- "with the budget as that number and no cover"
 abbrev pub spentAt : ℕ → Reading
@@ -112,5 +112,5 @@ pub record Searched (t : Table) (b : ℕ) (xs : List (List ℕ)) (r : Reading) :
 pub record Covers (t : Table) (b : ℕ) (r : Reading) : Type 0 where
   pub ladders : List (List ℕ)
   pub listed : GaugeList t ladders
-  pub refuses : 0 < refusalOf t b (length ladders) → r ≡ refusal (refusalOf t b (length ladders))
+  pub refuses : 0 < refusalOf t b (length ladders) → r ≡ refusalReading (refusalOf t b (length ladders))
   pub searches : refusalOf t b (length ladders) ≡ 0 → Searched t b ladders r

@@ -18,7 +18,7 @@ ghost use Prim.Native.Nat.{_≤_};
 ghost use lib.ListN.{length, take};
 ghost use Rattle.refusals.specs.Answers.{number};
 ghost use Rattle.runs.specs.Paused.{gaugeValue};
-ghost use Rattle.mechanisms.specs.Covering.{reading, refusal, spentAt, noChains, mostLadders, Covers};
+ghost use Rattle.mechanisms.specs.Covering.{fewest, refusalReading, spentAt, noChains, mostLadders, Covers};
 ghost use Rattle.mechanisms.specs.private.Steps.{SmallTable, Hands, Lists, Ready, Answers, shown};
 
 // "The budget is 0 to 1,000,000 ladders tried" (02).
@@ -57,7 +57,7 @@ struct Next {
 
 // The fewest ladders of `t` that hold every pair, by trying at most `budget` ladders.
 pub fn fewest_ladders(t: Table, budget: u64) -> Fewest
-    ensures { λ r. ⌜ Covers t budget (reading r) ⌝ }
+    ensures { λ r. ⌜ Covers t budget (fewest r) ⌝ }
 {
     let checked = table::check_table(t);
     if let Verdict::Refused(why) = checked {
@@ -142,7 +142,7 @@ fn next_ladder(run: GaugeRun) -> Next
 // The search, where the boards are those of the ladders of `t`.
 fn search(t: Table, ladders: &[u64], budget: u64) -> Fewest
     requires { ⌜ Ready t (now ladders) ⌝ }
-    ensures { λ r. ⌜ Answers t budget (reading r) ⌝ }
+    ensures { λ r. ⌜ Answers t budget (fewest r) ⌝ }
 {
     let rows = t.rows;
     let found = cover_search::least_cover(ladders, boards::board_of(&rows), budget);
@@ -158,7 +158,7 @@ fn search(t: Table, ladders: &[u64], budget: u64) -> Fewest
 // A cover: the first `count` boards, as chains of `gauges` rows.
 fn covered(gauges: u64, found: [u64; 8], count: usize, tried: u64) -> Fewest
     requires { ⌜ count ≤ 8 ⌝ }
-    ensures { λ r. ⌜ reading r ≡ shown gauges (take count found) count tried ⌝ }
+    ensures { λ r. ⌜ fewest r ≡ shown gauges (take count found) count tried ⌝ }
 {
     let mut cover = no_chains();
     let mut i: usize = 0;
@@ -176,7 +176,7 @@ fn covered(gauges: u64, found: [u64; 8], count: usize, tried: u64) -> Fewest
 
 // "with the budget as that number and no cover"
 fn spend(budget: u64) -> Fewest
-    ensures { λ r. ⌜ reading r ≡ spentAt budget ⌝ }
+    ensures { λ r. ⌜ fewest r ≡ spentAt budget ⌝ }
 {
     Fewest {
         outcome: CoverOutcome::Spent,
@@ -187,7 +187,7 @@ fn spend(budget: u64) -> Fewest
 }
 
 fn refuse(why: Refusal) -> Fewest
-    ensures { λ r. ⌜ reading r ≡ refusal (number why) ⌝ }
+    ensures { λ r. ⌜ fewest r ≡ refusalReading (number why) ⌝ }
 {
     Fewest {
         outcome: CoverOutcome::Refused(why),
@@ -200,10 +200,6 @@ fn refuse(why: Refusal) -> Fewest
 fn no_chains() -> [Chain; 8]
     ensures { λ r. ⌜ r ≡ noChains ⌝ }
 {
-    let rows = [0u64; 64];
-    let blank = Chain {
-        gauges: 0,
-        rows: rows,
-    };
+    let blank = table::blank_chain();
     [blank; 8]
 }

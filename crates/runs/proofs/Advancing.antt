@@ -8,6 +8,7 @@ use native.Mathlib.Omega.{arith}
 use lib.Bits.{bitAnd}
 use lib.Dec.{eqb}
 use lib.ListN.{length, take, getD, length-take}
+use Rattle.basics.proofs.Clash.{clash}
 use Rattle.table.specs.Tables.{padded}
 use Rattle.table.proofs.Padding.{pad-getD}
 use Rattle.sets.specs.Lists.{allBelow}
@@ -39,7 +40,7 @@ module _ (mv : State → Move) where
       let d : b - m ≡ suc (b - (m + 1)) = omega arith in
       ap (λ (n : ℕ). carryBy mv out n y) d ∙ ap (λ (z : Move). proceedBy mv out (carryBy mv out (b - (m + 1))) (z .given) (z .next)) e
 
-  pub ahead-more : {b m : ℕ} {x y : State} (z : State) → Ahead mv b m x y → m < b → mv y ≡ gives nothing z → Ahead mv b (m + 1) x z
+  ahead-more : {b m : ℕ} {x y : State} (z : State) → Ahead mv b m x y → m < b → mv y ≡ gives nothing z → Ahead mv b (m + 1) x z
   ahead-more {b} {m} {x} {y} z a l e = record {
     most = omega arith;
     onward = λ out.
@@ -49,15 +50,15 @@ module _ (mv : State → Move) where
         ∙ ap (λ (k : ℕ). result (c .answer) k (c .next)) d;
   }
 
-  pub ahead-out : {b m : ℕ} {x y : State} (z : State) → Ahead mv b m x y → m < b → mv y ≡ gives (hands (z .picks)) z → ComesOut mv b x HandedOut (m + 1) z
+  ahead-out : {b m : ℕ} {x y : State} (z : State) → Ahead mv b m x y → m < b → mv y ≡ gives (hands (z .picks)) z → ComesOut mv b x HandedOut (m + 1) z
   ahead-out {b} {m} {x} {y} z a l e out =
       a .onward out ∙ ap (later m) (carry-step out b m y (gives (hands (z .picks)) z) l e)
 
-  pub ahead-over : {b m : ℕ} {x y : State} (z : State) → Ahead mv b m x y → m < b → mv y ≡ gives ends z → ComesOut mv b x End (m + 1) z
+  ahead-over : {b m : ℕ} {x y : State} (z : State) → Ahead mv b m x y → m < b → mv y ≡ gives ends z → ComesOut mv b x End (m + 1) z
   ahead-over {b} {m} {x} {y} z a l e out =
       a .onward out ∙ ap (later m) (carry-step out b m y (gives ends z) l e)
 
-  pub ahead-spent : {b m : ℕ} {x y : State} → Ahead mv b m x y → b ≤ m → ComesOut mv b x Spent m y
+  ahead-spent : {b m : ℕ} {x y : State} → Ahead mv b m x y → b ≤ m → ComesOut mv b x Spent m y
   ahead-spent {b} {m} {x} {y} a l out =
       let d : b - m ≡ 0 = omega arith in
       let k : m + 0 ≡ m = omega arith in
@@ -83,7 +84,7 @@ module _ (r w : List ℕ) (y z : State) where
 
     omit-by : (omit : Bool) → handsOver omit (length r) w (chainOf r (z .picks)) ≡ false → moveBy r omit w y ≡ gives nothing z
     unfolding moveBy handsOver
-    omit-by false d = let q : _≡_ {A = ℕ} 0 1 = cc in absurd (omega arith)
+    omit-by false d = clash cc
     omit-by true d = rw (e, d)
 
 -- the array of the chain is asked for the chain

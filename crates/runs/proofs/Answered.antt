@@ -6,7 +6,7 @@ use mathlib.Core.List.{List, map}
 use Prim.Native.Nat.{ℕ, suc, _<_}
 use native.Mathlib.Omega.{arith}
 use lib.ListN.{length}
-use Rattle.table.specs.Tables.{blankTable, noRows, padded, blankChain}
+use Rattle.table.specs.Tables.{blankTable, padded, blankChain}
 use Rattle.refusals.specs.Answers.{number, answer}
 use Rattle.refusals.specs.declared.Refusal.{Refusal}
 use Rattle.table.specs.declared.Chain.{Chain}
@@ -16,8 +16,8 @@ use Rattle.rules.specs.Machine.{Phase, State, fresh}
 use Rattle.rules.specs.Calls.{refused}
 use Rattle.lists.specs.Lists.{Side}
 use Rattle.lists.specs.OnTable.{ReachedOn}
-use Rattle.runs.specs.Paused.{Value, numbered, paused, blankValue}
-use Rattle.runs.specs.Calling.{Step, refusal, told, held, valueRefusal, PausedAt, Called}
+use Rattle.runs.specs.Paused.{Value, numbered, paused, blankValue, noNumbers}
+use Rattle.runs.specs.Calling.{Step, refusalStep, told, held, valueRefusal, PausedAt, Called}
 use Rattle.runs.specs.Omitting.{CalledEither}
 use Rattle.runs.specs.private.Either.{callOf, CalledOf}
 use Rattle.runs.specs.private.Working.{StandsBy}
@@ -53,9 +53,9 @@ module _ (side : Table → Side) (v : Value) where
     fits = h .reached;
   }
 
-pub called-refused : (side : Table → Side) (v : Value) (b n : ℕ) → n ≡ valueRefusal side v → 0 < n → (r : Step) → r ≡ refusal n → CalledOf side v b r
+pub called-refused : (side : Table → Side) (v : Value) (b n : ℕ) → n ≡ valueRefusal side v → 0 < n → (r : Step) → r ≡ refusalStep n → CalledOf side v b r
 called-refused side v b n e l r d = record {
-  table = λ w. d ∙ ap refusal e;
+  table = λ w. d ∙ ap refusalStep e;
   value = λ z m. absurd (omega (arith, e, z));
   rules = λ z s p. absurd (omega (arith, e, z));
 }
@@ -88,12 +88,12 @@ module _ (side : Table → Side) (v : Value) (b : ℕ) (r : Step) where
 
 -- ---- refusals and fresh starts, as the thin functions put them together
 -- the value beside a refusal, of either side
-pub blank-is : (v : Value) (t : Table) → t ≡ blankTable → v ≡ paused t noRows false fresh → v ≡ blankValue
-blank-is v t d w = w ∙ ap (λ (y : Table). paused y noRows false fresh) d
+pub blank-is : (v : Value) (t : Table) → t ≡ blankTable → v ≡ paused t noNumbers false fresh → v ≡ blankValue
+blank-is v t d w = w ∙ ap (λ (y : Table). paused y noNumbers false fresh) d
 
 -- a refused step of either side: its chain and its value are blank
 pub refusal-step : (n : ℕ) (c : Chain) (v : Value) → c ≡ blankChain → v ≡ blankValue
-    → record { answer = refused n; moves = 0; chain = c; picks = noRows; next = v } ≡ refusal n
+    → record { answer = refused n; moves = 0; chain = c; picks = noNumbers; next = v } ≡ refusalStep n
 refusal-step n c v e w = rw (e, w)
 
 -- a refused start

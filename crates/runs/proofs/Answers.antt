@@ -6,6 +6,7 @@ use mathlib.Core.List.{List, [], _∷_, _++_, map, List·Memᴰ, Memᴰ·of-map}
 use Prim.Native.Nat.{ℕ, _≤_, _<_}
 use native.Mathlib.Decide.{decLe}
 use native.Mathlib.Omega.{arith}
+use Rattle.basics.proofs.Clash.{clash}
 use Rattle.table.specs.declared.Table.{Table}
 use Rattle.rules.specs.Machine.{State, fresh, Move}
 use Rattle.rules.specs.Calls.{Reply, refused, spent, handed, end, Call, mostBudget, answered, handouts, movesUntil, isHandOut, isHandOutOrEnd}
@@ -15,8 +16,8 @@ use Rattle.lists.specs.Lists.{Side}
 use Rattle.lists.specs.OnTable.{handOut, moveOn}
 use Rattle.lists.specs.Demand.{gapLimit}
 use Rattle.lists.specs.private.Demand.{Demand}
-use Rattle.runs.specs.Calling.{Step, refusal, byRules, told}
-use Rattle.runs.specs.Demand.{sets, Ends, reported, Each, HandsOut, Demand3}
+use Rattle.runs.specs.Calling.{Step, refusalStep, byRules, told}
+use Rattle.runs.specs.Demand.{handedSets, Ends, reported, Each, HandsOut, Demand3}
 
 module _ (t : Table) (y : Side) (k : List ℕ) (omit : Bool) where
   abbrev tell : Call → Step
@@ -41,7 +42,7 @@ module _ (t : Table) (y : Side) (k : List ℕ) (omit : Bool) where
   moves-told (handed x) m s h = refl
   moves-told end m s h = refl
 
-  sets-are : (cs : List Call) → sets (map tell cs) ≡ handouts cs
+  sets-are : (cs : List Call) → handedSets (map tell cs) ≡ handouts cs
   sets-are [] = refl
   sets-are (c ∷ cs) = ap₂ answered (tell-answer c) (sets-are cs)
 
@@ -70,8 +71,8 @@ module _ (t : Table) (y : Side) (k : List ℕ) (omit : Bool) where
     still : All Still behind
 
   split : (cs : List Call) (sooner later : List Step) (r : Step) → All Still cs → map tell cs ≡ sooner ++ (r ∷ later) → Split cs sooner later r
-  split [] [] later r h e = let z : _≡_ {A = ℕ} 0 1 = cc in absurd (omega arith)
-  split [] (x ∷ sooner) later r h e = let z : _≡_ {A = ℕ} 0 1 = cc in absurd (omega arith)
+  split [] [] later r h e = clash cc
+  split [] (x ∷ sooner) later r h e = clash cc
   split (d ∷ cs) [] later r h e =
       record { before = []; call = d; behind = cs; parts = refl; is-call = (let z : tell d ≡ r = cc in z); is-later = cc; still = h .1 }
   split (d ∷ cs) (x ∷ sooner) later r h e =
@@ -91,7 +92,7 @@ module _ (t : Table) (y : Side) (k : List ℕ) (omit : Bool) where
       let q = Memᴰ·of-map tell cs m in (q .0, q .1, sym (tell-answer (q .0)) ∙ ap (λ (x : Step). x .answer) (q .2) ∙ e)
 
   module _ (mv : State → Move) (out : List ℕ → List ℕ) where
-    each18 : (bs : List ℕ) (x : State) (cs : List Call) → EachCall Only18 bs x cs → Each (λ b r. mostBudget < b → r ≡ refusal 18) bs (map tell cs)
+    each18 : (bs : List ℕ) (x : State) (cs : List Call) → EachCall Only18 bs x cs → Each (λ b r. mostBudget < b → r ≡ refusalStep 18) bs (map tell cs)
     each18 [] x [] e = tt
     each18 [] x (c ∷ cs) e = absurd e
     each18 (b ∷ bs) x [] e = absurd e
@@ -115,7 +116,7 @@ module _ (t : Table) (y : Side) (k : List ℕ) (omit : Bool) where
         one (yes l) a = moves-told (c .answer) (c .moves) (c .next) (λ n g. absurd (e .0 .else l n g)) ∙ f .0 l .only a .0
         one (no l) a =
             let g : c .answer ≡ refused 18 = ap (λ (d : Call). d .answer) (e .0 .above (omega arith)) in
-            let z : _≡_ {A = ℕ} 0 1 = cc in absurd (omega arith)
+            clash cc
 
     each-within : (bs : List ℕ) (x : State) (cs : List Call) → EachCall Only18 bs x cs
         → EachCall (λ b x c. b ≤ mostBudget → WholeBy mv out b x c) bs x cs → Each (λ b r. r .moves ≤ b) bs (map tell cs)
@@ -143,10 +144,11 @@ module _ (t : Table) (y : Side) (k : List ℕ) (omit : Bool) where
 
 pub told-demand : (t : Table) (y : Side) (k o bs : List ℕ) (cs : List Call) → Demand t y o bs cs → Demand3 t y o bs (map (told t y k false) cs)
 told-demand t y k o bs cs d =
-    let still = stills t y k false bs fresh cs (d .only18) in record {
-      list = d .list;
-      listed = d .listed;
-      hands = hands-out t y k false (moveOn y o) (handOut y) (d .list) bs cs (d .only18) (d .whole) (d .spent) (d .front) (d .complete);
+    let still = stills t y k false bs fresh cs (d .hands .only18) in record {
+      list = d .hands .list;
+      listed = d .hands .listed;
+      hands = hands-out t y k false (moveOn y o) (handOut y) (d .hands .list) bs cs (d .hands .only18) (d .hands .whole) (d .hands .spent)
+          (d .hands .front) (d .hands .complete);
       few = d .few;
       start = rw (reported-are t y k false isHandOut cs still) (d .start);
       gap = λ sooner later r x e h.

@@ -9,6 +9,7 @@ use Prim.Native.Nat.{ℕ, zero, suc, _-_, _/_, _≤_, _<_}
 use native.Mathlib.Decide.{ℕ-discrete, decLe}
 use native.Mathlib.Omega.{arith}
 use lib.ListN.{length, drop}
+use Rattle.basics.proofs.Clash.{clash}
 use Rattle.table.specs.declared.Table.{Table}
 use Rattle.rules.specs.Machine.{State, Given, nothing, hands, ends, Move}
 use Rattle.rules.specs.Sequences.{All}
@@ -152,14 +153,14 @@ batch-reached t y o omit (suc k) b s h =
 -- ---- a ladder of a batch has G words
 module _ (mv : State → Move) (out : List ℕ → List ℕ) (g : ℕ) (h : (p : List ℕ) → length (out p) ≡ g) where
   carry-size : (b : ℕ) (s : State) (x : List ℕ) → carryBy mv out b s .answer ≡ handed x → length x ≡ g
-  carry-size zero s x e = let z : _≡_ {A = ℕ} 0 1 = cc in absurd (omega arith)
+  carry-size zero s x e = clash cc
   carry-size (suc b) s x e = go (mv s .given) (carry-size b (mv s .next) x) e
     where
       go : (i : Given) → (carryBy mv out b (mv s .next) .answer ≡ handed x → length x ≡ g)
           → proceedBy mv out (carryBy mv out b) i (mv s .next) .answer ≡ handed x → length x ≡ g
       go nothing ih d = ih d
       go (hands p) ih d = let y : out p ≡ x = cc in ap length (sym y) ∙ h p
-      go ends ih d = let z : _≡_ {A = ℕ} 0 1 = cc in absurd (omega arith)
+      go ends ih d = clash cc
 
   batch-size : (k b : ℕ) (s : State) → b ≤ mostBudget → All (λ (x : List ℕ). length x ≡ g) (batchBy mv out k b s .sets)
   batch-size zero b s l = tt

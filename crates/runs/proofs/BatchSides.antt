@@ -6,6 +6,7 @@ use mathlib.Core.List.{List, [], _∷_, _++_, map}
 use Prim.Native.Nat.{ℕ, zero, suc, _+_, _-_, _/_, _≤_, _<_}
 use native.Mathlib.Omega.{arith}
 use lib.ListN.{length, take, drop}
+use Rattle.basics.proofs.Clash.{clash}
 use Rattle.refusals.specs.Answers.{number}
 use Rattle.refusals.specs.declared.Refusal.{Refusal}
 use Rattle.refusals.specs.declared.Refusal.the-variants.{NotReached, BudgetTooLarge, NotAnArrangement}
@@ -18,39 +19,41 @@ use Rattle.lists.specs.Lists.{Side, gaugeSide, caseSide}
 use Rattle.lists.specs.OnTable.{handOut, ReachedOn}
 use Rattle.preference.specs.Preferences.{isPreference}
 use Rattle.preference.proofs.Placing.{both-pass, preference-refused}
-use Rattle.runs.specs.Paused.{Value, numbered, paused, blankValue}
-use Rattle.runs.specs.Calling.{Step, told, held, valueRefusal, Called, Calls, left}
-use Rattle.runs.specs.Demand.{sets}
+use Rattle.runs.specs.Paused.{Value, numbered, paused, blankValue, modePhase}
+use Rattle.runs.specs.Calling.{Step, told, held, valueRefusal, Called, Calls, lastValue}
+use Rattle.runs.specs.Demand.{handedSets}
 use Rattle.runs.specs.Omitting.{movesOf, CalledEither, CallsEither}
 use Rattle.runs.specs.Batches.{Ending, denied, Batch, ending, Tale, tale, onward, batchBy, budgetsAfter, budgetsBy}
 use Rattle.runs.specs.Batches.{joined, denial, Denied, given, Comes, batchOn, budgetsOn, stepsOn, leftOver, total, Batched, CarriesBatch}
-use Rattle.runs.specs.private.Working.{Works, modePhase, placedMove}
+use Rattle.runs.specs.private.Working.{Works, placedMove}
 use Rattle.runs.specs.private.Listing.{ladderOf, ladderFor, WentOn, ListsBy, ListsIn}
+use Rattle.runs.specs.private.Sided.{Wants, batchFrom}
 use Rattle.runs.specs.declared.Outcome.the-variants.{Refused}
-use Rattle.runs.specs.declared.engine.Mode.{Mode}
 use Rattle.runs.specs.declared.listing.Tally.{Tally}
 use Rattle.runs.proofs.Padding.{take-padded}
 use Rattle.runs.proofs.Words.{stored-front}
-use Rattle.runs.proofs.SideCalls.{tag, OneOf}
+use Rattle.runs.proofs.SideCalls.{tag, OneOf, never-refused}
 use Rattle.runs.proofs.Sides.{gauge-chain, case-chain}
-use Rattle.runs.proofs.Wanting.{Wants, core-moves}
+use Rattle.runs.proofs.Wanting.{core-moves}
 use Rattle.runs.proofs.Answered.{stands-paused, paused-stands}
-use Rattle.runs.proofs.Carrying.{never-refused}
 use Rattle.runs.proofs.Demands.{Starts, calls-made, calls-only, calls-as, calls-append, left-value, told-answer, run-demand, run-omits}
 
 -- ---- the run's moves and ladders
-pub listed-by : (t : Table) (s : Side) (w : List ℕ) (n : ℕ) (R : List ℕ) → Works s n R → (omit flag : Bool) → omit ≡ flag → (flag ≡ true → Wants t s w)
-    → (turning : Bool) (g : ℕ) (order : List ℕ) → ((p : List ℕ) → ladderFor turning true order n g (s .rows) p ≡ handOut s p)
+pub listed-by : (t : Table) (s : Side) (w : List ℕ) (n : ℕ) (R : List ℕ) → n ≡ s .count → Works s (s .count) R → (omit : Bool) → (omit ≡ true → Wants t s w)
+    → (turning : Bool) (g : ℕ) (order : List ℕ) → ((p : List ℕ) → ladderFor turning true order (s .count) g (s .rows) p ≡ handOut s p)
     → (room : ℕ) (k : List ℕ) (count : ℕ) (f : Phase) (b : ℕ) (before k′ now : List ℕ) (o : Tally)
-    → ListsIn (λ q. placedMove (take n R) q flag w) (ladderFor turning true order n g (take n R)) room n (take n R) order k count f b before k′ now o
-    → ListsIn (λ q. movesOf t s q omit) (handOut s) room n (s .rows) order k count f b before k′ now o
-listed-by t s w n R v omit flag e h turning g order same room k count f b before k′ now o d =
-    subst (λ (x : Bool). ListsIn (λ q. movesOf t s q x) (handOut s) room n (s .rows) order k count f b before k′ now o) (sym e)
-    (subst (λ (m : List ℕ → State → Move). ListsIn m (handOut s) room n (s .rows) order k count f b before k′ now o)
-    (fun-ext (λ q. core-moves t s w q flag h))
-    (subst (λ (out : List ℕ → List ℕ). ListsIn (λ q. placedMove (s .rows) q flag w) out room n (s .rows) order k count f b before k′ now o) (fun-ext same)
-    (subst (λ (r : List ℕ). ListsIn (λ q. placedMove r q flag w) (ladderFor turning true order n g r) room n r order k count f b before k′ now o)
-    (v .rows-are) d)))
+    → ListsIn (λ q. placedMove (take n R) q omit w) (ladderFor turning true order n g (take n R)) room n (take n R) order k count f b before k′ now o
+    → ListsIn (λ q. movesOf t s q omit) (handOut s) room (s .count) (s .rows) order k count f b before k′ now o
+listed-by t s w n R z v omit h turning g order same room k count f b before k′ now o d =
+    subst (λ (m : List ℕ → State → Move). ListsIn m (handOut s) room (s .count) (s .rows) order k count f b before k′ now o)
+    (fun-ext (λ q. core-moves t s w q omit h))
+    (subst (λ (out : List ℕ → List ℕ). ListsIn (λ q. placedMove (s .rows) q omit w) out room (s .count) (s .rows) order k count f b before k′ now o)
+    (fun-ext same)
+    (subst (λ (r : List ℕ). ListsIn (λ q. placedMove r q omit w) (ladderFor turning true order (s .count) g r) room
+    (s .count) r order k count f b before k′ now o)
+    (v .rows-are)
+    (subst (λ (i : ℕ). ListsIn (λ q. placedMove (take i R) q omit w) (ladderFor turning true order i g (take i R)) room i (take i R) order k count f b before
+    k′ now o) z d)))
 
 module _ (t : Table) (l : Legal t) (order p : List ℕ) where
   pub gauge-out : ladderFor false true order (t .gauges) (t .gauges) (gaugeSide t .rows) p ≡ handOut (gaugeSide t) p
@@ -66,16 +69,16 @@ module _ (t : Table) (l : Legal t) (order p : List ℕ) where
 -- ---- a batch within the budget is not denied
 module _ (mv : State → Move) (out : List ℕ → List ℕ) where
   carry-answers : (b : ℕ) (s : State) (n : ℕ) → carryBy mv out b s .answer ≡ refused n → ⊥
-  carry-answers zero s n e = let z : _≡_ {A = ℕ} 0 1 = cc in omega arith
+  carry-answers zero s n e = clash cc
   carry-answers (suc b) s n e = go (mv s .given) (carry-answers b (mv s .next) n) e
     where
       go : (g : Given) → (carryBy mv out b (mv s .next) .answer ≡ refused n → ⊥) → proceedBy mv out (carryBy mv out b) g (mv s .next) .answer ≡ refused n → ⊥
       go nothing h d = h d
-      go (hands p) h d = let z : _≡_ {A = ℕ} 0 1 = cc in omega arith
-      go ends h d = let z : _≡_ {A = ℕ} 0 1 = cc in omega arith
+      go (hands p) h d = clash cc
+      go ends h d = clash cc
 
   pub not-denied : (k b : ℕ) (s : State) (n : ℕ) → b ≤ mostBudget → batchBy mv out k b s .ending ≡ denied n → ⊥
-  not-denied zero b s n l e = let z : _≡_ {A = ℕ} 0 1 = cc in omega arith
+  not-denied zero b s n l e = clash cc
   not-denied (suc k) b s n l e =
       let c : Call = carryBy mv out b s in
       go (c .answer) (λ i. carry-answers b s i) (not-denied k (b - c .moves) (c .next) n (omega arith))
@@ -85,9 +88,9 @@ module _ (mv : State → Move) (out : List ℕ → List ℕ) where
           → (batchBy mv out k (b - carryBy mv out b s .moves) (carryBy mv out b s .next) .ending ≡ denied n → ⊥)
           → onward mv out (batchBy mv out k) b a (carryBy mv out b s .moves) (carryBy mv out b s .next) .ending ≡ denied n → ⊥
       go (refused i) h ih d = h i refl
-      go spent h ih d = let z : _≡_ {A = ℕ} 0 1 = cc in omega arith
+      go spent h ih d = clash cc
       go (handed x) h ih d = ih d
-      go end h ih d = let z : _≡_ {A = ℕ} 0 1 = cc in omega arith
+      go end h ih d = clash cc
 
   -- ---- the list of its calls
   batch-sets : (k b : ℕ) (s : State) → handouts (callsBy mv out (budgetsBy mv out k b s) s) ≡ batchBy mv out k b s .sets
@@ -121,7 +124,7 @@ module _ (t : Table) (y : Side) (k : List ℕ) (omit : Bool) where
   abbrev tell : Call → Step
   tell c = told t y k omit c
 
-  sets-told : (cs : List Call) → sets (map tell cs) ≡ handouts cs
+  sets-told : (cs : List Call) → handedSets (map tell cs) ≡ handouts cs
   sets-told [] = refl
   sets-told (c ∷ cs) = ap₂ answered (told-answer t y k omit (c .answer) (c .moves) (c .next)) (sets-told cs)
 
@@ -167,7 +170,7 @@ adds-calls side v words b g ok s p l = record {
   handed = sets-told t (side t) (v .order) (v .omit) cs ∙ batch-sets mv out room b s;
   spends = batch-moves t (side t) (v .order) (v .omit) mv out room b s l;
   last =
-      ap (λ (x : Value). left x rs) (p .stands)
+      ap (λ (x : Value). lastValue x rs) (p .stands)
       ∙ left-value side t (v .order) (v .omit) ok s (p .reached) bs rs (calls-as (v .omit) side (paused t (v .order) (v .omit) s) bs rs made)
       ∙ ap (paused t (v .order) (v .omit)) (batch-state mv out room b s);
   demand = λ ds qs c e.
@@ -207,11 +210,10 @@ adds-calls side v words b g ok s p l = record {
     calls = subst (λ (x : Value). CallsEither side x bs rs) (sym (p .stands)) made
 
 -- ---- a batch on the value v of a legal table, where the core left the picks k′ and the buffer now
-pub record Listed (side : Table → Side) (v : Value) (b : ℕ) (m : Mode) (before k′ now : List ℕ) (o : Tally) : Type 0 where
+pub record Listed (side : Table → Side) (v : Value) (b : ℕ) (before k′ now : List ℕ) (o : Tally) : Type 0 where
   pub passed : tableRefusal (v .table) ≡ 0
-  pub mode-is : modePhase m ≡ v .phase
   pub lists : ListsIn (λ q. movesOf (v .table) (side (v .table)) q (v .omit)) (handOut (side (v .table))) (length before / v .table .gauges)
-      (side (v .table) .count) (side (v .table) .rows) (v .order) (v .picks) (v .count) (modePhase m) b before k′ now o
+      (side (v .table) .count) (side (v .table) .rows) (v .order) (v .picks) (v .count) (v .phase) b before k′ now o
 
 pub batched-refused : (side : Table → Side) (v : Value) (b n : ℕ) (before : List ℕ) → n ≡ valueRefusal side v → 0 < n → (r : Batch) → r ≡ denial n
     → Batched side v b before r before
@@ -222,7 +224,7 @@ batched-refused side v b n before e l r d = record {
   rules = λ z s p w. absurd (omega (arith, e, z));
 }
 
-module _ (side : Table → Side) (v : Value) (b : ℕ) (m : Mode) (before k′ now : List ℕ) (o : Tally) (h : Listed side v b m before k′ now o) where
+module _ (side : Table → Side) (v : Value) (b : ℕ) (before k′ now : List ℕ) (o : Tally) (h : Listed side v b before k′ now o) where
   abbrev t : Table
   t = v .table
 
@@ -245,9 +247,7 @@ module _ (side : Table → Side) (v : Value) (b : ℕ) (m : Mode) (before k′ n
   some-val z = both-pass t n (v .order) (h .passed) z
 
   by-value : isPreference n (v .order) ≡ true → ListsBy mv (ReachedOn (side t) q) (handOut (side t)) room (v .picks) (v .count) (v .phase) b before k′ now o
-  by-value z =
-      subst (λ (f : Phase). ListsBy mv (ReachedOn (side t) q) (handOut (side t)) room (v .picks) (v .count) f b before k′ now o) (h .mode-is)
-      (h .lists .listed z)
+  by-value z = h .lists .listed z
 
   -- ---- a refusal
   module _ (why : Refusal) (e : o .outcome ≡ Refused why) (r : Batch) (d : r ≡ denial (number why)) where
@@ -277,14 +277,9 @@ module _ (side : Table → Side) (v : Value) (b : ℕ) (m : Mode) (before k′ n
         }
 
   -- ---- what the calls come to
-  module _ (c : OneOf (0 ∷ 1 ∷ 2 ∷ []) (tag (o .outcome))) (f : Phase) (ef : f ≡ modePhase (o .spot .mode)) where
+  module _ (c : OneOf (0 ∷ 1 ∷ 2 ∷ []) (tag (o .outcome))) where
     abbrev answer : Batch
-    answer = record {
-      ending = ending (o .outcome);
-      ladders = o .ladders;
-      moves = o .moves;
-      next = record { table = t; order = v .order; picks = k′; count = o .spot .count; phase = f; omit = v .omit };
-    }
+    answer = batchFrom v k′ o
 
     never : (x : Refusal) → o .outcome ≡ Refused x → ⊥
     never x e = never-refused (o .outcome) c x e
@@ -300,15 +295,15 @@ module _ (side : Table → Side) (v : Value) (b : ℕ) (m : Mode) (before k′ n
         (given t (v .order) (v .omit) (tale e l (o .moves) y))
     same e lad i ph k l y a x z w = rw (a, x, z, w)
 
-    pub batch-given : Batched side v b before answer now
-    batch-given = go (isPreference n (v .order)) refl
+    pub batch-given : (r : Batch) → r ≡ answer → Batched side v b before r now
+    batch-given r e = subst (λ (x : Batch). Batched side v b before x now) (sym e) (go (isPreference n (v .order)) refl)
       where
         comes : (s : State) → WentOn mv (ReachedOn (side t) q) (handOut (side t)) room b s before k′ now o
             → Comes t (v .order) (v .omit) (batchOn side v (length before) b s) before answer now
         comes s w = record {
           says =
-              same (ending (o .outcome)) (o .ladders) (o .spot .count) f k′ (w .sets) (w .to) (w .counted) (w .stands .picked) (w .stands .counted)
-              (ef ∙ w .stands .phased)
+              same (ending (o .outcome)) (o .ladders) (o .spot .count) (modePhase (o .spot .mode)) k′ (w .sets) (w .to) (w .counted) (w .stands .picked)
+              (w .stands .counted) (w .stands .phased)
               ∙ ap (given t (v .order) (v .omit)) (sym (w .comes));
           buffer =
               w .buffer ∙ stored-front before (joined (w .sets)) (w .fits)

@@ -7,6 +7,7 @@ use Prim.Native.Nat.{ℕ, zero, suc, _-_, _≤_}
 use native.Mathlib.Omega.{arith}
 use lib.ListN.{length, take}
 use lib.Seq.{length-take-le}
+use Rattle.basics.proofs.Clash.{clash}
 use Rattle.table.specs.Tables.{padded}
 use Rattle.refusals.specs.declared.Refusal.{Refusal}
 use Rattle.refusals.specs.declared.Refusal.the-variants.{NotReached, BudgetTooLarge, NotAnArrangement}
@@ -24,14 +25,14 @@ use Rattle.preference.specs.Preferences.{isPreference, orderOf, numbersOf}
 use Rattle.preference.specs.Placing.{inverse, isPlain, gathered, renumbered}
 use Rattle.preference.proofs.PlainOrder.{plain-is, plain-order, plain-passes}
 use Rattle.runs.specs.Batches.{Tale, tale, behind, onward, batchBy, ending}
-use Rattle.runs.specs.private.Working.{Sized, modePhase, stateOf, StandsBy, FitsOn, ReachedIn, Opens, handsOver, moveBy, placedMove, renumberedPhase}
+use Rattle.runs.specs.Paused.{modePhase}
+use Rattle.runs.specs.private.Working.{Sized, stateOf, StandsBy, FitsOn, ReachedIn, Opens, handsOver, moveBy, placedMove, renumberedPhase}
 use Rattle.runs.specs.private.Listing.{refusedTally, turnedRows, ladderOf, ladderFor, Lists, WentOn, ListsBy, ListsIn}
 use Rattle.runs.specs.declared.Outcome.{Outcome}
 use Rattle.runs.specs.declared.Outcome.the-variants.{Spent, Refused}
 use Rattle.runs.specs.declared.engine.Report.{Report}
 use Rattle.runs.specs.declared.listing.Tally.{Tally}
-use Rattle.runs.proofs.SideCalls.{tag, OneOf}
-use Rattle.runs.proofs.Carrying.{never-refused}
+use Rattle.runs.proofs.SideCalls.{tag, OneOf, never-refused}
 use Rattle.runs.proofs.Ordering.{Stand, Turned, number-moves, number-keeps, plain-from, plain-stand, plain-moves, plain-turned, same-picks}
 use Rattle.runs.proofs.Ordering.{from-reach, arranged-stand, arranged-moves, arranged-turned, arranged-rows}
 
@@ -43,7 +44,7 @@ module _ (n : ℕ) (rows k : List ℕ) (count : ℕ) (f : Phase) (b : ℕ) (c : 
     list-refused why e k′ r d = record {
       value = λ none. (ap (λ (x : Tally). x .outcome) d ∙ sym e ∙ h .value none, refl);
       large = λ s y l. (ap (λ (x : Tally). x .outcome) d ∙ sym e ∙ h .large s y l, refl);
-      moves = λ s y l. let z : Spent ≡ Refused why = sym (h .opens s y l .0) ∙ e in let w : _≡_ {A = ℕ} 0 1 = cc in absurd (omega arith);
+      moves = λ s y l. let z : Spent ≡ Refused why = sym (h .opens s y l .0) ∙ e in clash cc;
     }
 
     pub list-went : OneOf (0 ∷ 1 ∷ 2 ∷ []) (tag (o .outcome)) → (c′ k′ now : List ℕ) (r : Tally)
@@ -88,13 +89,13 @@ keeping-any : {f : ℕ → ℕ} {good : State → Type 0} {mv : State → Move} 
 keeping-any {f} {good} {mv} {out} {out′} chain keep u = record { same-out = λ s h p e. outs s h p (mv s .given) refl e }
   where
     outs : (s : State) → good s → (p : List ℕ) (g : Given) → mv s .given ≡ g → taken chain keep g ≡ hands p → out′ (map f p) ≡ out p
-    outs s h p nothing e d = let z : _≡_ {A = ℕ} 0 1 = cc in absurd (omega arith)
+    outs s h p nothing e d = clash cc
     outs s h p (hands q) e d = go (keep (chain q)) d
       where
         go : (x : Bool) → cond x (hands q) nothing ≡ hands p → out′ (map f p) ≡ out p
         go true z = let y : q ≡ p = cc in rw (← y) (u .same-out s h q e)
-        go false z = let y : _≡_ {A = ℕ} 0 1 = cc in absurd (omega arith)
-    outs s h p ends e d = let z : _≡_ {A = ℕ} 0 1 = cc in absurd (omega arith)
+        go false z = clash cc
+    outs s h p ends e d = clash cc
 
 any-moves : {f : ℕ → ℕ} {good : State → Type 0} {out out′ : List ℕ → List ℕ} (r w : List ℕ) (omit : Bool)
     → SameOut f good (move (candidates r)) out out′ → SameOut f good (moveBy r omit w) out out′
@@ -138,7 +139,7 @@ module _ {f : ℕ → ℕ} {good good′ : State → Type 0} {mv mv′ : State �
           }
 
 fails : true ≡ false → ⊥
-fails z = let y : _≡_ {A = ℕ} 0 1 = cc in omega arith
+fails z = clash cc
 
 -- ---- 1, 2, 3 and on
 pub plain-list : (n : ℕ) (rows order : List ℕ) → Sized n rows → length order ≡ 64 → (test : Bool) → test ≡ isPlain n order → test ≡ true
@@ -250,5 +251,5 @@ pub refused-list : (mv : List ℕ → State → Move) (out : List ℕ → List �
     → ListsIn mv out room n r order k count f b before k′ before o
 refused-list mv out room n r order k count f b before k′ o e d = record {
   none = λ _. (ap (λ (x : Tally). x .outcome) d, refl);
-  listed = λ h. let y : _≡_ {A = ℕ} 0 1 = cc in absurd (omega arith);
+  listed = λ h. clash cc;
 }

@@ -1,26 +1,29 @@
--- A call on a value handed in, from its checks: refused as they are (`call-refused`), or the moves that were made (`call-went`), as `CarriesOn` says it.
+-- A call on a value handed in, from its checks: refused as they are (`call-refused`), or the moves that were made (`call-went`), as `CarriesOn` says it. And
+-- of any call, by any rule for moves: it makes at most its budget of them (`carry-most`), which crates above cite too.
 use mathlib.Core.Path.{_≡_, sym, ap, _∙_, subst}
-use mathlib.Core.Logic.{⊎-elim}
 use mathlib.Core.List.{List, [], _∷_}
-use Prim.Native.Nat.{ℕ, _≤_}
+use Prim.Native.Nat.{ℕ, zero, suc, _≤_}
 use native.Mathlib.Omega.{arith}
 use lib.ListN.{take}
+use Rattle.basics.proofs.Clash.{clash}
 use Rattle.refusals.specs.declared.Refusal.{Refusal}
 use Rattle.refusals.specs.declared.Refusal.the-variants.{NotReached, BudgetTooLarge}
-use Rattle.rules.specs.Machine.{Phase, State, Move}
-use Rattle.rules.specs.Calls.{mostBudget}
+use Rattle.rules.specs.Machine.{Phase, State, Given, nothing, hands, ends, Move}
+use Rattle.rules.specs.Calls.{mostBudget, proceedBy, carryBy}
 use Rattle.runs.specs.private.Working.{stateOf, Holds, ComesOut, Advanced, CarriesOn, Opens, refusedReport}
-use Rattle.runs.specs.declared.Outcome.{Outcome}
 use Rattle.runs.specs.declared.Outcome.the-variants.{Spent, Refused}
 use Rattle.runs.specs.declared.engine.Report.{Report}
-use Rattle.runs.proofs.SideCalls.{tag, OneOf}
+use Rattle.runs.proofs.SideCalls.{tag, OneOf, never-refused}
 
--- an outcome of another variant is no refusal
-pub never-refused : (o : Outcome) → OneOf (0 ∷ 1 ∷ 2 ∷ []) (tag o) → (why : Refusal) → o ≡ Refused why → ⊥
-never-refused o k why e = no-tag (subst (λ (x : Outcome). OneOf (0 ∷ 1 ∷ 2 ∷ []) (tag x)) e k)
-  where
-    no-tag : OneOf (0 ∷ 1 ∷ 2 ∷ []) (tag (Refused why)) → ⊥
-    no-tag k = ⊎-elim (λ i. omega arith) (λ j. ⊎-elim (λ i. omega arith) (λ i. omega arith) j) k
+module _ (mv : State → Move) (out : List ℕ → List ℕ) where
+  pub carry-most : (b : ℕ) (s : State) → carryBy mv out b s .moves ≤ b
+  carry-most zero s = omega arith
+  carry-most (suc b) s = go (mv s .given) (carry-most b (mv s .next))
+    where
+      go : (g : Given) → carryBy mv out b (mv s .next) .moves ≤ b → proceedBy mv out (carryBy mv out b) g (mv s .next) .moves ≤ suc b
+      go nothing h = omega arith
+      go (hands p) h = omega arith
+      go ends h = omega arith
 
 module _ (n : ℕ) (rows k : List ℕ) (count : ℕ) (f : Phase) (b : ℕ) (c : List ℕ) (o : Report) (h : Opens n rows k count f b c o) where
   -- what was not refused may go on
@@ -32,7 +35,7 @@ module _ (n : ℕ) (rows k : List ℕ) (count : ℕ) (f : Phase) (b : ℕ) (c : 
   call-refused mv why e c′ k′ r d = record {
     value = λ none. ap (λ (x : Report). x .outcome) d ∙ sym e ∙ h .value none;
     large = λ s y l. ap (λ (x : Report). x .outcome) d ∙ sym e ∙ h .large s y l;
-    moves = λ s y l. let z : Spent ≡ Refused why = sym (h .opens s y l .0) ∙ e in let w : _≡_ {A = ℕ} 0 1 = cc in absurd (omega arith);
+    moves = λ s y l. let z : Spent ≡ Refused why = sym (h .opens s y l .0) ∙ e in clash cc;
   }
 
   pub call-went : OneOf (0 ∷ 1 ∷ 2 ∷ []) (tag (o .outcome)) → (mv : State → Move) (c′ k′ : List ℕ) (r : Report)

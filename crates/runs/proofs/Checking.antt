@@ -10,6 +10,7 @@ use lib.Dec.{not-T, eqb, leb, ltb}
 use lib.ListN.{length, getD, take, length-take, List·getD-eq-default}
 use lib.Seq.{ext-getD, getD-take, length-take-le}
 use borrow.Author.Tests.{lt-ltb, le-ltb, leb-true, leb-false, eqb-true, eqb-false}
+use Rattle.basics.proofs.Clash.{clash}
 use Rattle.table.proofs.Padding.{pad-getD, pad-ext}
 use Rattle.sets.specs.Sets.{bit}
 use Rattle.sets.proofs.Tests.{is-true, is-false}
@@ -22,11 +23,11 @@ use Rattle.lists.specs.PickSequence.{isIn}
 use Rattle.lists.specs.ByNumber.{candidate, candidates}
 use Rattle.lists.proofs.Candidates.{cand-of, of-cand, mem-candidates, no-candidate, none-candidate}
 use Rattle.lists.proofs.CandidateTree.{candidate-tree}
-use Rattle.search.specs.Finding.{candidateIn, First, within}
+use Rattle.search.specs.Finding.{candidateIn, FirstOf, within}
 use Rattle.search.proofs.AfterPicks.{After, candidate-wide}
 use Rattle.search.proofs.Within.{row-in, row-out}
-use Rattle.runs.specs.Paused.{numbered}
-use Rattle.runs.specs.private.Working.{Sized, modePhase, placed, Decides, filled, PhaseIn, StandsFor}
+use Rattle.runs.specs.Paused.{numbered, modePhase}
+use Rattle.runs.specs.private.Working.{Sized, placed, DecidedBy, filled, PhaseIn, StandsFor}
 use Rattle.runs.specs.declared.engine.Mode.{Mode}
 use Rattle.runs.specs.declared.engine.Mode.the-variants.{Down as modeDown, Handed as modeHanded, Back as modeBack, Ended as modeEnded}
 use Rattle.replay.specs.Picked.{arrayRows, Picked, Made}
@@ -152,7 +153,7 @@ module _ (n : ℕ) (rows k : List ℕ) (count : ℕ) (f : Phase) (z : Sized n ro
       m .valid,
       none-candidate side (m .picks) (λ i cand. let w : true ≡ false = sym
           (is-true (candidate side (m .picks) i) (of-cand side (m .picks) i cand)) ∙ sym (in-side i)
-          ∙ v i (omega (arith, cand .below, side-length n rows z, z .few)) in let y : _≡_ {A = ℕ} 0 1 = cc in omega arith),
+          ∙ v i (omega (arith, cand .below, side-length n rows z, z .few)) in clash cc),
     )
     fits-of (Back j) v = (m .valid, mem-candidates side (m .picks) (j - 1) .1 (cand-of side (m .picks) (j - 1) (rw (← in-side (j - 1), v .1) tt)))
     fits-of Ended v = none (m .picks) (omega (arith, m .counted))
@@ -191,12 +192,12 @@ module _ (n : ℕ) (rows k : List ℕ) (count : ℕ) (f : Phase) (z : Sized n ro
 
 -- ---- what the tests answer
 bool-no : {P : Type 0} → true ≡ false → P
-bool-no e = let y : _≡_ {A = ℕ} 0 1 = cc in absurd (omega arith)
+bool-no e = clash cc
 
-pub decides-yes : {P : Type 0} → P → Decides P true
+decides-yes : {P : Type 0} → P → DecidedBy P true
 decides-yes p = record { yes = λ e. p; no = λ e. bool-no e }
 
-pub decides-no : {P : Type 0} → ¬ P → Decides P false
+decides-no : {P : Type 0} → ¬ P → DecidedBy P false
 decides-no p = record { yes = λ e. bool-no (sym e); no = λ e. p }
 
 -- ---- the phase
@@ -204,36 +205,36 @@ module _ (u : List ℕ) (left count : ℕ) (m : Mode) where
   abbrev Phased : Type 0
   Phased = PhaseIn u left count (modePhase m)
 
-  as-phase : (o : Mode) → m ≡ o → (b : Bool) → Decides (PhaseIn u left count (modePhase o)) b → Decides Phased b
-  as-phase o e b d = subst (λ (x : Mode). Decides (PhaseIn u left count (modePhase x)) b) (sym e) d
+  as-phase : (o : Mode) → m ≡ o → (b : Bool) → DecidedBy (PhaseIn u left count (modePhase o)) b → DecidedBy Phased b
+  as-phase o e b d = subst (λ (x : Mode). DecidedBy (PhaseIn u left count (modePhase x)) b) (sym e) d
 
-  pub phase-down : m ≡ modeDown → Decides Phased true
+  pub phase-down : m ≡ modeDown → DecidedBy Phased true
   phase-down e = as-phase modeDown e true (decides-yes tt)
 
-  pub phase-handed : m ≡ modeHanded → (g : ℕ) → First (candidateIn u left 64) 0 64 g → Decides Phased (leb 64 g)
+  pub phase-handed : m ≡ modeHanded → (g : ℕ) → FirstOf (candidateIn u left 64) 0 64 g → DecidedBy Phased (leb 64 g)
   phase-handed e g f = as-phase modeHanded e (leb 64 g) (go (leb 64 g) refl)
     where
-      go : (b : Bool) → leb 64 g ≡ b → Decides ((i : ℕ) → i < 64 → candidateIn u left 64 i ≡ false) b
+      go : (b : Bool) → leb 64 g ≡ b → DecidedBy ((i : ℕ) → i < 64 → candidateIn u left 64 i ≡ false) b
       go true d = decides-yes (λ i l. f .least i (omega arith) (omega (arith, leb-true 64 g d)))
       go false d = decides-no (λ h. bool-no (sym (f .found (leb-false 64 g d) .1) ∙ h g (leb-false 64 g d)))
 
-  pub phase-zero : (k : ℕ) → m ≡ modeBack k → k ≡ 0 → Decides Phased false
+  pub phase-zero : (k : ℕ) → m ≡ modeBack k → k ≡ 0 → DecidedBy Phased false
   phase-zero k e z = as-phase (modeBack k) e false (decides-no (λ h. omega (arith, h .0)))
 
-  pub phase-back : (k : ℕ) → m ≡ modeBack k → (k ≡ 0 → ⊥) → (t : Bool) → t ≡ candidateIn u left 64 (k - 1) → Decides Phased t
+  pub phase-back : (k : ℕ) → m ≡ modeBack k → (k ≡ 0 → ⊥) → (t : Bool) → t ≡ candidateIn u left 64 (k - 1) → DecidedBy Phased t
   phase-back k e z t d = as-phase (modeBack k) e t (go t d)
     where
       low : Dec (k ≡ 0) → 1 ≤ k
       low (yes x) = absurd (z x)
       low (no x) = omega arith
 
-      go : (b : Bool) → b ≡ candidateIn u left 64 (k - 1) → Decides ((1 ≤ k) × (candidateIn u left 64 (k - 1) ≡ true)) b
+      go : (b : Bool) → b ≡ candidateIn u left 64 (k - 1) → DecidedBy ((1 ≤ k) × (candidateIn u left 64 (k - 1) ≡ true)) b
       go true x = decides-yes (low (ℕ-discrete k 0), sym x)
       go false x = decides-no (λ h. bool-no (sym (h .1) ∙ sym x))
 
-  pub phase-ended : m ≡ modeEnded → Decides Phased (eqb count 0)
+  pub phase-ended : m ≡ modeEnded → DecidedBy Phased (eqb count 0)
   phase-ended e = as-phase modeEnded e (eqb count 0) (go (eqb count 0) refl)
     where
-      go : (b : Bool) → eqb count 0 ≡ b → Decides (count ≡ 0) b
+      go : (b : Bool) → eqb count 0 ≡ b → DecidedBy (count ≡ 0) b
       go true d = decides-yes (eqb-true count 0 d)
       go false d = decides-no (eqb-false count 0 d)

@@ -7,6 +7,8 @@
 -- promises put to use (`keeps-made`, `carries-made`, `shares-made`, `omits-made`), what they leave free (`demand-answers-unique`,
 -- `omits-answers-unique`), and a run with nothing to omit (`omits-nothing`); demand 3 as a user reads it (`demand-hands`, `demand-one`,
 -- `demand-limits`).
+--
+-- Pins, which nothing else cites: `demand-one`.
 use mathlib.Core.Path.{_≡_, refl, sym, ap, ap₂, _∙_, subst}
 use mathlib.Core.Logic.{_≢_}
 use mathlib.Core.Bool.{Bool, true, false}
@@ -29,7 +31,7 @@ use Rattle.rules.proofs.Ends.{Enough}
 use Rattle.lists.specs.Lists.{Side, gaugeSide, caseSide, PreferredList}
 use Rattle.lists.specs.Arrangements.{IsArrangement, plain}
 use Rattle.lists.specs.OnTable.{handOut, moveOn, ReachedOn, callsOn, leftOn}
-use Rattle.rules.specs.Keeping.{kept as keptOf}
+use Rattle.rules.specs.Keeping.{keptSets as keptOf}
 use Rattle.lists.specs.Keeping.{keepingOn, leftKeeping}
 use Rattle.lists.specs.Demand.{startLimit, gapLimit, mostSets, OneSet}
 use Rattle.lists.specs.private.Demand.{Demand}
@@ -43,8 +45,8 @@ use Rattle.conflicts.proofs.Omitting.{omits, nothing-omitted}
 use Rattle.runs.specs.Paused.{Value, paused}
 use Rattle.preference.specs.Preferences.{preferredRefusal, orderOf, numbersOf, plainNumbers}
 use Rattle.preference.proofs.PlainOrder.{plain-order, length-numbers}
-use Rattle.runs.specs.Calling.{Step, refusal, arrangement, byRules, told, valueRefusal, PausedAt, kept, Called, CallsBy, Calls, left}
-use Rattle.runs.specs.Demand.{sets, Ends, reported, HandsOut, Demand3, RunDemand, KeepsDemand, CarriesDemand, SharesSet, SharesAll}
+use Rattle.runs.specs.Calling.{Step, refusalStep, arrangement, byRules, told, valueRefusal, PausedAt, keptValue, Called, CallsBy, Calls, lastValue}
+use Rattle.runs.specs.Demand.{handedSets, Ends, reported, HandsOut, Demand3, RunDemand, KeepsDemand, CarriesDemand, SharesSet, SharesAll}
 use Rattle.runs.specs.Omitting.{movesOf, CalledEither, CallsEither, RunOmits, KeepsOmits, CarriesOmits}
 use Rattle.runs.specs.private.Either.{callOf, CalledOf}
 use Rattle.runs.proofs.Answered.{paused-state, called-both}
@@ -100,7 +102,7 @@ module _ (side : Table → Side) (t : Table) (k : List ℕ) (omit : Bool) (ok : 
 
   -- the value that the next call gets is the paused value of the state that the rules lead to
   kept-value : (a : Reply) (m : ℕ) (s y : State) → ((n : ℕ) → a ≡ refused n → y ≡ s)
-      → kept (byRules t here k omit a m y .answer) (value s) (byRules t here k omit a m y .next) ≡ value y
+      → keptValue (byRules t here k omit a m y .answer) (value s) (byRules t here k omit a m y .next) ≡ value y
   kept-value (refused n) m s y h = ap (paused t k omit) (sym (h n refl))
   kept-value spent m s y h = refl
   kept-value (handed x) m s y h = refl
@@ -113,9 +115,9 @@ module _ (side : Table → Side) (t : Table) (k : List ℕ) (omit : Bool) (ok : 
   by-rule b s h r c = rule-as side t k omit ok b s (record { reached = h; stands = refl }) r c
 
   kept-next : (b : ℕ) (s : State) → ReachedOn here o s → (r : Step) → CalledAs omit side (value s) b r
-      → kept (r .answer) (value s) (r .next) ≡ value (made-by b s .next)
+      → keptValue (r .answer) (value s) (r .next) ≡ value (made-by b s .next)
   kept-next b s h r c =
-      ap (λ (x : Step). kept (x .answer) (value s) (x .next)) (by-rule b s h r c)
+      ap (λ (x : Step). keptValue (x .answer) (value s) (x .next)) (by-rule b s h r c)
       ∙ kept-value (made-by b s .answer) (made-by b s .moves) s (made-by b s .next) (refused-stays b s)
 
   -- the answers are those of the rules
@@ -130,13 +132,13 @@ module _ (side : Table → Side) (t : Table) (k : List ℕ) (omit : Bool) (ok : 
 
   -- and the value that they leave is the paused value of the state that the rules lead to
   pub left-value : (s : State) → ReachedOn here o s → (bs : List ℕ) (rs : List Step) → CallsBy (CalledAs omit side) (value s) bs rs
-      → left (value s) rs ≡ value (stateBy mv (handOut here) bs s)
+      → lastValue (value s) rs ≡ value (stateBy mv (handOut here) bs s)
   left-value s h [] [] c = refl
   left-value s h [] (r ∷ rs) c = absurd c
   left-value s h (b ∷ bs) [] c = absurd c
   left-value s h (b ∷ bs) (r ∷ rs) c =
       let next = kept-next b s h r (c .0) in
-      ap (λ (v : Value). left v rs) next
+      ap (λ (v : Value). lastValue v rs) next
       ∙ left-value (made-by b s .next) (next-reached b s h) bs rs (subst (λ (v : Value). CallsBy (CalledAs omit side) v bs rs) next (c .1))
 
   -- ---- what the rules give for a call is what `CalledEither` asks, and for a list of budgets what `CallsEither` asks: neither is empty talk
@@ -163,7 +165,7 @@ pub calls-only : (side : Table → Side) (v : Value) (bs : List ℕ) (rs : List 
 calls-only side v [] [] c = tt
 calls-only side v [] (r ∷ rs) c = absurd c
 calls-only side v (b ∷ bs) [] c = absurd c
-calls-only side v (b ∷ bs) (r ∷ rs) c = (c .0 .called, calls-only side (kept (r .answer) v (r .next)) bs rs (c .1))
+calls-only side v (b ∷ bs) (r ∷ rs) c = (c .0 .called, calls-only side (keptValue (r .answer) v (r .next)) bs rs (c .1))
 
 pub calls-as : (omit : Bool) (side : Table → Side) (v : Value) (bs : List ℕ) (rs : List Step) → CallsEither side v bs rs
     → CallsBy (CalledAs omit side) v bs rs
@@ -171,30 +173,30 @@ calls-as false side v bs rs c = calls-only side v bs rs c
 calls-as true side v bs rs c = c
 
 -- ---- a list of calls
-pub fresh-reached : (s : Side) (o : List ℕ) → ReachedOn s o fresh
+fresh-reached : (s : Side) (o : List ℕ) → ReachedOn s o fresh
 fresh-reached s o = record { count = 0; leads = refl }
 
 -- calls after calls, and one call more
 pub calls-append : (P : Value → ℕ → Step → Type 0) (v : Value) (bs : List ℕ) (rs : List Step) (cs : List ℕ) (qs : List Step) → CallsBy P v bs rs
-    → CallsBy P (left v rs) cs qs → CallsBy P v (bs ++ cs) (rs ++ qs)
+    → CallsBy P (lastValue v rs) cs qs → CallsBy P v (bs ++ cs) (rs ++ qs)
 calls-append P v [] [] cs qs c d = d
 calls-append P v [] (r ∷ rs) cs qs c d = absurd c
 calls-append P v (b ∷ bs) [] cs qs c d = absurd c
-calls-append P v (b ∷ bs) (r ∷ rs) cs qs c d = (c .0, calls-append P (kept (r .answer) v (r .next)) bs rs cs qs (c .1) d)
+calls-append P v (b ∷ bs) (r ∷ rs) cs qs c d = (c .0, calls-append P (keptValue (r .answer) v (r .next)) bs rs cs qs (c .1) d)
 
-calls-more : (P : Value → ℕ → Step → Type 0) (v : Value) (bs : List ℕ) (rs : List Step) (b : ℕ) (r : Step) → CallsBy P v bs rs → P (left v rs) b r
+calls-more : (P : Value → ℕ → Step → Type 0) (v : Value) (bs : List ℕ) (rs : List Step) (b : ℕ) (r : Step) → CallsBy P v bs rs → P (lastValue v rs) b r
     → CallsBy P v (bs ++ (b ∷ [])) (rs ++ (r ∷ []))
 calls-more P v bs rs b r c d = calls-append P v bs rs (b ∷ []) (r ∷ []) c (d, tt)
 
 -- a refused call at the end changes nothing, and where every call is refused the first value is left
-pub left-refused : (v : Value) (rs : List Step) (r : Step) (n : ℕ) → r .answer ≡ refused n → left v (rs ++ (r ∷ [])) ≡ left v rs
-left-refused v [] r n e = ap (λ (a : Reply). kept a v (r .next)) e
-left-refused v (q ∷ rs) r n e = left-refused (kept (q .answer) v (q .next)) rs r n e
+pub left-refused : (v : Value) (rs : List Step) (r : Step) (n : ℕ) → r .answer ≡ refused n → lastValue v (rs ++ (r ∷ [])) ≡ lastValue v rs
+left-refused v [] r n e = ap (λ (a : Reply). keptValue a v (r .next)) e
+left-refused v (q ∷ rs) r n e = left-refused (keptValue (q .answer) v (q .next)) rs r n e
 
-pub left-all-refused : (v : Value) (rs : List Step) → ((r : Step) → List·Memᴰ r rs → (n : ℕ) × (r .answer ≡ refused n)) → left v rs ≡ v
+pub left-all-refused : (v : Value) (rs : List Step) → ((r : Step) → List·Memᴰ r rs → (n : ℕ) × (r .answer ≡ refused n)) → lastValue v rs ≡ v
 left-all-refused v [] h = refl
 left-all-refused v (r ∷ rs) h =
-    ap (λ (w : Value). left w rs) (ap (λ (a : Reply). kept a v (r .next)) (h r (List·Memᴰ·head refl) .1))
+    ap (λ (w : Value). lastValue w rs) (ap (λ (a : Reply). keptValue a v (r .next)) (h r (List·Memᴰ·head refl) .1))
     ∙ left-all-refused v rs (λ q m. h q (List·Memᴰ·tail m))
 
 -- ---- the promises
@@ -354,7 +356,7 @@ pub shares-made : (side other : Table → Side) (t : Table) (k j : List ℕ) →
     → SharesSet side other t k j (paused t k false fresh) (paused t j false fresh) → (bs cs : List ℕ)
     → All (Enough (side t .count)) bs → All (Enough (other t .count)) cs
     → mostSets t < length bs → mostSets t < length cs
-    → OneSet t (sets (made (side t) t k bs)) (sets (made (other t) t j cs))
+    → OneSet t (handedSets (made (side t) t k bs)) (handedSets (made (other t) t j cs))
 shares-made side other t k j g h p bs cs a d m n =
     p (g .passed) (h .passed) bs cs (made (side t) t k bs) (made (other t) t j cs)
     (plain-made side t k (g .passed) bs)
@@ -366,16 +368,16 @@ shares-made side other t k j g h p bs cs a d m n =
 
 -- and demand 3 leaves one list of answers, and one value after it
 pub demand-answers-unique : (side : Table → Side) (t : Table) (k : List ℕ) (v : Value) (bs : List ℕ) (rs qs : List Step) → RunDemand side t k v bs rs
-    → RunDemand side t k v bs qs → (rs ≡ qs) × (left v rs ≡ left v qs)
+    → RunDemand side t k v bs qs → (rs ≡ qs) × (lastValue v rs ≡ lastValue v qs)
 demand-answers-unique side t k v bs rs qs a b = (a .rules .each ∙ sym (b .rules .each), a .rules .last ∙ sym (b .rules .last))
 
 pub omits-answers-unique : (side : Table → Side) (t : Table) (k : List ℕ) (v : Value) (bs : List ℕ) (rs qs : List Step) → RunOmits side t k v bs rs
-    → RunOmits side t k v bs qs → (rs ≡ qs) × (left v rs ≡ left v qs)
+    → RunOmits side t k v bs qs → (rs ≡ qs) × (lastValue v rs ≡ lastValue v qs)
 omits-answers-unique side t k v bs rs qs a b = (a .each ∙ sym (b .each), a .last ∙ sym (b .last))
 
 -- ---- demand 3 as a user reads it off the answers, who has the side's list xs
 pub demand-hands : (t : Table) (s : Side) (o bs : List ℕ) (rs : List Step) (xs : List (List ℕ)) → Demand3 t s o bs rs → PreferredList t s o xs
-    → ((rest : List (List ℕ)) × (sets rs ++ rest ≡ xs)) × (Ends rs → sets rs ≡ xs) × (length xs ≤ mostSets t)
+    → ((rest : List (List ℕ)) × (handedSets rs ++ rest ≡ xs)) × (Ends rs → handedSets rs ≡ xs) × (length xs ≤ mostSets t)
 demand-hands t s o bs rs xs d l =
     let e : d .list ≡ xs = list-unique (d .list) xs (d .listed) l in (
       (d .hands .front .0, d .hands .front .1 ∙ e),
@@ -384,7 +386,7 @@ demand-hands t s o bs rs xs d l =
     )
 
 pub demand-one : (t : Table) (s : Side) (o : List ℕ) (b : ℕ) (r : Step) → Demand3 t s o (b ∷ []) (r ∷ [])
-    → (mostBudget < b → r ≡ refusal 18) × (b ≤ mostBudget → (n : ℕ) → r .answer ≢ refused n) × (r .answer ≡ spent → r .moves ≡ b) × (r .moves ≤ b)
+    → (mostBudget < b → r ≡ refusalStep 18) × (b ≤ mostBudget → (n : ℕ) → r .answer ≢ refused n) × (r .answer ≡ spent → r .moves ≡ b) × (r .moves ≤ b)
 demand-one t s o b r d = (d .hands .only18 .0, d .hands .no-other .0, d .hands .budget .0, d .hands .within .0)
 
 pub demand-limits : (t : Table) (s : Side) (o bs : List ℕ) (sooner later : List Step) (r : Step) (x : List ℕ) → Demand3 t s o bs (sooner ++ (r ∷ later))

@@ -5,8 +5,8 @@ use mathlib.Core.Bool.{Bool, true, false}
 use mathlib.Core.Option.{Option, none, some}
 use mathlib.Core.List.{List, map, head?}
 use Prim.Native.Nat.{ℕ, zero, suc}
-use native.Mathlib.Omega.{arith}
 use lib.ListN.{length}
+use Rattle.basics.proofs.Clash.{clash}
 use Rattle.table.specs.declared.Table.{Table}
 use Rattle.table.specs.Chains.{IsMaximal}
 use Rattle.table.specs.Tables.{tableRows, padded}
@@ -44,10 +44,10 @@ handed-leaf s o counted a x p e =
     leaf-of (p .state .picks) (p .state .phase) (handed-phase (p .state .phase) (ap (λ (y : State). y .phase) (p .is) ∙ e)) (p .good)
   where
     handed-phase : (g : Phase) → renamedPhase (indexAt o) g ≡ Handed → g ≡ Handed
-    handed-phase Down z = let y : _≡_ {A = ℕ} 0 1 = cc in absurd (omega arith)
+    handed-phase Down z = clash cc
     handed-phase Handed z = refl
-    handed-phase (Back i) z = let y : _≡_ {A = ℕ} 0 1 = cc in absurd (omega arith)
-    handed-phase Ended z = let y : _≡_ {A = ℕ} 0 1 = cc in absurd (omega arith)
+    handed-phase (Back i) z = clash cc
+    handed-phase Ended z = clash cc
 
     leaf-of : (q : List ℕ) (g : Phase) → g ≡ Handed → Fits (candidates (prefer o s .rows)) q g → IsLeaf (prefer o s .rows) q
     leaf-of q g z h = subst (λ (y : Phase). Fits (candidates (prefer o s .rows)) q y) z h
@@ -80,8 +80,8 @@ module _ (t : Table) (s : Side) (f : Fair t s) (o : List ℕ) (a : IsArrangement
 -- ---- the phase
 -- a move gives a hand-out only as it becomes Handed
 back-hands : (c : Cut) (p : List ℕ) → takeBack c .given ≡ hands p → takeBack c .next .phase ≡ Handed
-back-hands empty p e = let z : _≡_ {A = ℕ} 0 1 = cc in absurd (omega arith)
-back-hands (cut q g) p e = let z : _≡_ {A = ℕ} 0 1 = cc in absurd (omega arith)
+back-hands empty p e = clash cc
+back-hands (cut q g) p e = clash cc
 
 module _ (place : ℕ → ℕ) (kids : List ℕ → List ℕ) where
   move-hands : (q : List ℕ) (f : Phase) (p : List ℕ) → stepIn place kids q f .given ≡ hands p → stepIn place kids q f .next .phase ≡ Handed
@@ -89,14 +89,14 @@ module _ (place : ℕ → ℕ) (kids : List ℕ → List ℕ) where
     where
       go : (o : Option ℕ) → down q o .given ≡ hands p → down q o .next .phase ≡ Handed
       go none e = refl
-      go (some g) e = let z : _≡_ {A = ℕ} 0 1 = cc in absurd (omega arith)
+      go (some g) e = clash cc
   move-hands q Handed p = back-hands (cutLast q) p
   move-hands q (Back g) p = go (head? (aboveIn place g (kids q)))
     where
       go : (o : Option ℕ) → back q o .given ≡ hands p → back q o .next .phase ≡ Handed
       go none e = back-hands (cutLast q) p e
-      go (some h) e = let z : _≡_ {A = ℕ} 0 1 = cc in absurd (omega arith)
-  move-hands q Ended p = λ e. let z : _≡_ {A = ℕ} 0 1 = cc in absurd (omega arith)
+      go (some h) e = clash cc
+  move-hands q Ended p = λ e. clash cc
 
 module _ (t : Table) (s : Side) (o : List ℕ) where
   hands-at : (omit : Bool) (x : State) (p : List ℕ) → movesOf t s o omit x .given ≡ hands p → movesOf t s o omit x .next .phase ≡ Handed
@@ -104,9 +104,9 @@ module _ (t : Table) (s : Side) (o : List ℕ) where
   hands-at true x p e = go (moveOn s o x .given) refl e
     where
       go : (g : Given) → moveOn s o x .given ≡ g → taken (handOut s) (keepsOf t) g ≡ hands p → moveOn s o x .next .phase ≡ Handed
-      go nothing d z = let y : _≡_ {A = ℕ} 0 1 = cc in absurd (omega arith)
+      go nothing d z = clash cc
       go (hands q) d z = move-hands (placeOf o) (candidatesBy o (s .rows)) (x .picks) (x .phase) q d
-      go ends d z = let y : _≡_ {A = ℕ} 0 1 = cc in absurd (omega arith)
+      go ends d z = clash cc
 
   -- so does a call
   module _ (omit : Bool) where
@@ -117,7 +117,7 @@ module _ (t : Table) (s : Side) (o : List ℕ) where
     mv = movesOf t s o omit
 
     carried : (b : ℕ) (x : State) (y : List ℕ) → carryBy mv out b x .answer ≡ handed y → carryBy mv out b x .next .phase ≡ Handed
-    carried zero x y e = let z : _≡_ {A = ℕ} 0 1 = cc in absurd (omega arith)
+    carried zero x y e = clash cc
     carried (suc b) x y e = go (mv x .given) refl (carried b (mv x .next) y) e
       where
         go : (g : Given) → mv x .given ≡ g
@@ -126,7 +126,7 @@ module _ (t : Table) (s : Side) (o : List ℕ) where
             → proceedBy mv out (carryBy mv out b) g (mv x .next) .next .phase ≡ Handed
         go nothing d ih z = ih z
         go (hands p) d ih z = hands-at omit x p d
-        go ends d ih z = let w : _≡_ {A = ℕ} 0 1 = cc in absurd (omega arith)
+        go ends d ih z = clash cc
 
     pub handed-out : (b : ℕ) (x : State) (oc : Outcome) (k : ℕ) (y : State) → oc ≡ HandedOut
         → carryBy mv out b x ≡ result (outcome oc (out (y .picks))) k y → y .phase ≡ Handed

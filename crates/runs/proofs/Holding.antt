@@ -31,15 +31,15 @@ use Rattle.lists.proofs.ChainRows.{chainOf-snoc, length-chainOf, row-unpicked}
 use Rattle.search.specs.Finding.{within}
 use Rattle.search.proofs.ChainArrays.{chain-pick}
 use Rattle.search.proofs.AfterPicks.{full, Rows, After, after-pick, after-unpick, remains-unpicked}
-use Rattle.runs.specs.Paused.{numbered}
-use Rattle.runs.specs.private.Working.{modePhase, placed, placesOf, stateOf, HoldsAt, StandsFor, leftAfter, NumberAt, spotDown, Stepped}
+use Rattle.runs.specs.Paused.{numbered, modePhase}
+use Rattle.runs.specs.private.Working.{placed, placesOf, stateOf, HoldsAt, StandsFor, leftAfter, NumberAt, spotDown, Stepped}
 use Rattle.runs.specs.declared.engine.Mode.the-variants.{Back as modeBack}
 use Rattle.runs.specs.declared.engine.Spot.{Spot}
 use Rattle.runs.specs.declared.engine.Moved.the-variants.{On, Out, Over}
 use Rattle.replay.proofs.Numbers.{length-numbers, places-numbers, numbers-snoc}
 use Rattle.runs.proofs.Padding.{pad-snoc, pad-unsnoc, take-padded}
 
-pub placed-numbered : (f : Phase) → placed (numbered f) ≡ f
+placed-numbered : (f : Phase) → placed (numbered f) ≡ f
 placed-numbered Down = refl
 placed-numbered Handed = refl
 placed-numbered (Back i) = let e : suc i - 1 ≡ i = omega arith in ap Back e
@@ -99,7 +99,7 @@ module _ (r : List ℕ) (ok : Rows r) where
       ap₂ (λ (l : List ℕ) (i : ℕ). getD l i 0) (ap padded (numbers-snoc q h)) e ∙ pad-getD (map suc q ++ (suc h ∷ [])) (length (map suc q))
       ∙ getD-append-seam (map suc q) (suc h) [] 0
 
-  pub left-is : (q : List ℕ) → Valid (candidates r) q → leftAfter (padded (chainOf r q)) (padded (map suc q)) (length q) ≡ common r q full
+  left-is : (q : List ℕ) → Valid (candidates r) q → leftAfter (padded (chainOf r q)) (padded (map suc q)) (length q) ≡ common r q full
   unfolding leftAfter
   left-is =
       by-last (λ (q : List ℕ). Valid (candidates r) q → leftAfter (padded (chainOf r q)) (padded (map suc q)) (length q) ≡ common r q full) none
@@ -117,7 +117,7 @@ module _ (r : List ℕ) (ok : Rows r) where
           ∙ ap (λ (i : ℕ). getD (padded (chainOf r (q ++ (h ∷ [])))) i 0) e
           ∙ left-last q h (mem-candidates r q h .0 (valid-kid (candidates r) q h v)))
 
-  pub number-is : (q : List ℕ) → Valid (candidates r) q → NumberAt (padded (map suc q)) (length q)
+  number-is : (q : List ℕ) → Valid (candidates r) q → NumberAt (padded (map suc q)) (length q)
   number-is =
       by-last (λ (q : List ℕ). Valid (candidates r) q → NumberAt (padded (map suc q)) (length q)) (λ v. (omega arith, λ l. absurd (omega arith))) (λ q h ih v.
       let cand : Cand r q h = mem-candidates r q h .0 (valid-kid (candidates r) q h v) in (

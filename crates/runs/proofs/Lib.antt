@@ -18,10 +18,14 @@ pub mod Demands
 pub mod Starting
 pub mod SideCalls
 pub mod Readings
+pub mod Values
 pub mod Deciding
 pub mod Words
 pub mod Turns
 pub mod Batching
 pub mod BatchSides
 pub mod BatchDeciding
+pub mod SideRows
+pub mod Marked
+pub mod PhaseChecks
 pub mod Sentences

@@ -16,7 +16,8 @@ use Rattle.search.proofs.Within.{length-within}
 use Rattle.replay.specs.Picked.{Replays}
 use Rattle.replay.specs.declared.Replayed.{Replayed}
 use Rattle.replay.proofs.Numbers.{places-numbers}
-use Rattle.runs.specs.private.Working.{Sized, modePhase, placed, placesOf, HoldsAt, Laying, Decides, filled, PhaseIn, StandsFor, Opens, refusedReport}
+use Rattle.runs.specs.Paused.{modePhase}
+use Rattle.runs.specs.private.Working.{Sized, placed, placesOf, HoldsAt, Laying, DecidedBy, filled, PhaseIn, StandsFor, Opens, refusedReport}
 use Rattle.runs.specs.declared.Outcome.the-variants.{Spent}
 use Rattle.runs.specs.declared.engine.Mode.{Mode}
 use Rattle.runs.specs.declared.engine.Spot.{Spot}
@@ -42,7 +43,7 @@ module _ (n : ℕ) (rows k : List ℕ) (count : ℕ) (f : Phase) (b : ℕ) (z : 
     pub open-replay : s .ok ≡ false → Opens n rows k count f b c′ o
     open-replay x = unreached (λ y l. d .no x .1 (y .picks) (stands-picked n rows k count f z size y l))
 
-    pub open-phase : s .ok ≡ true → (t : Bool) → Decides (PhaseIn (within (s .unpicked) rows) (s .left) count f) t → t ≡ false → Opens n rows k count f b c′ o
+    pub open-phase : s .ok ≡ true → (t : Bool) → DecidedBy (PhaseIn (within (s .unpicked) rows) (s .left) count f) t → t ≡ false → Opens n rows k count f b c′ o
     open-phase ok t p x =
         unreached (no-phase n rows k count f z size (within (s .unpicked) rows) (s .left) (made-front n rows k count f z size s (d .yes ok)) (p .no x))
 

@@ -4,9 +4,8 @@
 --
 -- In order: the law; the side that rows are; 1, 2, 3 and on; rows gathered, values by place, values by number again, chains; any order.
 use mathlib.Core.Path.{_≡_, refl, sym, ap, ap₂, _∙_, subst, fun-ext}
-use mathlib.Core.Logic.{_↔_}
-use mathlib.Core.Bool.{Bool, true, false, not, cond}
-use mathlib.Core.List.{List, [], _∷_, map}
+use mathlib.Core.Bool.{Bool, true, false, not}
+use mathlib.Core.List.{List, [], map}
 use Prim.Native.Nat.{ℕ, suc, _≤_, _<_}
 use native.Mathlib.Decide.{decLt}
 use native.Mathlib.Omega.{arith}
@@ -14,42 +13,42 @@ use lib.Bits.{bitAnd}
 use lib.Dec.{eqb}
 use lib.ListN.{length, take, getD, length-map}
 use lib.Seq.{getD-take, length-take-le}
+use Rattle.basics.proofs.Clash.{clash}
 use Rattle.sets.specs.Sets.{_⊆_, lowest}
 use Rattle.sets.specs.Lists.{allBelow}
 use Rattle.sets.proofs.Order.{zero-sub}
 use Rattle.sets.proofs.Tabulated.{length-tabulate}
-use Rattle.sets.proofs.Tests.{is-true}
 use Rattle.table.specs.Pairs.{row}
-use Rattle.table.specs.Tables.{noRows, padded}
+use Rattle.table.specs.Tables.{padded}
 use Rattle.table.proofs.Places.{row-past}
 use Rattle.table.proofs.Padding.{pad-length, pad-getD}
-use Rattle.rules.specs.Machine.{Phase, Down, Handed, Back, Ended, State, hands, Move, moveIn, ReachedBy}
+use Rattle.rules.specs.Machine.{Phase, Down, Handed, Back, Ended, State, hands, Move, moveIn}
 use Rattle.rules.specs.ByNumber.{move}
-use Rattle.rules.specs.Calls.{Call, result, carryBy, mostBudget}
+use Rattle.rules.specs.Calls.{result, carryBy, mostBudget}
 use Rattle.rules.specs.Keeping.{moveKeeping}
 use Rattle.rules.proofs.Renaming.{renamed, renamedPhase, renamedCall, Below, Follows, any-out, carry-renamed, keeping-follows}
 use Rattle.lists.specs.Arrangements.{IsArrangement, placeOf, plain}
 use Rattle.lists.specs.ByNumber.{candidates}
 use Rattle.lists.specs.Preferred.{candidatesBy}
 use Rattle.lists.specs.Lists.{Side}
-use Rattle.lists.specs.OnTable.{chainOf, moveOn}
-use Rattle.lists.specs.private.Arranging.{indexAt, arrange, unarrange, prefer}
-use Rattle.lists.proofs.Standing.{index-below, index-plain, length-plain, plain-arrangement}
+use Rattle.lists.specs.OnTable.{chainOf}
+use Rattle.lists.specs.private.Arranging.{indexAt, arrange}
+use Rattle.lists.proofs.Standing.{index-below}
 use Rattle.lists.proofs.Arranging.{length-arrange, arrange-moves}
 use Rattle.lists.proofs.CandidateTree.{reached-fits}
 use Rattle.lists.proofs.ChainRows.{length-chainOf, row-chainOf}
 use Rattle.lists.proofs.PlacedCandidates.{AllBelow, all-index}
-use Rattle.lists.proofs.PlacedRuns.{step-hands, row-placed, chain-placed, Good, good-below, good-short, follows, handed-below, reached-placed}
+use Rattle.lists.proofs.PlacedRuns.{step-hands, row-placed, chain-placed, good-below, good-short, follows, handed-below, reached-placed}
 use Rattle.lists.proofs.Plain.{plain-follows, state-plain, reached-plain}
 use Rattle.preference.specs.Preferences.{isPreference, orderOf, numbersOf}
 use Rattle.preference.specs.Placing.{inverse, isPlain, gathered, renumber, renumbered}
 use Rattle.preference.proofs.Holding.{IsPreference, preference-of}
 use Rattle.preference.proofs.Gathering.{gathered-is, gathered-array, gathered-back, place-entry, number-entry, places-of-picks, numbers-of-picks}
 use Rattle.preference.proofs.PlainOrder.{plain-is, plain-order, plain-passes}
-use Rattle.runs.specs.Paused.{numbered}
+use Rattle.runs.specs.Paused.{numbered, modePhase}
 use Rattle.runs.specs.Calling.{outcome}
-use Rattle.runs.specs.private.Working.{Sized, modePhase, apart, handsOver, moveBy, StandsBy, WentBy, CarriesBy, FitsOn, CarriesOn, placedMove, ReachedIn}
-use Rattle.runs.specs.private.Working.{renumberedPhase, Ordered, refusedReport}
+use Rattle.runs.specs.private.Working.{Sized, apart, handsOver, moveBy, StandsBy, WentBy, CarriesBy, FitsOn, CarriesOn, placedMove, ReachedIn}
+use Rattle.runs.specs.private.Working.{renumberedPhase, InOrder, refusedReport}
 use Rattle.refusals.specs.declared.Refusal.the-variants.{NotAnArrangement}
 use Rattle.runs.specs.declared.Outcome.{Outcome}
 use Rattle.runs.specs.declared.engine.Report.{Report}
@@ -198,9 +197,9 @@ module _ (n : ℕ) (r : List ℕ) (counted : length r ≡ n) where
           let d : q ≡ x .picks = step-hands (candidates r) (x .picks) (x .phase) q e in
           ap (λ (z : List ℕ). handsOver true (length r) w (chainOf r z)) (ap (map (indexAt o)) d ∙ same-picks x h ∙ sym d)
 
-  pub plain-carried : n ≤ 64 → (order : List ℕ) → order ≡ numbersOf (plain n) → (omit : Bool) (w k : List ℕ) (count : ℕ) (p : Phase) (b : ℕ)
+  plain-carried : n ≤ 64 → (order : List ℕ) → order ≡ numbersOf (plain n) → (omit : Bool) (w k : List ℕ) (count : ℕ) (p : Phase) (b : ℕ)
       (c k′ : List ℕ) (rep : Report) → CarriesOn (moveBy r omit w) r k count p b c k′ rep
-      → Ordered (λ q. placedMove r q omit w) n r order k count p b c k′ rep
+      → InOrder (λ q. placedMove r q omit w) n r order k count p b c k′ rep
   plain-carried few order e omit w k count p b c k′ rep h = record {
     none = λ z. absurd (fails (sym (plain-passes n few) ∙ ap (isPreference n) (sym e) ∙ z));
     carried = λ z.
@@ -210,7 +209,7 @@ module _ (n : ℕ) (r : List ℕ) (counted : length r ≡ n) where
   }
     where
       fails : true ≡ false → ⊥
-      fails z = let y : _≡_ {A = ℕ} 0 1 = cc in omega arith
+      fails z = clash cc
 
 -- ---- any order
 module _ (n : ℕ) (rows order : List ℕ) (z : Sized n rows) (long : length order ≡ 64) (ok : isPreference n order ≡ true) where
@@ -293,22 +292,22 @@ module _ (n : ℕ) (rows order : List ℕ) (z : Sized n rows) (long : length ord
     where
       go : (f p : Phase) → Below n (x .picks) f → renumberedPhase places n p ≡ numbered f → p ≡ numbered (renamedPhase num f)
       go Down Down b e = refl
-      go Down Handed b e = let y : _≡_ {A = ℕ} 0 1 = cc in absurd (omega arith)
-      go Down (Back g) b e = let y : _≡_ {A = ℕ} 0 1 = cc in absurd (omega arith)
-      go Down Ended b e = let y : _≡_ {A = ℕ} 0 1 = cc in absurd (omega arith)
-      go Handed Down b e = let y : _≡_ {A = ℕ} 0 1 = cc in absurd (omega arith)
+      go Down Handed b e = clash cc
+      go Down (Back g) b e = clash cc
+      go Down Ended b e = clash cc
+      go Handed Down b e = clash cc
       go Handed Handed b e = refl
-      go Handed (Back g) b e = let y : _≡_ {A = ℕ} 0 1 = cc in absurd (omega arith)
-      go Handed Ended b e = let y : _≡_ {A = ℕ} 0 1 = cc in absurd (omega arith)
-      go (Back i) Down b e = let y : _≡_ {A = ℕ} 0 1 = cc in absurd (omega arith)
-      go (Back i) Handed b e = let y : _≡_ {A = ℕ} 0 1 = cc in absurd (omega arith)
+      go Handed (Back g) b e = clash cc
+      go Handed Ended b e = clash cc
+      go (Back i) Down b e = clash cc
+      go (Back i) Handed b e = clash cc
       go (Back i) (Back g) b e =
           let d : renumber places n g ≡ suc i = cc in
           ap Back (place-entry n q arranges (z .few) g i (b .phase) .0 d)
-      go (Back i) Ended b e = let y : _≡_ {A = ℕ} 0 1 = cc in absurd (omega arith)
-      go Ended Down b e = let y : _≡_ {A = ℕ} 0 1 = cc in absurd (omega arith)
-      go Ended Handed b e = let y : _≡_ {A = ℕ} 0 1 = cc in absurd (omega arith)
-      go Ended (Back g) b e = let y : _≡_ {A = ℕ} 0 1 = cc in absurd (omega arith)
+      go (Back i) Ended b e = clash cc
+      go Ended Down b e = clash cc
+      go Ended Handed b e = clash cc
+      go Ended (Back g) b e = clash cc
       go Ended Ended b e = refl
 
   phase-again : (f : Phase) (x : State) → Below n (x .picks) f → renumberedPhase places n (numbered (renamedPhase num f)) ≡ numbered f
@@ -415,7 +414,7 @@ module _ (n : ℕ) (rows order : List ℕ) (z : Sized n rows) (long : length ord
     pub arranged-carried : (c₁ k₁′ c k′ : List ℕ) (rep₁ rep : Report) → CarriesOn (moveBy (take n arr) omit asked) (take n arr) made count p₁ b c₁ k₁′ rep₁
         → c ≡ padded (gathered n c₁ pl) → k′ ≡ renumbered order n k₁′ → rep .outcome ≡ rep₁ .outcome → rep .moves ≡ rep₁ .moves
         → rep .spot .count ≡ rep₁ .spot .count → modePhase (rep .spot .mode) ≡ renumberedPhase order n (modePhase (rep₁ .spot .mode))
-        → Ordered (λ o. placedMove r o omit w) n r order k count p b c k′ rep
+        → InOrder (λ o. placedMove r o omit w) n r order k count p b c k′ rep
     arranged-carried c₁ k₁′ c k′ rep₁ rep h ec ek eo em et ep = record {
       none = λ e. absurd (fails (sym ok ∙ e));
       carried = λ e.
@@ -425,7 +424,7 @@ module _ (n : ℕ) (rows order : List ℕ) (z : Sized n rows) (long : length ord
     }
       where
         fails : true ≡ false → ⊥
-        fails y = let v : _≡_ {A = ℕ} 0 1 = cc in omega arith
+        fails y = clash cc
 
         turned : CarriesOn (moveBy (arrange q r) omit asked) (arrange q r) (renumbered places n k) count p₁ b c₁ k₁′ rep₁
         turned =
@@ -449,22 +448,22 @@ asked-for r omit flag e w v h k count f b c′ k′ rep d =
 pub plain-call : (n : ℕ) (rows order : List ℕ) → Sized n rows → length order ≡ 64 → (test : Bool) → test ≡ isPlain n order → test ≡ true → (omit : Bool)
     (w k : List ℕ) (count : ℕ) (p : Phase) (b : ℕ) (c k′ : List ℕ) (rep : Report)
     → CarriesOn (moveBy (take n rows) omit w) (take n rows) k count p b c k′ rep
-    → Ordered (λ q. placedMove (take n rows) q omit w) n (take n rows) order k count p b c k′ rep
+    → InOrder (λ q. placedMove (take n rows) q omit w) n (take n rows) order k count p b c k′ rep
 plain-call n rows order z long test e d omit w k count p b c k′ rep h =
     plain-carried n (take n rows) (length-take-le n rows (omega (arith, z .few, z .size))) (z .few) order (plain-is n order (z .few) long (sym e ∙ d)) omit w k
     count p b c k′ rep h
 
 -- a call with the flag as it was found to be is the call with the flag
 pub flag-found : (r : List ℕ) (omit flag : Bool) → omit ≡ flag → (w : List ℕ) (n : ℕ) (order k : List ℕ) (count : ℕ) (f : Phase) (b : ℕ)
-    (c′ k′ : List ℕ) (rep : Report) → Ordered (λ q. placedMove r q flag w) n r order k count f b c′ k′ rep
-    → Ordered (λ q. placedMove r q omit w) n r order k count f b c′ k′ rep
+    (c′ k′ : List ℕ) (rep : Report) → InOrder (λ q. placedMove r q flag w) n r order k count f b c′ k′ rep
+    → InOrder (λ q. placedMove r q omit w) n r order k count f b c′ k′ rep
 flag-found r omit flag e w n order k count f b c′ k′ rep h =
-    subst (λ (x : Bool). Ordered (λ q. placedMove r q x w) n r order k count f b c′ k′ rep) (sym e) h
+    subst (λ (x : Bool). InOrder (λ q. placedMove r q x w) n r order k count f b c′ k′ rep) (sym e) h
 
 -- ---- 27
 pub refused-order : (mv : List ℕ → State → Move) (n : ℕ) (r order k : List ℕ) (count : ℕ) (f : Phase) (b : ℕ) (c′ k′ : List ℕ) (rep : Report)
-    → isPreference n order ≡ false → rep ≡ refusedReport NotAnArrangement → Ordered mv n r order k count f b c′ k′ rep
+    → isPreference n order ≡ false → rep ≡ refusedReport NotAnArrangement → InOrder mv n r order k count f b c′ k′ rep
 refused-order mv n r order k count f b c′ k′ rep e d = record {
   none = λ _. ap (λ (x : Report). x .outcome) d;
-  carried = λ h. let y : _≡_ {A = ℕ} 0 1 = cc in absurd (omega arith);
+  carried = λ h. clash cc;
 }

@@ -1,13 +1,14 @@
 -- The contracts leave one answer: no two steps are what `CalledEither` says of one value and budget (`called-unique`), nor, where the run omits
 -- nothing, what `Called` says (`called-plain-unique`), and no two structs of the code
 -- read alike. For `Called` two steps that are not different are equal, since each field of a step is decided.
+--
+-- Pins, which nothing else cites: `called-plain-unique`.
 use mathlib.Core.Path.{_≡_, refl, sym, ap, ap₂, _∙_}
-use mathlib.Core.Bool.{Bool, true, false, cond}
+use mathlib.Core.Bool.{false}
 use mathlib.Core.List.{List, [], _∷_, List-discrete}
 use Prim.Native.Nat.{ℕ}
 use native.Mathlib.Decide.{ℕ-discrete}
 use native.Mathlib.Omega.{arith}
-use lib.Dec.{eqb}
 use lib.ListN.{getD}
 use Rattle.table.specs.Tables.{chainRows}
 use Rattle.refusals.specs.Answers.{Answer as Reading}
@@ -30,13 +31,14 @@ use Rattle.runs.specs.declared.gauges.GaugeStep.{GaugeStep}
 use Rattle.runs.specs.declared.cases.CaseStep.{CaseStep}
 use Rattle.runs.specs.declared.Outcome.{Outcome}
 use Rattle.runs.specs.declared.Outcome.the-variants.{HandedOut, Spent, End, Refused}
-use Rattle.runs.specs.Paused.{Value, gaugePhase, casePhase, gaugeValue, caseValue, gaugeStarted, caseStarted}
+use Rattle.runs.specs.Paused.{Value, gaugePhase, casePhase, gaugeValue, caseValue, gaugeStart, caseStart}
 use Rattle.runs.specs.Calling.{Step, outcome, gaugeStep, caseStep, valueRefusal, PausedAt, Called}
 use Rattle.runs.specs.Omitting.{CalledEither}
 use Rattle.runs.specs.private.Either.{CalledOf}
 use Rattle.runs.proofs.Answered.{called-of-both, called-plain}
+use Rattle.runs.proofs.Values.{settled, value-settled}
 
--- ---- an answer, and a phase, from its kind and its numbers
+-- ---- an answer from its kind and its numbers
 kind : Reply → ℕ
 kind (refused n) = 0
 kind spent = 1
@@ -59,49 +61,7 @@ answer-of spent = refl
 answer-of (handed x) = refl
 answer-of end = refl
 
-stage : Phase → ℕ
-stage Down = 0
-stage Handed = 1
-stage (Back g) = 2
-stage Ended = 3
-
-from : Phase → ℕ
-from Down = 0
-from Handed = 0
-from (Back g) = g
-from Ended = 0
-
-phaseOf : ℕ → ℕ → Phase
-phaseOf k g = getD (Down ∷ Handed ∷ Back g ∷ Ended ∷ []) k Ended
-
-phase-of : (f : Phase) → phaseOf (stage f) (from f) ≡ f
-unfolding phaseOf stage from
-phase-of Down = refl
-phase-of Handed = refl
-phase-of (Back g) = refl
-phase-of Ended = refl
-
-flag : Bool → ℕ
-flag b = cond b 1 0
-
-flagOf : ℕ → Bool
-flagOf k = eqb k 1
-
-flag-of : (b : Bool) → flagOf (flag b) ≡ b
-unfolding flagOf flag
-flag-of true = refl
-flag-of false = refl
-
--- ---- records, field by field
-table-same : (g h c d : ℕ) (r q : List ℕ) → g ≡ h → c ≡ d → r ≡ q
-    → _≡_ {A = Table} (record { gauges = g; cases = c; rows = r }) (record { gauges = h; cases = d; rows = q })
-table-same g h c d r q a b e = rw (a, b, e)
-
-value-same : (t u : Table) (k l p q : List ℕ) (n m : ℕ) (f e : Phase) (o z : Bool) → t ≡ u → k ≡ l → p ≡ q → n ≡ m → f ≡ e → o ≡ z
-    → _≡_ {A = Value} (record { table = t; order = k; picks = p; count = n; phase = f; omit = o })
-    (record { table = u; order = l; picks = q; count = m; phase = e; omit = z })
-value-same t u k l p q n m f e o z a i b c d h = rw (a, i, b, c, d, h)
-
+-- ---- steps, field by field
 step-same : (a b : Reply) (k l : ℕ) (c d : Chain) (p q : List ℕ) (v w : Value) → a ≡ b → k ≡ l → c ≡ d → p ≡ q → v ≡ w
     → _≡_ {A = Step} (record { answer = a; moves = k; chain = c; picks = p; next = v }) (record { answer = b; moves = l; chain = d; picks = q; next = w })
 step-same a b k l c d p q v w x y z o u = rw (x, y, z, o, u)
@@ -114,25 +74,13 @@ step-settled r q n =
     (number (λ x. x .moves))
     (ap₂ (λ (g : ℕ) (rows : List ℕ). record { gauges = g; rows = rows }) (number (λ x. x .chain .gauges)) (list (λ x. x .chain .rows)))
     (list (λ x. x .picks))
-    (value-same (r .next .table) (q .next .table) (r .next .order) (q .next .order) (r .next .picks) (q .next .picks) (r .next .count) (q .next .count)
-    (r .next .phase) (q .next .phase) (r .next .omit) (q .next .omit)
-    (table-same (r .next .table .gauges) (q .next .table .gauges) (r .next .table .cases) (q .next .table .cases) (r .next .table .rows) (q .next .table .rows)
-    (number (λ x. x .next .table .gauges)) (number (λ x. x .next .table .cases)) (list (λ x. x .next .table .rows)))
-    (list (λ x. x .next .order))
-    (list (λ x. x .next .picks))
-    (number (λ x. x .next .count))
-    (sym (phase-of (r .next .phase)) ∙ ap₂ phaseOf (number (λ x. stage (x .next .phase))) (number (λ x. from (x .next .phase))) ∙ phase-of (q .next .phase))
-    (sym (flag-of (r .next .omit)) ∙ ap flagOf (number (λ x. flag (x .next .omit))) ∙ flag-of (q .next .omit)))
+    (value-settled (r .next) (q .next) (λ d. n (λ e. d (ap (λ (x : Step). x .next) e))))
   where
-    settle : {A : Type 0} (f : Step → A) → Dec (f r ≡ f q) → f r ≡ f q
-    settle f (yes e) = e
-    settle f (no e) = absurd (n (λ d. e (ap f d)))
-
     number : (f : Step → ℕ) → f r ≡ f q
-    number f = settle f (ℕ-discrete (f r) (f q))
+    number f = settled n f (ℕ-discrete (f r) (f q))
 
     list : (f : Step → List ℕ) → f r ≡ f q
-    list f = settle f (List-discrete ℕ-discrete (f r) (f q))
+    list f = settled n f (List-discrete ℕ-discrete (f r) (f q))
 
 of-unique : (side : Table → Side) (v : Value) (b : ℕ) (r q : Step) → CalledOf side v b r → CalledOf side v b q → r ≡ q
 of-unique side v b r q a c = step-settled r q (λ n. go n (ℕ-discrete (valueRefusal side v) 0))
@@ -199,7 +147,7 @@ gauge-run-of p =
 pub gauge-value-injective : (p q : GaugeRun) → gaugeValue p ≡ gaugeValue q → p ≡ q
 gauge-value-injective = injective gaugeValue gaugeRunOf gauge-run-of
 
-pub gauge-started-injective : (s z : GaugeStart) → gaugeStarted s ≡ gaugeStarted z → s ≡ z
+pub gauge-started-injective : (s z : GaugeStart) → gaugeStart s ≡ gaugeStart z → s ≡ z
 gauge-started-injective s z e =
     ap₂ (λ (v : Verdict) (p : GaugeRun). record { verdict = v; run = p })
     (verdict-injective (s .verdict) (z .verdict) (ap (λ (a : Reading Value). a .refusal) e))
@@ -243,7 +191,7 @@ case-run-of p =
 pub case-value-injective : (p q : CaseRun) → caseValue p ≡ caseValue q → p ≡ q
 case-value-injective = injective caseValue caseRunOf case-run-of
 
-pub case-started-injective : (s z : CaseStart) → caseStarted s ≡ caseStarted z → s ≡ z
+pub case-started-injective : (s z : CaseStart) → caseStart s ≡ caseStart z → s ≡ z
 case-started-injective s z e =
     ap₂ (λ (v : Verdict) (p : CaseRun). record { verdict = v; run = p })
     (verdict-injective (s .verdict) (z .verdict) (ap (λ (a : Reading Value). a .refusal) e))

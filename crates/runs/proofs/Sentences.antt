@@ -10,7 +10,7 @@ use mathlib.Core.Path.{_≡_, refl, sym, ap, _∙_, subst}
 use mathlib.Core.Logic.{_↔_, _≢_}
 use mathlib.Core.Bool.{Bool, true, false}
 use mathlib.Core.List.{List, [], _∷_, _++_, map, List·Memᴰ}
-use Prim.Native.Nat.{ℕ, suc, _≤_, _<_}
+use Prim.Native.Nat.{ℕ, _≤_, _<_}
 use native.Mathlib.Omega.{arith}
 use lib.ListN.{length, take, drop}
 use lib.Seq.{take-append-seam, drop-append-seam}
@@ -19,7 +19,7 @@ use Rattle.table.specs.Chains.{IsMaximal}
 use Rattle.table.specs.Tables.{tableRows}
 use Rattle.rules.specs.Machine.{State, fresh}
 use Rattle.rules.specs.Calls.{refused, spent, end}
-use Rattle.rules.specs.Keeping.{kept as keptOf}
+use Rattle.rules.specs.Keeping.{keptSets as keptOf}
 use Rattle.rules.specs.ByNumber.{calls, stateAfter}
 use Rattle.lists.specs.Arrangements.{plain}
 use Rattle.lists.specs.Lists.{Side, gaugeSide, caseSide, PreferredList, GaugeList, CaseList}
@@ -32,10 +32,10 @@ use Rattle.preference.proofs.PlainOrder.{order-plain}
 use Rattle.conflicts.specs.Conflicts.{HoldsEssential}
 use Rattle.conflicts.specs.Omitting.{keepsOf}
 use Rattle.runs.specs.Paused.{Value, paused, blankValue}
-use Rattle.runs.specs.Calling.{Step, refusal, arrangement, told, held, valueRefusal, PausedAt, Called, Calls, left}
-use Rattle.runs.specs.Demand.{sets, Ends, Each, HandsOut, FromRules, RunDemand, SharesAll}
+use Rattle.runs.specs.Calling.{Step, refusalStep, arrangement, told, held, valueRefusal, PausedAt, Called, Calls, lastValue}
+use Rattle.runs.specs.Demand.{handedSets, Ends, Each, HandsOut, FromRules, RunDemand, SharesAll}
 use Rattle.runs.specs.Omitting.{CalledEither, CallsEither, RunOmits}
-use Rattle.runs.specs.Batches.{denied, Batch, Tale, joined, denial, Denied, Comes, batchOn, budgetsOn, stepsOn, total, leftOver, Batched, AddsCalls}
+use Rattle.runs.specs.Batches.{denied, Batch, Tale, joined, Denied, Comes, batchOn, budgetsOn, stepsOn, total, leftOver, Batched, AddsCalls}
 
 -- ---- a list of calls, one of them with the budget b and the answer r
 -- what holds of each budget with its answer holds of this one
@@ -47,17 +47,18 @@ each-at P (a ∷ bs) cs b [] qs r e h = absurd (omega arith)
 each-at P (a ∷ bs) cs b (x ∷ rs) qs r e h = each-at P bs cs b rs qs r (omega arith) (h .1)
 
 -- "the ladders handed out are, in turn, the front of that run's list"
-pub hands-front : (list : List (List ℕ)) (bs : List ℕ) (rs : List Step) → HandsOut list bs rs → (rest : List (List ℕ)) × (sets rs ++ rest ≡ list)
+pub hands-front : (list : List (List ℕ)) (bs : List ℕ) (rs : List Step) → HandsOut list bs rs → (rest : List (List ℕ)) × (handedSets rs ++ rest ≡ list)
 hands-front list bs rs h = h .front
 
 -- "Once a call has answered "end", they are the whole list"
-pub hands-whole : (list : List (List ℕ)) (bs : List ℕ) (rs : List Step) (r : Step) → HandsOut list bs rs → List·Memᴰ r rs → r .answer ≡ end → sets rs ≡ list
+pub hands-whole : (list : List (List ℕ)) (bs : List ℕ) (rs : List Step) (r : Step) → HandsOut list bs rs → List·Memᴰ r rs → r .answer ≡ end
+    → handedSets rs ≡ list
 hands-whole list bs rs r h m e = h .whole (r, m, e)
 
 module _ (list : List (List ℕ)) (bs cs : List ℕ) (b : ℕ) (rs qs : List Step) (r : Step) (e : length bs ≡ length rs) where
   -- "18 above 1,000,000"
-  pub hands-refuses : HandsOut list (bs ++ (b ∷ cs)) (rs ++ (r ∷ qs)) → 1000000 < b → r ≡ refusal 18
-  hands-refuses h = each-at (λ b r. 1000000 < b → r ≡ refusal 18) bs cs b rs qs r e (h .only18)
+  pub hands-refuses : HandsOut list (bs ++ (b ∷ cs)) (rs ++ (r ∷ qs)) → 1000000 < b → r ≡ refusalStep 18
+  hands-refuses h = each-at (λ b r. 1000000 < b → r ≡ refusalStep 18) bs cs b rs qs r e (h .only18)
 
   -- "Only 18 refuses such a call"
   pub hands-takes : HandsOut list (bs ++ (b ∷ cs)) (rs ++ (r ∷ qs)) → b ≤ 1000000 → (n : ℕ) → r .answer ≢ refused n
@@ -87,27 +88,27 @@ rules-answers side t k v bs rs f = f .each
 
 -- "and after the list the value last returned"
 pub rules-last : (side : Table → Side) (t : Table) (k : List ℕ) (v : Value) (bs : List ℕ) (rs : List Step) → FromRules side t k v bs rs
-    → left v rs ≡ paused t k false (leftOn (side t) (arrangement (side t) k) bs)
+    → lastValue v rs ≡ paused t k false (leftOn (side t) (arrangement (side t) k) bs)
 rules-last side t k v bs rs f = f .last
 
 -- ---- "So the two runs, each gone to its end, share one set"
 module _ (side : Table → Side) (t : Table) (k j : List ℕ) (v : Value) (sixty-four : length j ≡ 64) (bs cs : List ℕ) (rs qs : List Step) where
   pub shares-gauges : SharesAll side t k v → preferredRefusal t (side t .count) k ≡ 0 → preferredRefusal t (t .gauges) j ≡ 0 → Calls side v bs rs
-      → Calls gaugeSide (paused t j false fresh) cs qs → Ends rs → Ends qs → (x : List ℕ) → List·Memᴰ x (sets rs) ↔ List·Memᴰ x (sets qs)
+      → Calls gaugeSide (paused t j false fresh) cs qs → Ends rs → Ends qs → (x : List ℕ) → List·Memᴰ x (handedSets rs) ↔ List·Memᴰ x (handedSets qs)
   shares-gauges h p q a b m n = h .gauges j sixty-four p q bs cs rs qs a b m n .same
 
   pub shares-cases : SharesAll side t k v → preferredRefusal t (side t .count) k ≡ 0 → preferredRefusal t (t .cases) j ≡ 0 → Calls side v bs rs
-      → Calls caseSide (paused t j false fresh) cs qs → Ends rs → Ends qs → (x : List ℕ) → List·Memᴰ x (sets rs) ↔ List·Memᴰ x (sets qs)
+      → Calls caseSide (paused t j false fresh) cs qs → Ends rs → Ends qs → (x : List ℕ) → List·Memᴰ x (handedSets rs) ↔ List·Memᴰ x (handedSets qs)
   shares-cases h p q a b m n = h .cases j sixty-four p q bs cs rs qs a b m n .same
 
 -- ---- one call, from any value
 module _ (side : Table → Side) (v : Value) (b : ℕ) (r : Step) where
   -- 10, 11 and 27
-  pub called-table : Called side v b r → 0 < valueRefusal side v → r ≡ refusal (valueRefusal side v)
+  pub called-table : Called side v b r → 0 < valueRefusal side v → r ≡ refusalStep (valueRefusal side v)
   called-table c h = c .table h
 
   -- "15 a value that no number of moves, 0 included, from a fresh start on its table leads to"
-  pub called-15 : Called side v b r → valueRefusal side v ≡ 0 → ((s : State) → PausedAt side v s → ⊥) → r ≡ refusal 15
+  pub called-15 : Called side v b r → valueRefusal side v ≡ 0 → ((s : State) → PausedAt side v s → ⊥) → r ≡ refusalStep 15
   called-15 c z n = c .value z n
 
   -- a value of a run that omits nothing: what rules 1 to 5 give
@@ -125,19 +126,19 @@ module _ (side : Table → Side) (v : Value) (b : ℕ) (r : Step) where
 
 -- ---- runs that omit: "by its end, hand out exactly the ladders that hold a deciding pair" (02, R-2)
 pub omits-exactly : (side : Table → Side) (t : Table) (k : List ℕ) (v : Value) (bs : List ℕ) (rs : List Step) → RunOmits side t k v bs rs → Ends rs
-    → (x : List ℕ) → List·Memᴰ x (sets rs) ↔ (IsMaximal (tableRows t) x × HoldsEssential (tableRows t) x)
+    → (x : List ℕ) → List·Memᴰ x (handedSets rs) ↔ (IsMaximal (tableRows t) x × HoldsEssential (tableRows t) x)
 omits-exactly side t k v bs rs h e x = rw (h .hands .whole e) (h .members x)
 
 -- in the run's own order
 pub omits-in-order : (side : Table → Side) (t : Table) (k : List ℕ) (v : Value) (bs : List ℕ) (rs : List Step) → RunOmits side t k v bs rs → Ends rs
-    → (xs : List (List ℕ)) × PreferredList t (side t) (arrangement (side t) k) xs × (sets rs ≡ keptOf (keepsOf t) xs)
+    → (xs : List (List ℕ)) × PreferredList t (side t) (arrangement (side t) k) xs × (handedSets rs ≡ keptOf (keepsOf t) xs)
 omits-in-order side t k v bs rs h e = (h .list, h .listed, h .hands .whole e)
 
 -- ---- "The arrangement 1, 2, 3 and on gives the former results" (02, R-12): the answers and the value left are those of rules 1 to 5 by number
 pub run-plain : (side : Table → Side) (t : Table) (v : Value) (bs : List ℕ) (rs : List Step) → side t .count ≤ 64 → length (side t .rows) ≡ side t .count
     → FromRules side t (plainNumbers (side t .count)) v bs rs
     → (rs ≡ map (told t (side t) (plainNumbers (side t .count)) false) (calls (candidates (side t .rows)) (handOut (side t)) bs))
-    × (left v rs ≡ paused t (plainNumbers (side t .count)) false (stateAfter (candidates (side t .rows)) (handOut (side t)) bs fresh))
+    × (lastValue v rs ≡ paused t (plainNumbers (side t .count)) false (stateAfter (candidates (side t .rows)) (handOut (side t)) bs fresh))
 run-plain side t v bs rs few counted f =
     let k = plainNumbers (side t .count) in
     let o : arrangement (side t) k ≡ plain (side t .count) = order-plain (side t .count) few in (
@@ -198,8 +199,8 @@ module _ (t : Table) (order : List ℕ) (omit : Bool) (u : Tale) (before : List 
 -- ladders, moves and value are theirs
 pub batch-is-calls : (side : Table → Side) (v : Value) (b : ℕ) (before : List ℕ) (r : Batch) (now : List ℕ) (s : State)
     → Comes (v .table) (v .order) (v .omit) (batchOn side v (length before) b s) before r now → AddsCalls side v (length before) b s
-    → (rs : List Step) × CallsEither side v (leftOver b rs) rs × (r .ladders ≡ length (sets rs))
-    × (now ≡ joined (sets rs) ++ drop (length (joined (sets rs))) before) × (r .moves ≡ total rs) × (r .next ≡ left v rs)
+    → (rs : List Step) × CallsEither side v (leftOver b rs) rs × (r .ladders ≡ length (handedSets rs))
+    × (now ≡ joined (handedSets rs) ++ drop (length (joined (handedSets rs))) before) × (r .moves ≡ total rs) × (r .next ≡ lastValue v rs)
 batch-is-calls side v b before r now s c a =
     let rs : List Step = stepsOn side v (length before) b s in (
       rs,
@@ -213,11 +214,11 @@ batch-is-calls side v b before r now s c a =
 -- so demand 3 speaks of it: after any list of calls from a fresh start that leaves v, single ones and those of other batches
 module _ (side : Table → Side) (v : Value) (words b : ℕ) (s : State) (bs : List ℕ) (rs : List Step) where
   pub batch-demand : (a : AddsCalls side v words b s) → Calls side (paused (v .table) (v .order) false fresh) bs rs
-      → left (paused (v .table) (v .order) false fresh) rs ≡ v
+      → lastValue (paused (v .table) (v .order) false fresh) rs ≡ v
       → RunDemand side (v .table) (v .order) (paused (v .table) (v .order) false fresh) (bs ++ budgetsOn side v words b s) (rs ++ stepsOn side v words b s)
   batch-demand a c e = a .demand bs rs c e
 
   pub batch-omits : (a : AddsCalls side v words b s) → CallsEither side (paused (v .table) (v .order) true fresh) bs rs
-      → left (paused (v .table) (v .order) true fresh) rs ≡ v
+      → lastValue (paused (v .table) (v .order) true fresh) rs ≡ v
       → RunOmits side (v .table) (v .order) (paused (v .table) (v .order) true fresh) (bs ++ budgetsOn side v words b s) (rs ++ stepsOn side v words b s)
   batch-omits a c e = a .omits bs rs c e

@@ -29,8 +29,8 @@ use Rattle.transpose.proofs.Sides.{rows-exchanged, exchanged-legal}
 use Rattle.lists.specs.Lists.{Side, gaugeSide, caseSide}
 use Rattle.lists.specs.OnTable.{chainOf, handOut}
 use Rattle.lists.proofs.ChainRows.{length-chainOf}
-use Rattle.turn.specs.Places.{places}
-use Rattle.turn.proofs.Columns.{places-padded}
+use Rattle.transpose.specs.Places.{places}
+use Rattle.transpose.proofs.Columns.{places-padded}
 use Rattle.runs.specs.private.Working.{Sized, Works}
 
 -- a legal table's rows are sized

@@ -17,7 +17,7 @@ use Rattle.preference.proofs.Placing.{passes-both}
 use Rattle.runs.specs.Paused.{Value, paused}
 use Rattle.runs.specs.Demand.{KeepsDemand, SharesAll}
 use Rattle.runs.specs.Omitting.{KeepsOmits}
-use Rattle.runs.proofs.Demands.{Started, StartsAll, run-demand, run-omits, shares-all}
+use Rattle.runs.proofs.Demands.{StartsAll, run-demand, run-omits, shares-all}
 
 -- a side that is fair and has at most 64 rows
 started : (side : Table → Side) (t : Table) → (Legal t → Fair t (side t)) → (Legal t → side t .count ≤ 64) → length (t .rows) ≡ 64 → StartsAll side t

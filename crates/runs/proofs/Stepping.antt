@@ -9,6 +9,7 @@ use native.Mathlib.Omega.{arith}
 use lib.Bits.{bitAnd}
 use lib.ListN.{length, getD, set, take}
 use lib.Seq.{getD-take, length-take-le}
+use Rattle.basics.proofs.Clash.{clash}
 use Rattle.table.specs.Tables.{padded}
 use Rattle.sets.specs.Sets.{_⊆_}
 use Rattle.sets.proofs.Order.{zero-sub}
@@ -22,14 +23,14 @@ use Rattle.lists.specs.Picks.{common}
 use Rattle.lists.specs.ByNumber.{candidates}
 use Rattle.lists.specs.OnTable.{chainOf}
 use Rattle.lists.proofs.Candidates.{Cand, cand-of}
-use Rattle.search.specs.Finding.{candidateIn, First, within}
+use Rattle.search.specs.Finding.{candidateIn, FirstOf, within}
 use Rattle.search.proofs.Within.{within-without, within-with}
 use Rattle.search.proofs.AfterPicks.{full, Rows, After, lowest-found, lowest-none, above-found, above-none, found-candidate}
 use Rattle.sets.specs.First.{Without, With}
 use Rattle.sets.proofs.Tests.{is-false}
 use Rattle.lists.specs.PickSequence.{isIn}
-use Rattle.runs.specs.Paused.{numbered}
-use Rattle.runs.specs.private.Working.{Sized, modePhase, placed, stateOf, HoldsAt, Holds, TakesBack, NumberAt, leftAfter, spotDown, Stepped}
+use Rattle.runs.specs.Paused.{numbered, modePhase}
+use Rattle.runs.specs.private.Working.{Sized, placed, stateOf, HoldsAt, Holds, TakesBack, NumberAt, leftAfter, spotDown, Stepped}
 use Rattle.runs.specs.declared.engine.Mode.{Mode}
 use Rattle.runs.specs.declared.engine.Mode.the-variants.{Down as modeDown, Handed as modeHanded, Back as modeBack, Ended as modeEnded}
 use Rattle.runs.specs.declared.engine.Spot.{Spot}
@@ -189,7 +190,7 @@ module _ (n : ℕ) (rows c k : List ℕ) (s : Spot) (z : Sized n rows) (h : Hold
           (subst (λ (y : List ℕ). HoldsAt side y c′ k′ (spotDown (s .count + 1) (s′ .unpicked) (bitAnd (row u′ g) (s .left)))
           (at (now .picks ++ (g ∷ [])) Down)) (sym ew) (rw (ec, ek) o))
 
-  module _ (from g : ℕ) (f : First (candidateIn u′ (s .left) 64) from 64 g) where
+  module _ (from g : ℕ) (f : FirstOf (candidateIn u′ (s .left) 64) from 64 g) where
     found : g < 64 → Cand side (now .picks) g
     found l = cand-of side (now .picks) g (found-candidate side (now .picks) u′ (s .left) (side-rows n rows z) (h .after) from g f l)
 
@@ -243,10 +244,10 @@ module _ (n : ℕ) (rows c k : List ℕ) (s : Spot) (z : Sized n rows) (h : Hold
       number-low = go (now .phase) (sym (ap modePhase e) ∙ h .phased)
         where
           go : (f : Phase) → Back from ≡ numbered f → from ≡ suc (from - 1)
-          go Down d = let w : _≡_ {A = ℕ} 0 1 = cc in absurd (omega arith)
-          go Handed d = let w : _≡_ {A = ℕ} 0 1 = cc in absurd (omega arith)
+          go Down d = clash cc
+          go Handed d = clash cc
           go (Back i) d = let w : from ≡ suc i = cc in omega arith
-          go Ended d = let w : _≡_ {A = ℕ} 0 1 = cc in absurd (omega arith)
+          go Ended d = clash cc
 
       pub back-room : g < 64 → (s .count < 64) × (g < 64)
       back-room l = (omega (arith, h .counted, room side u′ c k (side-rows n rows z) s now h (back-fits .0) g (found l)), l)

@@ -4,17 +4,18 @@ use mathlib.Core.Path.{_≡_, refl, sym, ap, ap₂, _∙_, subst}
 use mathlib.Core.Bool.{Bool, true, false}
 use mathlib.Core.Logic.{⊎-elim}
 use mathlib.Core.List.{List, [], _∷_, _++_, append-nil, append-assoc}
-use Prim.Native.Nat.{ℕ, zero, suc, _+_, _-_, _≤_, _<_, min}
+use Prim.Native.Nat.{ℕ, suc, _+_, _-_, _≤_, _<_, min}
 use native.Mathlib.Omega.{arith}
 use lib.ListN.{length, take, getD, length-append}
 use lib.Seq.{sets as stored, length-sets, length-take-le}
+use Rattle.basics.proofs.Clash.{clash}
 use Rattle.table.specs.Tables.{padded}
 use Rattle.transpose.specs.Transposing.{transpose}
 use Rattle.transpose.proofs.Transposition.{length-transpose}
-use Rattle.turn.specs.Places.{places}
-use Rattle.turn.specs.Putting.{PutsIn}
-use Rattle.rules.specs.Machine.{State, Given, nothing, hands, ends, Move}
-use Rattle.rules.specs.Calls.{Call, proceedBy, carryBy, mostBudget}
+use Rattle.transpose.specs.Places.{places}
+use Rattle.transpose.specs.Putting.{PutsIn}
+use Rattle.rules.specs.Machine.{State, Move}
+use Rattle.rules.specs.Calls.{Call, mostBudget}
 use Rattle.rules.proofs.Calls.{within-by}
 use Rattle.lists.specs.OnTable.{chainOf}
 use Rattle.runs.specs.Calling.{outcome}
@@ -32,6 +33,7 @@ use Rattle.runs.specs.declared.Outcome.{Outcome}
 use Rattle.runs.specs.declared.Outcome.the-variants.{HandedOut, Spent, End, Refused}
 use Rattle.runs.proofs.Padding.{take-padded}
 use Rattle.runs.proofs.SideCalls.{tag, OneOf}
+use Rattle.runs.proofs.Carrying.{carry-most}
 use Rattle.runs.proofs.Words.{stored-append, joined-snoc, length-snoc-list, words-more}
 
 -- ---- a ladder put at a place
@@ -92,18 +94,9 @@ module _ (n g : ℕ) (before : List ℕ) (at : ℕ) (now rows : List ℕ) (room 
 
 -- ---- calls
 module _ (mv : State → Move) (out : List ℕ → List ℕ) where
-  carry-most : (b : ℕ) (s : State) → carryBy mv out b s .moves ≤ b
-  carry-most zero s = omega arith
-  carry-most (suc b) s = go (mv s .given) (carry-most b (mv s .next))
-    where
-      go : (g : Given) → carryBy mv out b (mv s .next) .moves ≤ b → proceedBy mv out (carryBy mv out b) g (mv s .next) .moves ≤ suc b
-      go nothing h = omega arith
-      go (hands p) h = omega arith
-      go ends h = omega arith
-
   -- a call makes at most its budget of moves
   comes-most : (b : ℕ) (x : State) (o : Outcome) (m : ℕ) (y : State) → ComesOut mv b x o m y → m ≤ b
-  comes-most b x o m y e = subst (λ (n : ℕ). n ≤ b) (ap (λ (c : Call). c .moves) (e out)) (carry-most b x)
+  comes-most b x o m y e = subst (λ (n : ℕ). n ≤ b) (ap (λ (c : Call). c .moves) (e out)) (carry-most mv out b x)
 
   written-none : (writing : Bool) (before : List ℕ) → before ≡ writtenIn writing before []
   written-none true before = refl
@@ -217,12 +210,12 @@ module _ (mv : State → Move) (out : List ℕ → List ℕ) where
 
         turn-unwritten : writing ≡ false → Sofar writing mv out g k b x z before now (l - m) (j - 1) place
         turn-unwritten w =
-            next-with place now (λ t. clash t) (λ t. clash t)
+            next-with place now (λ t. not-written t) (λ t. not-written t)
             (h .buffer ∙ ap (λ (t : Bool). writtenIn t before (joined (h .sets))) w
             ∙ ap (λ (t : Bool). writtenIn t before (joined (h .sets ++ (out (z .picks) ∷ [])))) (sym w))
           where
-            clash : {P : Type 0} → writing ≡ true → P
-            clash t = let a : _≡_ {A = Bool} false true = sym w ∙ t in let c : _≡_ {A = ℕ} 0 1 = cc in absurd (omega arith)
+            not-written : {P : Type 0} → writing ≡ true → P
+            not-written t = let a : _≡_ {A = Bool} false true = sym w ∙ t in clash cc
 
       -- a call that hands nothing out
       turn-stop : (oc ≡ HandedOut → ⊥) → batchBy mv out k b x ≡ tale (ending oc) (h .sets) (b - (l - m)) z

@@ -36,10 +36,11 @@ use Rattle.conflicts.specs.Conflicts.{Essential, HoldsEssential}
 use Rattle.conflicts.specs.Omitting.{keepsOf}
 use Rattle.conflicts.proofs.Testing.{holds-test}
 use Rattle.essentials.specs.Answers.{GivesEssentials}
-use Rattle.turn.specs.Places.{places}
-use Rattle.turn.proofs.Columns.{length-places, row-places}
+use Rattle.transpose.specs.Places.{places}
+use Rattle.transpose.proofs.Columns.{length-places, row-places}
 use Rattle.runs.specs.Omitting.{movesOf}
-use Rattle.runs.specs.private.Working.{Works, Ordered, apart, handsOver, placedMove}
+use Rattle.runs.specs.private.Working.{Works, InOrder, apart, handsOver, placedMove}
+use Rattle.runs.specs.private.Sided.{Wants}
 use Rattle.runs.specs.declared.engine.Report.{Report}
 
 -- ---- what the core asks of a row, and of all
@@ -94,10 +95,7 @@ asked-is n w c test found some = go test refl
 -- ---- the moves
 module _ (t : Table) (s : Side) (w : List ℕ) where
   -- what the core asks of the picks is what the run keeps
-  abbrev pub Wants : Type 0
-  Wants = (p : List ℕ) → handsOver true (length (s .rows)) w (chainOf (s .rows) p) ≡ keepsOf t (handOut s p)
-
-  pub core-moves : (o : List ℕ) (omit : Bool) → (omit ≡ true → Wants) → placedMove (s .rows) o omit w ≡ movesOf t s o omit
+  pub core-moves : (o : List ℕ) (omit : Bool) → (omit ≡ true → Wants t s w) → placedMove (s .rows) o omit w ≡ movesOf t s o omit
   unfolding placedMove
   core-moves o false h = refl
   core-moves o true h = fun-ext (λ x. ap (λ (g : Given). gives g (moveOn s o x .next)) (same (moveOn s o x .given)))
@@ -108,14 +106,15 @@ module _ (t : Table) (s : Side) (w : List ℕ) where
       same ends = refl
 
   -- so a call of the core is one of the run
-  pub carried-by : (n : ℕ) (R : List ℕ) → Works s n R → (omit flag : Bool) → omit ≡ flag → (flag ≡ true → Wants)
+  pub carried-by : (n : ℕ) (R : List ℕ) → n ≡ s .count → Works s (s .count) R → (omit flag : Bool) → omit ≡ flag → (flag ≡ true → Wants t s w)
       → (order k : List ℕ) (count : ℕ) (f : Phase) (b : ℕ) (c′ k′ : List ℕ) (o : Report)
-      → Ordered (λ q. placedMove (take n R) q flag w) n (take n R) order k count f b c′ k′ o
-      → Ordered (λ q. movesOf t s q omit) n (s .rows) order k count f b c′ k′ o
-  carried-by n R v omit flag e h order k count f b c′ k′ o d =
-      subst (λ (x : Bool). Ordered (λ q. movesOf t s q x) n (s .rows) order k count f b c′ k′ o) (sym e)
-      (subst (λ (m : List ℕ → State → Move). Ordered m n (s .rows) order k count f b c′ k′ o) (fun-ext (λ q. core-moves q flag h))
-      (subst (λ (r : List ℕ). Ordered (λ q. placedMove r q flag w) n r order k count f b c′ k′ o) (v .rows-are) d))
+      → InOrder (λ q. placedMove (take n R) q flag w) n (take n R) order k count f b c′ k′ o
+      → InOrder (λ q. movesOf t s q omit) (s .count) (s .rows) order k count f b c′ k′ o
+  carried-by n R z v omit flag e h order k count f b c′ k′ o d =
+      subst (λ (x : Bool). InOrder (λ q. movesOf t s q x) (s .count) (s .rows) order k count f b c′ k′ o) (sym e)
+      (subst (λ (m : List ℕ → State → Move). InOrder m (s .count) (s .rows) order k count f b c′ k′ o) (fun-ext (λ q. core-moves q flag h))
+      (subst (λ (r : List ℕ). InOrder (λ q. placedMove r q flag w) (s .count) r order k count f b c′ k′ o) (v .rows-are)
+      (subst (λ (i : ℕ). InOrder (λ q. placedMove (take i R) q flag w) i (take i R) order k count f b c′ k′ o) z d)))
 
 module _ (t : Table) (l : Legal t) where
   -- the test of a set that is within the table

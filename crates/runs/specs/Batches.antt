@@ -2,7 +2,7 @@
 -- first gets the budget, each next what is left of it, until as many ladders are handed out as have room, or a call hands none out. The value is the
 -- one that the last of them returns, so that run calls and batches of a run may follow one another in any turn.
 --
--- In order: an answer and how the two structs read; the calls of a batch, by any rule for moves (`batchBy`, and their budgets, `budgetsBy`); what a
+-- In order: an answer and how the three structs read; the calls of a batch, by any rule for moves (`batchBy`, and their budgets, `budgetsBy`); what a
 -- batch answers for every value, every budget and every buffer (`Batched`); its promise (`CarriesBatch`).
 use mathlib.Core.Path.{_≡_}
 use mathlib.Core.Bool.{Bool, true, false}
@@ -16,13 +16,15 @@ use Rattle.rules.specs.Calls.{Reply, refused, spent, handed, end, mostBudget, c
 use Rattle.lists.specs.Lists.{Side}
 use Rattle.lists.specs.OnTable.{handOut}
 use Rattle.runs.specs.Paused.{Value, paused, blankValue, gaugeValue, caseValue}
-use Rattle.runs.specs.Calling.{Step, told, held, valueRefusal, PausedAt, Calls, left}
-use Rattle.runs.specs.Demand.{sets, RunDemand}
+use Rattle.runs.specs.Calling.{Step, told, held, valueRefusal, PausedAt, Calls, lastValue}
+use Rattle.runs.specs.Demand.{handedSets, RunDemand}
 use Rattle.runs.specs.Omitting.{movesOf, CallsEither, RunOmits}
 use Rattle.runs.specs.declared.Outcome.{Outcome}
 use Rattle.runs.specs.declared.Outcome.the-variants.{HandedOut, Spent, End, Refused}
-use Rattle.runs.specs.declared.gauge_batches.GaugeBatch.{GaugeBatch}
-use Rattle.runs.specs.declared.case_batches.CaseBatch.{CaseBatch}
+use Rattle.runs.specs.Sides.{sideValue}
+use Rattle.runs.specs.declared.batches.SideBatch.{SideBatch}
+use Rattle.runs.specs.declared.batches.GaugeBatch.{GaugeBatch}
+use Rattle.runs.specs.declared.batches.CaseBatch.{CaseBatch}
 
 -- ---- an answer
 -- how a batch stopped: it was refused, by the number; as many ladders as have room were handed out; the budget was spent; or the run ended
@@ -39,12 +41,15 @@ pub record Batch : Type 0 where
   pub moves : ℕ
   pub next : Value
 
--- how the two structs read
+-- how the three structs read
 abbrev pub ending : Outcome → Ending
 ending HandedOut = full
 ending Spent = used
 ending End = over
 ending (Refused x) = denied (number x)
+
+abbrev pub sideBatch : SideBatch → Batch
+sideBatch r = record { ending = ending (r .outcome); ladders = r .ladders; moves = r .moves; next = sideValue (r .next) }
 
 abbrev pub gaugeBatch : GaugeBatch → Batch
 gaugeBatch r = record { ending = ending (r .outcome); ladders = r .ladders; moves = r .moves; next = gaugeValue (r .next) }
@@ -155,14 +160,14 @@ leftOver b (r ∷ rs) = b ∷ leftOver (b - r .moves) rs
 pub record AddsCalls (side : Table → Side) (v : Value) (words b : ℕ) (s : State) : Type 0 where
   pub calls : CallsEither side v (budgetsOn side v words b s) (stepsOn side v words b s)
   pub budgets : budgetsOn side v words b s ≡ leftOver b (stepsOn side v words b s)
-  pub handed : sets (stepsOn side v words b s) ≡ batchOn side v words b s .sets
+  pub handed : handedSets (stepsOn side v words b s) ≡ batchOn side v words b s .sets
   pub spends : total (stepsOn side v words b s) ≡ batchOn side v words b s .moves
-  pub last : left v (stepsOn side v words b s) ≡ paused (v .table) (v .order) (v .omit) (batchOn side v words b s .next)
+  pub last : lastValue v (stepsOn side v words b s) ≡ paused (v .table) (v .order) (v .omit) (batchOn side v words b s .next)
   pub demand : (bs : List ℕ) (rs : List Step) → Calls side (paused (v .table) (v .order) false fresh) bs rs
-      → left (paused (v .table) (v .order) false fresh) rs ≡ v
+      → lastValue (paused (v .table) (v .order) false fresh) rs ≡ v
       → RunDemand side (v .table) (v .order) (paused (v .table) (v .order) false fresh) (bs ++ budgetsOn side v words b s) (rs ++ stepsOn side v words b s)
   pub omits : (bs : List ℕ) (rs : List Step) → CallsEither side (paused (v .table) (v .order) true fresh) bs rs
-      → left (paused (v .table) (v .order) true fresh) rs ≡ v
+      → lastValue (paused (v .table) (v .order) true fresh) rs ≡ v
       → RunOmits side (v .table) (v .order) (paused (v .table) (v .order) true fresh) (bs ++ budgetsOn side v words b s) (rs ++ stepsOn side v words b s)
 
 abbrev pub CarriesBatch : (Table → Side) → Value → ℕ → ℕ → Type 0

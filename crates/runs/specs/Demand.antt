@@ -18,13 +18,13 @@ use Rattle.lists.specs.OnTable.{callsOn, leftOn}
 use Rattle.lists.specs.Demand.{startLimit, gapLimit, mostSets, OneSet}
 use Rattle.preference.specs.Preferences.{preferredRefusal, plainNumbers}
 use Rattle.runs.specs.Paused.{Value, paused}
-use Rattle.runs.specs.Calling.{Step, refusal, arrangement, told, valueRefusal, Calls, left}
+use Rattle.runs.specs.Calling.{Step, refusalStep, arrangement, told, valueRefusal, Calls, lastValue}
 
 -- ---- what is read off a list of answers
 -- the sets that they hand out, in turn
-abbrev pub sets : List Step → List (List ℕ)
-sets [] = []
-sets (r ∷ rs) = answered (r .answer) (sets rs)
+abbrev pub handedSets : List Step → List (List ℕ)
+handedSets [] = []
+handedSets (r ∷ rs) = answered (r .answer) (handedSets rs)
 
 -- a call has answered end
 abbrev pub Ends : List Step → Type 0
@@ -47,11 +47,11 @@ Each P (b ∷ bs) (r ∷ rs) = P b r × Each P bs rs
 -- included, each resumed from the value last returned,
 pub record HandsOut (list : List (List ℕ)) (bs : List ℕ) (rs : List Step) : Type 0 where
   -- "the ladders handed out are, in turn, the front of that run's list"
-  pub front : (rest : List (List ℕ)) × (sets rs ++ rest ≡ list)
+  pub front : (rest : List (List ℕ)) × (handedSets rs ++ rest ≡ list)
   -- "Once a call has answered "end", they are the whole list."
-  pub whole : Ends rs → sets rs ≡ list
+  pub whole : Ends rs → handedSets rs ≡ list
   -- "Only 18 refuses such a call;
-  pub only18 : Each (λ b r. mostBudget < b → r ≡ refusal 18) bs rs
+  pub only18 : Each (λ b r. mostBudget < b → r ≡ refusalStep 18) bs rs
   pub no-other : Each (λ b r. b ≤ mostBudget → (n : ℕ) → r .answer ≢ refused n) bs rs
   -- any other makes its whole budget of moves, unless a hand-out or an end stops it first."
   pub budget : Each (λ b r. r .answer ≡ spent → r .moves ≡ b) bs rs
@@ -76,7 +76,7 @@ pub record Demand3 (t : Table) (s : Side) (o bs : List ℕ) (rs : List Step) : T
 -- list the value last returned": of calls on the side of the table t with the preference in k, the first from the value v
 pub record FromRules (side : Table → Side) (t : Table) (k : List ℕ) (v : Value) (bs : List ℕ) (rs : List Step) : Type 0 where
   pub each : rs ≡ map (told t (side t) k false) (callsOn (side t) (arrangement (side t) k) bs)
-  pub last : left v rs ≡ paused t k false (leftOn (side t) (arrangement (side t) k) bs)
+  pub last : lastValue v rs ≡ paused t k false (leftOn (side t) (arrangement (side t) k) bs)
 
 -- both; and of a run with "the arrangement 1, 2, 3 and on", which `GaugeOrder::plain` and `CaseOrder::plain` give, the list is 01's own: `GaugeList t` of
 -- the gauge run, `CaseList t` of the case run
@@ -95,7 +95,7 @@ KeepsDemand side t k v =
 abbrev pub CarriesDemand : (Table → Side) → Value → ℕ → Step → Type 0
 CarriesDemand side v b r =
     valueRefusal side v ≡ 0 → (bs : List ℕ) (rs : List Step) → Calls side (paused (v .table) (v .order) false fresh) bs rs
-    → left (paused (v .table) (v .order) false fresh) rs ≡ v
+    → lastValue (paused (v .table) (v .order) false fresh) rs ≡ v
     → RunDemand side (v .table) (v .order) (paused (v .table) (v .order) false fresh) (bs ++ (b ∷ [])) (rs ++ (r ∷ []))
 
 -- ---- two runs
@@ -104,7 +104,7 @@ abbrev pub SharesSet : (Table → Side) → (Table → Side) → Table → List 
 SharesSet side other t k j v w =
     preferredRefusal t (side t .count) k ≡ 0 → preferredRefusal t (other t .count) j ≡ 0
     → (bs cs : List ℕ) (rs qs : List Step) → Calls side v bs rs → Calls other w cs qs → Ends rs → Ends qs
-    → OneSet t (sets rs) (sets qs)
+    → OneSet t (handedSets rs) (handedSets qs)
 
 -- "The set of ladders is the same under every preference": the run from v shares it with every run of the table, of either side and with any
 -- preference, 64 numbers as it is

@@ -4,4 +4,5 @@ pub mod Calling
 pub mod Demand
 pub mod Omitting
 pub mod Batches
+pub mod Sides
 pub mod private

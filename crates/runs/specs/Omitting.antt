@@ -10,7 +10,7 @@ use Rattle.table.specs.declared.Table.{Table}
 use Rattle.table.specs.Chains.{IsMaximal}
 use Rattle.table.specs.Tables.{tableRows}
 use Rattle.rules.specs.Machine.{State, fresh, Move}
-use Rattle.rules.specs.Keeping.{kept as keptOf}
+use Rattle.rules.specs.Keeping.{keptSets as keptOf}
 use Rattle.lists.specs.Lists.{Side, PreferredList}
 use Rattle.lists.specs.OnTable.{moveOn}
 use Rattle.lists.specs.Keeping.{keepingOn, callKeeping, callsKeeping, leftKeeping}
@@ -18,7 +18,7 @@ use Rattle.conflicts.specs.Conflicts.{HoldsEssential}
 use Rattle.conflicts.specs.Omitting.{keepsOf}
 use Rattle.runs.specs.Paused.{Value, paused}
 use Rattle.preference.specs.Preferences.{preferredRefusal}
-use Rattle.runs.specs.Calling.{Step, arrangement, told, held, valueRefusal, PausedAt, Called, CallsBy, left}
+use Rattle.runs.specs.Calling.{Step, arrangement, told, held, valueRefusal, PausedAt, Called, CallsBy, lastValue}
 use Rattle.runs.specs.Demand.{HandsOut}
 
 -- the moves of a run on the side s of the table t under the preference o: rules 1 to 5; of a run that omits the same ones, which give nothing at a
@@ -46,7 +46,7 @@ pub record RunOmits (side : Table → Side) (t : Table) (k : List ℕ) (v : Valu
   pub members : (x : List ℕ) → List·Memᴰ x (keptOf (keepsOf t) list) ↔ (IsMaximal (tableRows t) x × HoldsEssential (tableRows t) x)
   pub hands : HandsOut (keptOf (keepsOf t) list) bs rs
   pub each : rs ≡ map (told t (side t) k true) (callsKeeping (side t) (arrangement (side t) k) (keepsOf t) bs)
-  pub last : left v rs ≡ paused t k true (leftKeeping (side t) (arrangement (side t) k) (keepsOf t) bs)
+  pub last : lastValue v rs ≡ paused t k true (leftKeeping (side t) (arrangement (side t) k) (keepsOf t) bs)
 
 -- every list of calls from v, the value of a fresh start that omits, on the table t with the preference in k, which 10, 11 and 27 do not refuse
 abbrev pub KeepsOmits : (Table → Side) → Table → List ℕ → Value → Type 0
@@ -57,5 +57,5 @@ KeepsOmits side t k v =
 abbrev pub CarriesOmits : (Table → Side) → Value → ℕ → Step → Type 0
 CarriesOmits side v b r =
     valueRefusal side v ≡ 0 → (bs : List ℕ) (rs : List Step) → CallsEither side (paused (v .table) (v .order) true fresh) bs rs
-    → left (paused (v .table) (v .order) true fresh) rs ≡ v
+    → lastValue (paused (v .table) (v .order) true fresh) rs ≡ v
     → RunOmits side (v .table) (v .order) (paused (v .table) (v .order) true fresh) (bs ++ (b ∷ [])) (rs ++ (r ∷ []))

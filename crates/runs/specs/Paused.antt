@@ -5,8 +5,8 @@
 use mathlib.Core.Bool.{Bool, false}
 use mathlib.Core.List.{List, map}
 use Prim.Native.Nat.{ℕ, suc}
-use lib.ListN.{length}
-use Rattle.table.specs.Tables.{noRows, padded, blankTable}
+use lib.ListN.{length, replicate}
+use Rattle.table.specs.Tables.{padded, blankTable}
 use Rattle.refusals.specs.Answers.{Answer, verdict}
 use Rattle.table.specs.declared.Table.{Table}
 use Rattle.rules.specs.Machine.{Phase, Down, Handed, Back, Ended, State}
@@ -14,6 +14,8 @@ use Rattle.runs.specs.declared.gauges.Phase.the-variants.{Down as gaugeD
 use Rattle.runs.specs.declared.gauges.Phase.{Phase as GaugePhase}
 use Rattle.runs.specs.declared.cases.CasePhase.the-variants.{Down as caseDown, Handed as caseHanded, Back as caseBack, Ended as caseEnded}
 use Rattle.runs.specs.declared.cases.CasePhase.{CasePhase}
+use Rattle.runs.specs.declared.engine.Mode.{Mode}
+use Rattle.runs.specs.declared.engine.Mode.the-variants.{Down as modeDown, Handed as modeHanded, Back as modeBack, Ended as modeEnded}
 use Rattle.runs.specs.declared.gauges.GaugeRun.{GaugeRun}
 use Rattle.runs.specs.declared.cases.CaseRun.{CaseRun}
 use Rattle.runs.specs.declared.gauges.GaugeStart.{GaugeStart}
@@ -40,9 +42,13 @@ abbrev pub paused : Table → List ℕ → Bool → State → Value
 paused t k omit s =
     record { table = t; order = k; picks = padded (map suc (s .picks)); count = length (s .picks); phase = numbered (s .phase); omit = omit }
 
+-- no number in any of the 64 places: no picks, and beside a refusal no preference
+abbrev pub noNumbers : List ℕ
+noNumbers = replicate 64 0
+
 -- what stands beside a refusal
 abbrev pub blankValue : Value
-blankValue = record { table = blankTable; order = noRows; picks = noRows; count = 0; phase = Down; omit = false }
+blankValue = record { table = blankTable; order = noNumbers; picks = noNumbers; count = 0; phase = Down; omit = false }
 
 -- ---- how the two structs read
 abbrev pub gaugePhase : GaugePhase → Phase
@@ -57,6 +63,13 @@ casePhase caseHanded = Handed
 casePhase (caseBack c) = Back (c .0)
 casePhase caseEnded = Ended
 
+-- of either side, by number
+abbrev pub modePhase : Mode → Phase
+modePhase modeDown = Down
+modePhase modeHanded = Handed
+modePhase (modeBack k) = Back k
+modePhase modeEnded = Ended
+
 abbrev pub gaugeValue : GaugeRun → Value
 gaugeValue r = record { table = r .table; order = r .order .0; picks = r .picks .0; count = r .count; phase = gaugePhase (r .phase); omit = r .omit }
 
@@ -64,8 +77,8 @@ abbrev pub caseValue : CaseRun → Value
 caseValue r = record { table = r .table; order = r .order .0; picks = r .picks .0; count = r .count; phase = casePhase (r .phase); omit = r .omit }
 
 -- how the fresh starts read: 01's number, 0 where nothing is refused, and the value
-abbrev pub gaugeStarted : GaugeStart → Answer Value
-gaugeStarted s = record { refusal = verdict (s .verdict); value = gaugeValue (s .run) }
+abbrev pub gaugeStart : GaugeStart → Answer Value
+gaugeStart s = record { refusal = verdict (s .verdict); value = gaugeValue (s .run) }
 
-abbrev pub caseStarted : CaseStart → Answer Value
-caseStarted s = record { refusal = verdict (s .verdict); value = caseValue (s .run) }
+abbrev pub caseStart : CaseStart → Answer Value
+caseStart s = record { refusal = verdict (s .verdict); value = caseValue (s .run) }

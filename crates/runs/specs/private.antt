@@ -2,3 +2,5 @@
 pub mod Either
 pub mod Working
 pub mod Listing
+pub mod Sided
+pub mod Checks

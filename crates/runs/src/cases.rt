@@ -1,12 +1,13 @@
-// The case run: its types, its fresh start and its call. gauges.rt is the same for gauges, line by line; where the two differ beside names,
-// cases.rt exchanges rows: the table's before the call, the ladder's after it. The work is in engine.rt.
+// The case run: its types, its fresh start and its call. gauges.rt is the same for gauges, line by line; where the two differ beside names, cases.rt turns
+// the rows of a ladder that is handed out. The fresh start of either side is in side.rt, the core's call on a side in sided.rt; the value is taken apart and
+// put together here, once for each side, since a run call over the one struct of both sides takes twice as long.
 use crate::Outcome;
 use crate::engine;
 use crate::engine::Mode;
 use crate::engine::Report;
-use crate::ordered;
-use essentials;
-use preference;
+use crate::side;
+use crate::sided;
+use crate::sided::Shape;
 use preference::CaseOrder;
 use refusals::Refusal;
 use refusals::Verdict;
@@ -14,20 +15,20 @@ use table;
 use table::Case;
 use table::Chain;
 use table::Table;
-use turn;
+use transpose;
 ghost use mathlib.Core.Path.{_≡_};
 ghost use mathlib.Core.Bool.{true, false};
-ghost use lib.ListN.{length};
-ghost use Rattle.table.specs.Tables.{Legal, noRows};
+ghost use Rattle.table.specs.Tables.{noRows};
 ghost use Rattle.refusals.specs.Answers.{answer, number};
 ghost use Rattle.rules.specs.Machine.{fresh};
 ghost use Rattle.lists.specs.Lists.{caseSide};
-ghost use Rattle.runs.specs.Paused.{casePhase, caseValue, caseStarted, paused, blankValue};
-ghost use Rattle.runs.specs.Calling.{Called, caseStep, refusal};
+ghost use Rattle.runs.specs.Paused.{casePhase, caseValue, caseStart, paused, blankValue, modePhase};
+ghost use Rattle.runs.specs.Calling.{Called, caseStep, refusalStep};
 ghost use Rattle.runs.specs.Demand.{KeepsDemand, CarriesDemand, SharesAll};
-ghost use Rattle.runs.specs.Omitting.{movesOf};
 ghost use Rattle.runs.specs.Omitting.{CalledEither, KeepsOmits, CarriesOmits};
-ghost use Rattle.runs.specs.private.Working.{tableOf, modePhase, Works, Ordered};
+ghost use Rattle.runs.specs.private.Working.{chainWith};
+ghost use Rattle.runs.specs.private.Listing.{turnedRows};
+ghost use Rattle.runs.specs.private.Sided.{Reports};
 ghost use Rattle.preference.specs.Preferences.{preferredRefusal};
 
 // The phase of a case run (01: "Down, Handed, Back from gauge g, or Ended").
@@ -72,22 +73,18 @@ pub struct CaseStart {
 // set with every run of the table; from one that omits, every list of run calls hands out a front of the ladders that hold an essential pair,
 // and all of them by its end.
 pub fn start_cases(t: Table, order: CaseOrder, omit: bool) -> CaseStart
-    ensures { λ r. ⌜ caseStarted r ≡ answer (preferredRefusal t (t .cases) (order .0)) (paused t (order .0) omit fresh) blankValue ⌝ }
+    ensures { λ r. ⌜ caseStart r ≡ answer (preferredRefusal t (t .cases) (order .0)) (paused t (order .0) omit fresh) blankValue ⌝ }
     ensures demand { λ r. ⌜ (omit ≡ false → KeepsDemand caseSide t (order .0) (caseValue (r .run))) ⌝ }
     ensures shared { λ r. ⌜ (omit ≡ false → SharesAll caseSide t (order .0) (caseValue (r .run))) ⌝ }
     ensures omits { λ r. ⌜ (omit ≡ true → KeepsOmits caseSide t (order .0) (caseValue (r .run))) ⌝ }
 {
     let numbers = order.0;
-    let checked = preference::check(t, t.cases, numbers);
-    if let Verdict::Refused(why) = checked {
-        return CaseStart {
-            verdict: Verdict::Refused(why),
-            run: blank_run(),
-        };
-    }
+    let started = side::start_side(true, t, numbers, omit);
+    let verdict = started.verdict;
+    let run = started.run;
     CaseStart {
-        verdict: Verdict::Accepted,
-        run: case_run(t, order, omit),
+        verdict: verdict,
+        run: side::to_cases(run),
     }
 }
 
@@ -99,40 +96,18 @@ pub fn run_cases(p: CaseRun, budget: u64) -> CaseStep
     ensures either { λ r. ⌜ CalledEither caseSide (caseValue p) budget (caseStep r) ⌝ }
     ensures omits { λ r. ⌜ CarriesOmits caseSide (caseValue p) budget (caseStep r) ⌝ }
 {
-    let t = p.table;
-    let checked = table::check_table(t);
-    if let Verdict::Refused(why) = checked {
-        return case_refusal(why);
-    }
-    let given = t.rows;
-    let rows = turn::turned(&given, t.gauges as usize, t.cases as usize);
-    let kept = p.order;
-    let order = kept.0;
     let held = p.picks;
     let mut picks = held.0;
     let mut chain = [0u64; 64];
-    let count = p.count;
-    let phase = p.phase;
-    let mode = case_mode(phase);
-    let report = call_cases(
-        &given,
-        t.gauges,
-        t.cases,
-        p.omit,
-        &rows,
-        &order,
-        &mut chain,
-        &mut picks,
-        count,
-        mode,
-        budget,
-    );
+    let report = call_cases(p, &mut chain, &mut picks, budget);
     let outcome = report.outcome;
     if let Outcome::Refused(why) = outcome {
         return case_refusal(why);
     }
     let spot = report.spot;
     let after = spot.mode;
+    let t = p.table;
+    let kept = p.order;
     let next = CaseRun {
         table: t,
         order: kept,
@@ -142,120 +117,69 @@ pub fn run_cases(p: CaseRun, budget: u64) -> CaseStep
         omit: p.omit,
     };
     if let Outcome::HandedOut = outcome {
-        let turned = turn::turned(&chain, t.cases as usize, t.gauges as usize);
-        let made = CasePicks(picks);
         return CaseStep {
             outcome: Outcome::HandedOut,
             moves: report.moves,
-            chain: Chain {
-                gauges: t.gauges,
-                rows: turned,
-            },
-            picks: made,
+            chain: turned_chain(t.gauges, t.cases, &chain),
+            picks: CasePicks(picks),
             next: next,
         };
     }
-    let none = engine::blank_chain();
     CaseStep {
         outcome: outcome,
         moves: report.moves,
-        chain: none,
+        chain: table::blank_chain(),
         picks: CasePicks([0u8; 64]),
         next: next,
     }
 }
 
-// The core's call under the order, on the table with the rows `given`. The essential pairs are looked for only where the run omits; else the core looks at
-// none, and gets any rows. The table comes by reference and is put together only where it is needed: a run that omits nothing copies none.
-fn call_cases(
-    given: &[u64; 64],
-    gauges: u64,
-    cases: u64,
-    omit: bool,
-    rows: &[u64; 64],
-    order: &[u8; 64],
-    chain: &mut [u64; 64],
-    picks: &mut [u8; 64],
-    count: u64,
-    mode: Mode,
-    budget: u64,
-) -> Report
-    requires { ⌜ (Legal (tableOf gauges cases (now given))) × (Works (caseSide (tableOf gauges cases (now given))) cases (now rows))
-        × (length (now order) ≡ 64) × (now chain ≡ noRows) × (length (now picks) ≡ 64) ⌝ }
-    ensures { λ r. ⌜ Ordered (λ o. movesOf (tableOf gauges cases (now (given .entry))) (caseSide (tableOf gauges cases (now (given .entry)))) o omit) cases
-        (caseSide (tableOf gauges cases (now (given .entry))) .rows) (now (order .entry)) (now (picks .entry)) count (modePhase mode) budget
-        (now (chain .exit)) (now (picks .exit)) r ⌝ }
+// The chain by gauge rows, of one by cases.
+fn turned_chain(gauges: u64, cases: u64, chain: &[u64; 64]) -> Chain
+    ensures { λ r. ⌜ r ≡ chainWith gauges (turnedRows true cases gauges (now (chain .entry))) ⌝ }
 {
-    let n = cases as usize;
-    if omit {
-        let t = Table {
-            gauges: gauges,
-            cases: cases,
-            rows: *given,
-        };
-        let answer = essentials::essential_rows(t);
-        let pairs = answer.pairs;
-        let found = pairs.rows;
-        let wanted = turn::turned(&found, gauges as usize, n);
-        return ordered::call(
-            rows,
-            n,
-            order,
-            true,
-            &wanted,
-            chain,
-            picks,
-            count,
-            mode,
-            budget,
-        );
-    }
-    ordered::call(
-        rows,
-        n,
-        order,
-        false,
-        rows,
-        chain,
-        picks,
-        count,
-        mode,
-        budget,
-    )
-}
-
-// The fresh value on a table, under an order.
-fn case_run(table: Table, order: CaseOrder, omit: bool) -> CaseRun
-    ensures { λ r. ⌜ caseValue r ≡ paused table (order .0) omit fresh ⌝ }
-{
-    CaseRun {
-        table: table,
-        order: order,
-        picks: CasePicks([0u8; 64]),
-        count: 0,
-        phase: CasePhase::Down,
-        omit: omit,
+    let rows = transpose::transposed(chain, cases as usize, gauges as usize);
+    Chain {
+        gauges: gauges,
+        rows: rows,
     }
 }
 
-// The value beside a refusal.
-pub fn blank_run() -> CaseRun
-    ensures { λ r. ⌜ caseValue r ≡ blankValue ⌝ }
+// The check of the table, and the core's call on the paused value; `chain` comes empty, and `picks` are the value's.
+fn call_cases(p: CaseRun, chain: &mut [u64; 64], picks: &mut [u8; 64], budget: u64) -> Report
+    requires { ⌜ (now chain ≡ noRows) × (now picks ≡ p .picks .0) ⌝ }
+    ensures { λ r. ⌜ Reports caseSide (caseValue p) budget (now (chain .exit)) (now (picks .exit)) r ⌝ }
 {
-    let none = CaseOrder([0u8; 64]);
-    case_run(engine::blank_table(), none, false)
+    let t = p.table;
+    let checked = table::check_table(t);
+    if let Verdict::Refused(why) = checked {
+        return engine::refused(why);
+    }
+    let shape = Shape {
+        gauges: t.gauges,
+        cases: t.cases,
+        omit: p.omit,
+    };
+    let rows = t.rows;
+    let kept = p.order;
+    let order = kept.0;
+    let count = p.count;
+    let phase = p.phase;
+    let at = case_mode(phase);
+    sided::call(true, shape, &rows, &order, chain, picks, count, at, budget)
 }
 
 fn case_refusal(why: Refusal) -> CaseStep
-    ensures { λ r. ⌜ caseStep r ≡ refusal (number why) ⌝ }
+    ensures { λ r. ⌜ caseStep r ≡ refusalStep (number why) ⌝ }
 {
-    let none = engine::blank_chain();
+    let none = table::blank_chain();
+    let blank = side::blank_side(true);
     CaseStep {
         outcome: Outcome::Refused(why),
         moves: 0,
         chain: none,
         picks: CasePicks([0u8; 64]),
-        next: blank_run(),
+        next: side::to_cases(blank),
     }
 }
 

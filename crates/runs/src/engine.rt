@@ -4,6 +4,7 @@
 // chain must hold one to be handed over, by the side's rows, and else it is not looked at.
 use crate::Outcome;
 use crate::listing;
+use basics;
 use refusals::Refusal;
 use replay;
 use search;
@@ -14,13 +15,14 @@ ghost use mathlib.Core.Path.{_≡_};
 ghost use Prim.Native.Nat.{_+_, _≤_, _<_};
 ghost use lib.ListN.{length, take, set, getD};
 ghost use lib.Bits.{bitAnd};
-ghost use Rattle.table.specs.Tables.{noRows, padded, blankTable, blankChain};
+ghost use Rattle.table.specs.Tables.{noRows, padded};
 ghost use Rattle.rules.specs.Machine.{takeBack, cutLast};
 ghost use Rattle.lists.specs.OnTable.{chainOf};
 ghost use Rattle.search.specs.Finding.{within};
 ghost use Rattle.sets.specs.First.{Without};
-ghost use Rattle.runs.specs.private.Working.{Sized, Holds, Laying, stateOf, placesOf, modePhase, spotDown, movedFrom, Stepped, TakesBack, NumberAt};
-ghost use Rattle.runs.specs.private.Working.{leftAfter, Advanced, Decides, filled as filledPlaces, PhaseIn, CarriesOn, Opens, refusedReport};
+ghost use Rattle.runs.specs.Paused.{modePhase};
+ghost use Rattle.runs.specs.private.Working.{Sized, Holds, Laying, stateOf, placesOf, spotDown, movedFrom, Stepped, TakesBack, NumberAt};
+ghost use Rattle.runs.specs.private.Working.{leftAfter, Advanced, DecidedBy, filled as filledPlaces, PhaseIn, CarriesOn, Opens, refusedReport, chainWith};
 ghost use Rattle.runs.specs.private.Working.{moveBy, apart as apartRows, handsOver};
 
 // "A run call has a budget from 0 to 1,000,000 moves" (01).
@@ -156,23 +158,13 @@ pub fn open(
     }
 }
 
-// What stands beside a refusal.
-pub fn blank_table() -> Table
-    ensures { λ r. ⌜ r ≡ blankTable ⌝ }
-{
-    Table {
-        gauges: 0,
-        cases: 0,
-        rows: [0u64; 64],
-    }
-}
-
-pub fn blank_chain() -> Chain
-    ensures { λ r. ⌜ r ≡ blankChain ⌝ }
+// The chain with these rows.
+pub fn chain_of(gauges: u64, rows: &[u64; 64]) -> Chain
+    ensures { λ r. ⌜ r ≡ chainWith gauges (now (rows .entry)) ⌝ }
 {
     Chain {
-        gauges: 0,
-        rows: [0u64; 64],
+        gauges: gauges,
+        rows: *rows,
     }
 }
 
@@ -211,7 +203,7 @@ fn filled(picks: &[u8; 64]) -> u64
 
 // The phase goes with the picks: Handed without a candidate, Back from a candidate, Ended without picks.
 fn phase_fits(rows: &[u64; 64], unpicked: u64, left: u64, count: usize, mode: Mode) -> bool
-    ensures { λ r. ⌜ Decides (PhaseIn (within unpicked (now (rows .entry))) left count (modePhase mode)) r ⌝ }
+    ensures { λ r. ⌜ DecidedBy (PhaseIn (within unpicked (now (rows .entry))) left count (modePhase mode)) r ⌝ }
 {
     match mode {
         Mode::Down => true,
@@ -234,18 +226,11 @@ fn lay(rows: &[u64; 64], n: usize, chain: &mut [u64; 64], picks: &[u8; 64], coun
     let mut left = ALL;
     let mut i: usize = 0;
     while i < count {
-        let g = wide(picks[i]) - 1;
+        let g = basics::index(picks[i]) - 1;
         left = rows[g] & left;
         chain[g] = left;
         i += 1;
     }
-}
-
-// A pick's number as an index.
-fn wide(number: u8) -> usize
-    ensures { λ r. ⌜ r ≡ number ⌝ }
-{
-    number as usize
 }
 
 // Up to `budget` moves: it stops after the first hand-out or end. A chain that is omitted does not stop it; its move counts.

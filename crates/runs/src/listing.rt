@@ -7,7 +7,7 @@ use crate::engine::Spot;
 use crate::ordered;
 use preference;
 use refusals::Refusal;
-use turn;
+use transpose;
 ghost use mathlib.Core.Path.{_≡_};
 ghost use mathlib.Core.Bool.{true};
 ghost use Prim.Native.Nat.{_+_, _/_, _≤_, _<_};
@@ -16,7 +16,8 @@ ghost use Rattle.table.specs.Tables.{padded};
 ghost use Rattle.rules.specs.Calls.{mostBudget};
 ghost use Rattle.preference.specs.Preferences.{isPreference, orderOf, numbersOf};
 ghost use Rattle.preference.specs.Placing.{inverse, gathered};
-ghost use Rattle.runs.specs.private.Working.{Sized, Holds, FitsOn, stateOf, modePhase, moveBy, placedMove, renumberedPhase};
+ghost use Rattle.runs.specs.Paused.{modePhase};
+ghost use Rattle.runs.specs.private.Working.{Sized, Holds, FitsOn, stateOf, moveBy, placedMove};
 ghost use Rattle.runs.specs.private.Listing.{refusedTally, ladderFor, Puts, Hands, wordsOf, Lists, ListsBy, ListsIn};
 
 // What a batch comes to: how it stopped, how many ladders it handed out, how many moves it made, and where the run is then.
@@ -286,7 +287,7 @@ fn hand(
 {
     if plain {
         if turning {
-            turn::turn_into(chain, n, gauges, out, at);
+            transpose::transpose_into(chain, n, gauges, out, at);
             return;
         }
         put(chain, gauges, out, at);
@@ -294,7 +295,7 @@ fn hand(
     }
     if turning {
         let numbered = preference::gather(chain, places, n);
-        turn::turn_into(&numbered, n, gauges, out, at);
+        transpose::transpose_into(&numbered, n, gauges, out, at);
         return;
     }
     put_numbered(chain, places, n, gauges, out, at);

@@ -13,7 +13,8 @@ ghost use lib.ListN.{length, take};
 ghost use Rattle.table.specs.Tables.{noRows, padded};
 ghost use Rattle.preference.specs.Preferences.{isPreference, orderOf, numbersOf};
 ghost use Rattle.preference.specs.Placing.{inverse, gathered, renumber};
-ghost use Rattle.runs.specs.private.Working.{Sized, modePhase, placedMove, Ordered, moveBy, CarriesOn, renumberedPhase};
+ghost use Rattle.runs.specs.Paused.{modePhase};
+ghost use Rattle.runs.specs.private.Working.{Sized, placedMove, InOrder, moveBy, CarriesOn, renumberedPhase};
 
 // A call on the value of the first `count` picks and a mode, under the order of the `n` rows: 27, 15 and 18 as 02 and 01 have them, else up to
 // `budget` moves. `chain` comes empty, and has the chain of the picks after the moves; `picks` are then those of the next value.
@@ -30,7 +31,7 @@ pub fn call(
     budget: u64,
 ) -> Report
     requires { ⌜ (Sized n (now rows)) × (length (now order) ≡ 64) × (length (now wanted) ≡ 64) × (now chain ≡ noRows) × (length (now picks) ≡ 64) ⌝ }
-    ensures { λ r. ⌜ Ordered (λ o. placedMove (take n (now (rows .entry))) o omit (now (wanted .entry))) n (take n (now (rows .entry)))
+    ensures { λ r. ⌜ InOrder (λ o. placedMove (take n (now (rows .entry))) o omit (now (wanted .entry))) n (take n (now (rows .entry)))
         (now (order .entry)) (now (picks .entry)) count (modePhase mode) budget (now (chain .exit)) (now (picks .exit)) r ⌝ }
 {
     if preference::is_plain(order, n) {
@@ -79,7 +80,7 @@ fn by_order(
     budget: u64,
 ) -> Report
     requires { ⌜ (Sized n (now rows)) × (length (now order) ≡ 64) × (length (now wanted) ≡ 64) × (now chain ≡ noRows) × (length (now picks) ≡ 64) ⌝ }
-    ensures { λ r. ⌜ Ordered (λ o. placedMove (take n (now (rows .entry))) o omit (now (wanted .entry))) n (take n (now (rows .entry)))
+    ensures { λ r. ⌜ InOrder (λ o. placedMove (take n (now (rows .entry))) o omit (now (wanted .entry))) n (take n (now (rows .entry)))
         (now (order .entry)) (now (picks .entry)) count (modePhase mode) budget (now (chain .exit)) (now (picks .exit)) r ⌝ }
 {
     let placed = preference::place_all(*order, n);
@@ -118,7 +119,7 @@ fn by_place(
 ) -> Report
     requires { ⌜ (Sized n (now rows)) × (length (now order) ≡ 64) × (length (now wanted) ≡ 64) × (now chain ≡ noRows) × (length (now picks) ≡ 64)
         × (isPreference n (now order) ≡ true) × (now places ≡ numbersOf (inverse (orderOf n (now order)))) ⌝ }
-    ensures { λ r. ⌜ Ordered (λ o. placedMove (take n (now (rows .entry))) o omit (now (wanted .entry))) n (take n (now (rows .entry)))
+    ensures { λ r. ⌜ InOrder (λ o. placedMove (take n (now (rows .entry))) o omit (now (wanted .entry))) n (take n (now (rows .entry)))
         (now (order .entry)) (now (picks .entry)) count (modePhase mode) budget (now (chain .exit)) (now (picks .exit)) r ⌝ }
 {
     let arranged = preference::gather(rows, order, n);

@@ -1,11 +1,11 @@
 // Splitting a long listing into parts: the candidates after a part's picks, and the paused value of the part that has one of them as a pick more. A part is a
 // paused value in the phase Down, and a fresh start's value is the whole list; its own list is the ladders whose pick sequences start with its picks, and
-// run calls from it hand these out, up to the first hand-out whose sequence does not start so, or an end. Two entries for each side, over run calls
-// without a budget: gauges.rt and cases.rt are alike, line by line, and checks.rt is below both. Any value is taken: 10, 11, 27 and 15 are refused,
+// run calls from it hand these out, up to the first hand-out whose sequence does not start so, or an end. Two entries for each side: gauges.rt and
+// cases.rt have the types, and side.rt, below both, the work, for crates that do the same on both sides. Any value is taken: 10, 11, 27 and 15 are refused,
 // with blanks beside a refusal; no function that another crate can call has a `requires`, and nothing is lent.
 mod cases;
-mod checks;
 mod gauges;
+mod side;
 
 pub use cases::CaseCandidates;
 pub use cases::CasePart;
@@ -15,3 +15,7 @@ pub use gauges::GaugeCandidates;
 pub use gauges::GaugePart;
 pub use gauges::gauge_candidates;
 pub use gauges::gauge_part;
+pub use side::SideCandidates;
+pub use side::SidePart;
+pub use side::candidates;
+pub use side::part;

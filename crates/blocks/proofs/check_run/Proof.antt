@@ -6,6 +6,7 @@ use Prim.Native.Nat.{ℕ}
 use native.Mathlib.Omega.{arith}
 use denote.Enum.Declared
 use borrow.Author.Needs.{needs}
+use Rattle.basics.proofs.Clash.{clash}
 use Rattle.table.specs.Tables.{chainRows}
 use Rattle.rules.specs.Calls.{refused}
 use Rattle.runs.specs.Paused.{gaugeValue}
@@ -19,16 +20,10 @@ use Rattle.blocks.proofs.check_run.Statement.{statement}
 use Rattle.blocks.proofs.check_run.Tie as tie
 
 not-refused : (o : Outcome) (rows : List ℕ) → types.Run.OneOf (0 ∷ 1 ∷ 2 ∷ []) (Declared.tagOf the-type o) → (n : ℕ) → outcome o rows ≡ refused n → ⊥
-not-refused HandedOut rows h n e = let z : _≡_ {A = ℕ} 0 1 = cc in omega arith
-not-refused Spent rows h n e = let z : _≡_ {A = ℕ} 0 1 = cc in omega arith
-not-refused End rows h n e = let z : _≡_ {A = ℕ} 0 1 = cc in omega arith
+not-refused HandedOut rows h n e = clash cc
+not-refused Spent rows h n e = clash cc
+not-refused End rows h n e = clash cc
 not-refused (Refused x) rows h n e = ⊎-elim (λ k. omega arith) (λ k. ⊎-elim (λ i. omega arith) (λ i. omega arith) k) h
-
-run-gauges-requires : tie.Need-run-gauges-requires
-run-gauges-requires c κs = search needs
-
-enum-known-outcome : tie.Need-enum-known-outcome
-enum-known-outcome c = search needs
 
 returns : tie.Need-returns
 returns c =
@@ -43,4 +38,4 @@ returns-2 c =
     (not-refused (g .run-gauges .result .outcome) (chainRows (g .run-gauges .result .chain)) (c .match .keys2))
 
 pub check-run-spec : {M : Type 1} → statement M
-check-run-spec = tie.close (tie.spec run-gauges-requires enum-known-outcome returns returns-2)
+check-run-spec = tie.close (tie.spec (λ c κs. search needs) (λ c. search needs) returns returns-2)

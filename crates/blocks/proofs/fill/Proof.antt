@@ -41,15 +41,6 @@ check k = k .before .before
 passed : (k : tie.After-enum-told) → Checked (gaugeValue (start (check k) .args .run)) 0
 passed k = subst (Checked (gaugeValue (start (check k) .args .run))) (ap verdict (k .enum-told .given .1)) (check k .check-run .ensures)
 
-check-run-requires : tie.Need-check-run-requires
-check-run-requires c κs = search needs
-
-enum-known-checked : tie.Need-enum-known-checked
-enum-known-checked c = search needs
-
-refuse-requires : tie.Need-refuse-requires
-refuse-requires c κs = search needs
-
 returns : tie.Need-returns
 returns c =
     let k = c .before .before in
@@ -63,20 +54,11 @@ returns c =
 enum-told : tie.Need-enum-told
 enum-told c = search needs
 
-refuse-requires-2 : tie.Need-refuse-requires-2
-refuse-requires-2 c κs = search needs
-
 returns-2 : tie.Need-returns-2
 returns-2 c =
     let k = c .before .before in
     let s = start (check k) in
     carried s _ _ (filled-short (gaugeValue (s .args .run)) (s .args .out .now) _ (passed k) (c .before .if1 .taken) (c .refuse2 .ensures))
-
-fill-on-requires : tie.Need-fill-on-requires
-fill-on-requires c κs = search needs
-
-same-length : tie.Need-same-length
-same-length c = search needs
 
 returns-3 : tie.Need-returns-3
 returns-3 c =
@@ -90,13 +72,13 @@ pub fill-spec : {M : Type 1} → statement M
 fill-spec =
     tie.close
     (tie.spec
-    check-run-requires
-    enum-known-checked
-    refuse-requires
+    (λ c κs. search needs)
+    (λ c. search needs)
+    (λ c κs. search needs)
     returns
     enum-told
-    refuse-requires-2
+    (λ c κs. search needs)
     returns-2
-    fill-on-requires
-    same-length
+    (λ c κs. search needs)
+    (λ c. search needs)
     returns-3)

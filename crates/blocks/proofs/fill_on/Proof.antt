@@ -41,12 +41,6 @@ one k = k .before .before .before
 loop-holds : tie.Need-loop-holds Inv-loop μ-loop
 loop-holds c = (refl, omega arith, refl, upto-start _ _, λ ok s p l. omega arith, refl)
 
-sub-if1 : tie.Need-sub-if1 Inv-loop μ-loop
-sub-if1 c = omega arith
-
-accept-requires : tie.Need-accept-requires Inv-loop μ-loop
-accept-requires c κs = search needs
-
 same-length : tie.Need-same-length Inv-loop μ-loop
 same-length c = c .before .before .before .loop .inv .2
 
@@ -57,9 +51,6 @@ returns c =
     subst (λ (f : Filling). FillsOn (gaugeValue (s .args .start)) (s .args .out .now) f (l .loop .out)) (sym (c .accept .ensures))
     (full-on (gaugeValue (s .args .start)) (s .args .out .now) false _ (l .loop .out) refl (l .loop .inv .3)
     (λ ok x p far. omega (arith, far, l .loop .inv .0, c .before .if1 .taken)))
-
-slice-aggregate-list-some : tie.Need-slice-aggregate-list-some Inv-loop μ-loop
-slice-aggregate-list-some c = search needs
 
 list-some-requires : tie.Need-list-some-requires Inv-loop μ-loop
 list-some-requires c κs =
@@ -90,9 +81,6 @@ some k =
 long : (k : tie.After-slice-known2 Inv-loop μ-loop) → length (one k .list-some .last .1 .1 .0) ≡ length (round k .loop .out)
 long k = one k .list-some .kept .1 .1 .0
 
-accept-requires-2 : tie.Need-accept-requires-2 Inv-loop μ-loop
-accept-requires-2 c κs = search needs
-
 same-length-2 : tie.Need-same-length-2 Inv-loop μ-loop
 same-length-2 c = let k = c .before .before .before in long k ∙ round k .loop .inv .2
 
@@ -102,12 +90,6 @@ returns-2 c =
     subst (λ (f : Filling). FillsOn (gaugeValue (start k .args .start)) (start k .args .out .now) f (one k .list-some .last .1 .1 .0))
     (sym (c .accept2 .ensures))
     (stop-on (gaugeValue (start k .args .start)) (start k .args .out .now) _ _ _ refl (turned k) (c .before .if2 .taken))
-
-sub-turns : tie.Need-sub-turns Inv-loop μ-loop
-sub-turns c = omega arith
-
-loop-less : tie.Need-loop-less Inv-loop μ-loop
-loop-less c = omega arith
 
 loop-again : tie.Need-loop-again Inv-loop μ-loop
 loop-again c =
@@ -120,9 +102,6 @@ loop-again c =
       λ ok x p far. omega (arith, l .inv .4 ok x p far, some k ok x p far (c .if2 .left), one k .before .before .before .before .loop-test .taken),
       one k .list-some .kept .1 .0 ∙ l .inv .5,
     )
-
-accept-requires-3 : tie.Need-accept-requires-3 Inv-loop μ-loop
-accept-requires-3 c κs = search needs
 
 same-length-3 : tie.Need-same-length-3 Inv-loop μ-loop
 same-length-3 c = c .before .before .loop .inv .2
@@ -142,18 +121,18 @@ fill-on-spec =
     Inv-loop
     μ-loop
     loop-holds
-    sub-if1
-    accept-requires
+    (λ c. omega arith)
+    (λ c κs. search needs)
     same-length
     returns
-    slice-aggregate-list-some
+    (λ c. search needs)
     list-some-requires
-    accept-requires-2
+    (λ c κs. search needs)
     same-length-2
     returns-2
-    sub-turns
-    loop-less
+    (λ c. omega arith)
+    (λ c. omega arith)
     loop-again
-    accept-requires-3
+    (λ c κs. search needs)
     same-length-3
     returns-3)

@@ -5,6 +5,7 @@ use Prim.Native.Nat.{ℕ, _+_, _-_, _*_, _/_, _≤_}
 use native.Mathlib.Nat.{mul-le-mul, mul-le-mul-right, one-mul, le-div-iff-mul-le, div-le-self, div-mul-le-self}
 use native.Mathlib.Omega.{arith}
 use borrow.Author.Needs.{needs}
+use Rattle.basics.proofs.Clash.{clash}
 use Rattle.blocks.specs.Filling.{longest}
 use Rattle.blocks.specs.private.Turning.{mostBytes, Lent}
 use Rattle.blocks.proofs.Batching.{lent-none, lent-times}
@@ -29,7 +30,7 @@ some g a b = le-div-iff-mul-le a .1 (omega (arith, one-mul g))
 
 -- a run that omits nothing
 lists-all : (omit : Bool) (k : ℕ) → omit ≡ false → omit ≡ true → k ≡ 1
-lists-all omit k e d = let z : _≡_ {A = Bool} false true = sym e ∙ d in let q : _≡_ {A = ℕ} 0 1 = cc in absurd (omega arith)
+lists-all omit k e d = let z : _≡_ {A = Bool} false true = sym e ∙ d in clash cc
 
 -- ---- places on the way: the start, from where the sizes are known
 abbrev start : tie.Else4 → tie.Start
@@ -54,23 +55,11 @@ returns-4 c =
     subst (Lent g (s .args .cases) (s .args .omit) (s .args .room)) (one-mul g)
     (lent-times g (s .args .cases) (s .args .omit) (s .args .room) 1 (omega arith) (omega arith) (omega arith) (λ e. refl) (omega arith))
 
-mul-size : tie.Need-mul-size
-mul-size c = omega arith
-
 mul-size-2 : tie.Need-mul-size-2
 mul-size-2 c = omega (arith, size c)
 
 add-size : tie.Need-add-size
 add-size c = omega (arith, size c)
-
-sub-more : tie.Need-sub-more
-sub-more c = search needs
-
-div-more : tie.Need-div-more
-div-more c = search needs
-
-div-most : tie.Need-div-most
-div-most c = search needs
 
 few : (c : tie.Then5) → (start (c .before) .args .room - 23484) / mostBytes (start (c .before) .args .gauges) (start (c .before) .args .cases) + 1
     ≤ 1024 / start (c .before) .args .gauges
@@ -110,12 +99,12 @@ lend-spec =
     returns-2
     returns-3
     returns-4
-    mul-size
+    (λ c. omega arith)
     mul-size-2
     add-size
-    sub-more
-    div-more
-    div-most
+    (λ c. search needs)
+    (λ c. search needs)
+    (λ c. search needs)
     add-result
     mul-result
     returns-5

@@ -48,27 +48,6 @@ long g =
     let e : m - 0 ≡ m = omega arith in
     length-take-le (m - 0) (start g .args .words .now) (omega (arith, g .before .before .lend .ensures .few, start g .pre .0)) ∙ e
 
-sub-room : tie.Need-sub-room
-sub-room c = search needs
-
-lend-requires : tie.Need-lend-requires
-lend-requires c κs = search needs
-
-mul-list-gauges : tie.Need-mul-list-gauges
-mul-list-gauges c = search needs
-
-sub-list-gauges : tie.Need-sub-list-gauges
-sub-list-gauges c = search needs
-
-part-list-gauges-start : tie.Need-part-list-gauges-start
-part-list-gauges-start c = search needs
-
-part-list-gauges-end : tie.Need-part-list-gauges-end
-part-list-gauges-end c = search needs
-
-list-gauges-requires : tie.Need-list-gauges-requires
-list-gauges-requires c κs = search needs
-
 put-ladders-requires : tie.Need-put-ladders-requires
 put-ladders-requires c κs =
     let g = c .before .before .before .before .before in
@@ -81,27 +60,6 @@ put-ladders-requires c κs =
 
 enum-told : tie.Need-enum-told
 enum-told c = search needs
-
-turned-requires : tie.Need-turned-requires
-turned-requires c κs = search needs
-
-enum-told-2 : tie.Need-enum-told-2
-enum-told-2 c = search needs
-
-turned-requires-2 : tie.Need-turned-requires-2
-turned-requires-2 c κs = search needs
-
-enum-told-3 : tie.Need-enum-told-3
-enum-told-3 c = search needs
-
-turned-requires-3 : tie.Need-turned-requires-3
-turned-requires-3 c κs = search needs
-
-enum-told-4 : tie.Need-enum-told-4
-enum-told-4 c = search needs
-
-turned-requires-4 : tie.Need-turned-requires-4
-turned-requires-4 c κs = search needs
 
 -- the turn, by the outcome
 turn : (p : tie.After-put-ladders) (o : Outcome) → batch p .list-gauges .result .outcome ≡ o
@@ -120,44 +78,20 @@ said : (v : Value) (before : List ℕ) (at : ℕ) (now : List ℕ) (r x : Turn) 
 said v before at now r x e h =
     subst (λ (y : Turn). Turned v before at (gaugeValue (y .run)) (y .next) (y .stop) (y .over) now) (sym e) h
 
-same-length : tie.Need-same-length
-same-length c = search needs
-
-same-length-2 : tie.Need-same-length-2
-same-length-2 c = search needs
-
 returns : tie.Need-returns
 returns c =
     let p = c .before .before .before .before .before in
     said _ _ _ _ _ _ (c .turned .ensures) (turn p _ (c .before .enum-told .given .1))
-
-same-length-3 : tie.Need-same-length-3
-same-length-3 c = search needs
-
-same-length-4 : tie.Need-same-length-4
-same-length-4 c = search needs
 
 returns-2 : tie.Need-returns-2
 returns-2 c =
     let p = c .before .before .before .before .before in
     said _ _ _ _ _ _ (c .turned2 .ensures) (turn p _ (c .before .enum-told2 .given .1))
 
-same-length-5 : tie.Need-same-length-5
-same-length-5 c = search needs
-
-same-length-6 : tie.Need-same-length-6
-same-length-6 c = search needs
-
 returns-3 : tie.Need-returns-3
 returns-3 c =
     let p = c .before .before .before .before .before in
     said _ _ _ _ _ _ (c .turned3 .ensures) (turn p _ (c .before .enum-told3 .given .1))
-
-same-length-7 : tie.Need-same-length-7
-same-length-7 c = search needs
-
-same-length-8 : tie.Need-same-length-8
-same-length-8 c = search needs
 
 returns-4 : tie.Need-returns-4
 returns-4 c =
@@ -168,31 +102,31 @@ pub list-some-spec : {M : Type 1} → statement M
 list-some-spec =
     tie.close
     (tie.spec
-    sub-room
-    lend-requires
-    mul-list-gauges
-    sub-list-gauges
-    part-list-gauges-start
-    part-list-gauges-end
-    list-gauges-requires
+    (λ c. search needs)
+    (λ c κs. search needs)
+    (λ c. search needs)
+    (λ c. search needs)
+    (λ c. search needs)
+    (λ c. search needs)
+    (λ c κs. search needs)
     put-ladders-requires
     enum-told
-    turned-requires
-    enum-told-2
-    turned-requires-2
-    enum-told-3
-    turned-requires-3
-    enum-told-4
-    turned-requires-4
-    same-length
-    same-length-2
+    (λ c κs. search needs)
+    (λ c. search needs)
+    (λ c κs. search needs)
+    (λ c. search needs)
+    (λ c κs. search needs)
+    (λ c. search needs)
+    (λ c κs. search needs)
+    (λ c. search needs)
+    (λ c. search needs)
     returns
-    same-length-3
-    same-length-4
+    (λ c. search needs)
+    (λ c. search needs)
     returns-2
-    same-length-5
-    same-length-6
+    (λ c. search needs)
+    (λ c. search needs)
     returns-3
-    same-length-7
-    same-length-8
+    (λ c. search needs)
+    (λ c. search needs)
     returns-4)

@@ -60,12 +60,6 @@ add-from c =
     let p = l .loop .inv .1 in
     omega (arith, p .rest, words-more (start l .args .gauges) (l .loop .left) (c .before .before .before .before .before .loop-test .taken), l .before)
 
-sub-left : tie.Need-sub-left Inv-loop μ-loop
-sub-left c = omega arith
-
-loop-less : tie.Need-loop-less Inv-loop μ-loop
-loop-less c = omega arith
-
 loop-again : tie.Need-loop-again Inv-loop μ-loop
 loop-again c = (refl, passed-more (round c .loop .inv .1) (c .before .before .before .before .before .loop-test .taken) (long c) (put-one c))
 
@@ -91,8 +85,8 @@ put-ladders-spec =
     ladder-at-requires
     put-table-requires
     add-from
-    sub-left
-    loop-less
+    (λ c. omega arith)
+    (λ c. omega arith)
     loop-again
     same-length
     returns)

@@ -12,7 +12,7 @@ use Rattle.rules.specs.Sequences.{All}
 use Rattle.lists.specs.Lists.{gaugeSide}
 use Rattle.runs.specs.Paused.{Value, paused}
 use Rattle.runs.specs.Calling.{valueRefusal, PausedAt}
-use Rattle.writer.specs.Writing.{writeFile}
+use Rattle.file_writer.specs.Writing.{writeFile}
 use Rattle.blocks.specs.Filling.{pairTable, files, longest, calls, after, text, isEnd, isNone, has, Stops, Filling, Fills}
 
 -- n is 01's number for the paused value v, or 0

@@ -1,4 +1,4 @@
--- What the private steps say of one another: the checks before the picks are looked at, and the search on the rows and picks in their arrays.
+-- What the private steps of either side say of one another: the checks before the picks are looked at, and the search on the rows and picks in their arrays.
 use mathlib.Core.Path.{_≡_}
 use mathlib.Core.Bool.{Bool, true, false, cond}
 use mathlib.Core.List.{List}
@@ -7,25 +7,27 @@ use lib.Dec.{eqb}
 use lib.ListN.{length, getD, take}
 use Rattle.sets.specs.Sets.{bit}
 use Rattle.table.specs.Pairs.{row}
-use Rattle.refusals.specs.Answers.{number}
-use Rattle.rules.specs.Machine.{Phase, Down, Handed, Back, Ended}
-use Rattle.runs.specs.declared.Outcome.{Outcome}
-use Rattle.runs.specs.declared.Outcome.the-variants.{HandedOut, Spent, End, Refused}
+use Rattle.table.specs.declared.Table.{Table}
+use Rattle.rules.specs.Machine.{Handed, at}
+use Rattle.lists.specs.Lists.{Side}
+use Rattle.runs.specs.Paused.{Value}
+use Rattle.runs.specs.Calling.{valueRefusal, PausedAt}
 use Rattle.explain.specs.Reasons.{firstLacking, madeBefore}
 
--- the phase in which the question may be put
-abbrev pub isHanded : Phase → Bool
-isHanded Down = false
-isHanded Handed = true
-isHanded (Back k) = false
-isHanded Ended = false
+-- the number of a pair that stands on a side, by its mark
+abbrev pub ownOf : Bool → ℕ → ℕ → ℕ
+ownOf false g c = g
+ownOf true g c = c
 
--- the number for a question, or 0: what a run call that makes no move answers to the value, then 15 for another phase, then 19
-abbrev pub unasked : Outcome → Bool → Bool → ℕ
-unasked HandedOut handed present = cond handed (cond present 0 19) 15
-unasked Spent handed present = cond handed (cond present 0 19) 15
-unasked End handed present = cond handed (cond present 0 19) 15
-unasked (Refused x) handed present = number x
+-- n is the number for a question, or 0: that of the value, whose phase must be Handed, then 19 where the table does not have the pair
+pub record AsksAt (side : Table → Side) (v : Value) (present : Bool) (n : ℕ) : Type 0 where
+  pub table : 0 < valueRefusal side v → n ≡ valueRefusal side v
+  pub value : valueRefusal side v ≡ 0 → ((p : List ℕ) → PausedAt side v (at p Handed) → ⊥) → n ≡ 15
+  pub stands : valueRefusal side v ≡ 0 → (p : List ℕ) → PausedAt side v (at p Handed) → n ≡ cond present 0 19
+
+-- the array R has the rows of the side s
+pub record RowsOf (s : Side) (R : List ℕ) : Type 0 where
+  pub row-is : (j : ℕ) → j < length (s .rows) → row R j ≡ row (s .rows) j
 
 -- the number for the pick x that was found, or 0: where none was, the pair is kept
 abbrev pub keptBy : ℕ → ℕ

@@ -6,7 +6,7 @@ use native.Mathlib.Omega.{arith}
 use borrow.Author.Needs.{needs}
 use Rattle.rules.specs.Machine.{fresh}
 use Rattle.preference.specs.Preferences.{plainNumbers}
-use Rattle.runs.specs.Paused.{gaugeValue, gaugeStarted, paused}
+use Rattle.runs.specs.Paused.{gaugeValue, gaugeStart, paused}
 use Rattle.mechanisms.proofs.Listing.{started, ListingFrom, listing-start, listing-turn, listing-stops, listing-passes}
 use Rattle.mechanisms.proofs.list_ladders.Statement.{statement}
 use Rattle.mechanisms.proofs.list_ladders.Tie as tie
@@ -28,7 +28,7 @@ start c = begin c .before .before
 began : (c : tie.At-loop Inv-loop μ-loop)
     → gaugeValue (begin c .start-gauges .result .run) ≡ paused (start c .args .t) (plainNumbers (start c .args .t .gauges)) false fresh
 began c =
-    started (start c .args .t) (start c .pre .0) _ (begin c .before .plain .ensures) (gaugeStarted (begin c .start-gauges .result))
+    started (start c .args .t) (start c .pre .0) _ (begin c .before .plain .ensures) (gaugeStart (begin c .start-gauges .result))
     (begin c .start-gauges .ensures .0)
 
 pub list-ladders-spec : {M : Type 1} → statement M

@@ -7,7 +7,7 @@ use lib.ListN.{length, take}
 use lib.Seq.{sets as stored}
 use Rattle.table.specs.Tables.{padded}
 use Rattle.transpose.specs.Transposing.{transpose}
-use Rattle.turn.specs.Places.{places}
+use Rattle.transpose.specs.Places.{places}
 use Rattle.preference.specs.Placing.{gathered}
 use Rattle.refusals.specs.declared.Refusal.{Refusal}
 use Rattle.refusals.specs.declared.Refusal.the-variants.{NotReached, BudgetTooLarge, NotAnArrangement}
@@ -16,7 +16,8 @@ use Rattle.rules.specs.Calls.{mostBudget}
 use Rattle.preference.specs.Preferences.{isPreference, orderOf}
 use Rattle.lists.specs.OnTable.{chainOf}
 use Rattle.runs.specs.Batches.{tale, behind, batchBy, joined, ending}
-use Rattle.runs.specs.private.Working.{StandsBy, ReachedIn, Holds, ComesOut, stateOf, modePhase, spotDown}
+use Rattle.runs.specs.Paused.{modePhase}
+use Rattle.runs.specs.private.Working.{StandsBy, ReachedIn, Holds, ComesOut, stateOf, spotDown}
 use Rattle.runs.specs.declared.Outcome.the-variants.{HandedOut, Refused}
 use Rattle.runs.specs.declared.listing.Tally.{Tally}
 

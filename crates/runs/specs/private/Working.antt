@@ -29,12 +29,12 @@ use Rattle.refusals.specs.declared.Refusal.the-variants.{NotReached, BudgetTooL
 use Rattle.preference.specs.Preferences.{isPreference, orderOf}
 use Rattle.preference.specs.Placing.{renumber}
 use Rattle.table.specs.declared.Table.{Table}
-use Rattle.runs.specs.Paused.{Value, numbered}
-use Rattle.runs.specs.Calling.{Step, outcome, refusal}
+use Rattle.table.specs.declared.Chain.{Chain}
+use Rattle.runs.specs.Paused.{Value, numbered, modePhase, noNumbers}
+use Rattle.runs.specs.Calling.{Step, outcome, refusalStep}
 use Rattle.runs.specs.declared.Outcome.{Outcome}
 use Rattle.runs.specs.declared.Outcome.the-variants.{HandedOut, Spent, End, Refused}
-use Rattle.runs.specs.declared.engine.Mode.{Mode}
-use Rattle.runs.specs.declared.engine.Mode.the-variants.{Down as modeDown, Handed as modeHanded, Back as modeBack, Ended as modeEnded}
+use Rattle.runs.specs.declared.engine.Mode.the-variants.{Down as modeDown}
 use Rattle.runs.specs.declared.engine.Spot.{Spot}
 use Rattle.runs.specs.declared.engine.Report.{Report}
 use Rattle.runs.specs.declared.engine.Moved.{Moved}
@@ -47,21 +47,10 @@ pub record Sized (n : ℕ) (rows : List ℕ) : Type 0 where
   pub inside : (i : ℕ) → row rows i ⊆ lowest 64
   pub rest : (i : ℕ) → n ≤ i → row rows i ≡ 0
 
--- a table from its parts
-abbrev pub tableOf : ℕ → ℕ → List ℕ → Table
-tableOf gs cs rows = record { gauges = gs; cases = cs; rows = rows }
-
 -- a side as the core has it: the first n of the rows in the array R
 pub record Works (s : Side) (n : ℕ) (R : List ℕ) : Type 0 where
   pub sized : Sized n R
   pub rows-are : take n R ≡ s .rows
-
--- the phase of a spot, by number
-abbrev pub modePhase : Mode → Phase
-modePhase modeDown = Down
-modePhase modeHanded = Handed
-modePhase (modeBack k) = Back k
-modePhase modeEnded = Ended
 
 -- by place
 abbrev pub placed : Phase → Phase
@@ -156,7 +145,7 @@ pub record Ahead (mv : State → Move) (b m : ℕ) (x y : State) : Type 0 where
 
 -- ---- checking a value handed in
 -- b decides P
-pub record Decides (P : Type 0) (b : Bool) : Type 0 where
+pub record DecidedBy (P : Type 0) (b : Bool) : Type 0 where
   pub yes : b ≡ true → P
   pub no : b ≡ false → ¬ P
 
@@ -236,9 +225,13 @@ renumberedPhase l n (Back g) = Back (renumber l n g)
 renumberedPhase l n Ended = Ended
 
 -- what a call under the preference in the n numbers of `order` comes to: 27 where they are none, and else as above, by the rule mv at each arrangement
-pub record Ordered (mv : List ℕ → State → Move) (n : ℕ) (r order k : List ℕ) (count : ℕ) (f : Phase) (b : ℕ) (c′ k′ : List ℕ) (o : Report) : Type 0 where
+pub record InOrder (mv : List ℕ → State → Move) (n : ℕ) (r order k : List ℕ) (count : ℕ) (f : Phase) (b : ℕ) (c′ k′ : List ℕ) (o : Report) : Type 0 where
   pub none : isPreference n order ≡ false → o .outcome ≡ Refused NotAnArrangement
   pub carried : isPreference n order ≡ true → CarriesBy (mv (orderOf n order)) (ReachedIn r (orderOf n order)) (chainOf r) k count f b c′ k′ o
+
+-- a chain from its parts
+abbrev pub chainWith : ℕ → List ℕ → Chain
+chainWith g rows = record { gauges = g; rows = rows }
 
 abbrev pub refusedReport : Refusal → Report
 refusedReport why = record { outcome = Refused why; moves = 0; spot = spotDown 0 0 0 }
@@ -256,6 +249,6 @@ stepBy t order omit o k rows HandedOut =
       picks = k;
       next = nextOf t order omit o k;
     }
-stepBy t order omit o k rows Spent = record { answer = spent; moves = o .moves; chain = blankChain; picks = noRows; next = nextOf t order omit o k }
-stepBy t order omit o k rows End = record { answer = end; moves = o .moves; chain = blankChain; picks = noRows; next = nextOf t order omit o k }
-stepBy t order omit o k rows (Refused why) = refusal (number why)
+stepBy t order omit o k rows Spent = record { answer = spent; moves = o .moves; chain = blankChain; picks = noNumbers; next = nextOf t order omit o k }
+stepBy t order omit o k rows End = record { answer = end; moves = o .moves; chain = blankChain; picks = noNumbers; next = nextOf t order omit o k }
+stepBy t order omit o k rows (Refused why) = refusalStep (number why)

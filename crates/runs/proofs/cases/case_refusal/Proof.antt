@@ -1,17 +1,12 @@
--- `runs::case_refusal` meets its contract: the chain and the value are blank.
+-- `runs::cases::case_refusal` meets its contract: the chain and the value are blank.
+use mathlib.Core.Path.{_∙_}
 use borrow.Author.Needs.{needs}
 use Rattle.runs.proofs.Answered.{refusal-step}
 use Rattle.runs.proofs.cases.case_refusal.Statement.{statement}
 use Rattle.runs.proofs.cases.case_refusal.Tie as tie
 
-blank-chain-requires : tie.Need-blank-chain-requires
-blank-chain-requires c κs = search needs
-
-blank-run-requires : tie.Need-blank-run-requires
-blank-run-requires c κs = search needs
-
 returns : tie.Need-returns
-returns c = refusal-step _ _ _ (c .before .blank-chain .ensures) (c .blank-run .ensures)
+returns c = let k = c .before in refusal-step _ _ _ (k .before .blank-chain .ensures) (c .to-cases .ensures ∙ k .blank-side .ensures .0)
 
 pub case-refusal-spec : {M : Type 1} → statement M
-case-refusal-spec = tie.close (tie.spec blank-chain-requires blank-run-requires returns)
+case-refusal-spec = tie.close (tie.spec (λ c κs. search needs) (λ c κs. search needs) (λ c κs. search needs) returns)

@@ -21,15 +21,6 @@ loop-holds c = (c .pre .1, ahead-none _ _ _)
 step-requires : tie.Need-step-requires Inv-loop μ-loop
 step-requires c κs = let l = c .before .before .before in (l .before .pre .0, l .loop .inv .0)
 
-enum-known-made : tie.Need-enum-known-made Inv-loop μ-loop
-enum-known-made c = search needs
-
-add-moves : tie.Need-add-moves Inv-loop μ-loop
-add-moves c = omega arith
-
-loop-less : tie.Need-loop-less Inv-loop μ-loop
-loop-less c = omega arith
-
 -- from a move back to the test before it
 abbrev tested : tie.After-step Inv-loop μ-loop → tie.In-loop Inv-loop μ-loop
 tested c = c .before .before .before
@@ -40,14 +31,8 @@ loop-again c =
     let t = tested s in
     turn-on _ _ _ _ _ _ _ _ _ _ (t .before .loop .inv .1) (t .loop-test .taken) _ _ (c .before .made .given .1) (s .step .ensures)
 
-enum-known-made-2 : tie.Need-enum-known-made-2 Inv-loop μ-loop
-enum-known-made-2 c = search needs
-
 hands-over-requires : tie.Need-hands-over-requires Inv-loop μ-loop
 hands-over-requires c κs = c .before .before .before .before .before .before .before .before .before .pre .0 .few
-
-add-t21 : tie.Need-add-t21 Inv-loop μ-loop
-add-t21 c = omega arith
 
 -- from what was asked of a chain back to the move that made it
 abbrev asked : tie.After-hands-over Inv-loop μ-loop → tie.After-step Inv-loop μ-loop
@@ -61,12 +46,6 @@ returns c =
     turn-out _ _ _ _ _ _ _ _ _ _ (t .before .loop .inv .1) (t .loop-test .taken) (t .before .before .pre .0) _ _ (h .before .before .before .made2 .given .1)
     (s .step .ensures) _ (h .hands-over .ensures) (c .if1 .taken)
 
-add-moves-2 : tie.Need-add-moves-2 Inv-loop μ-loop
-add-moves-2 c = omega arith
-
-loop-less-2 : tie.Need-loop-less-2 Inv-loop μ-loop
-loop-less-2 c = omega arith
-
 loop-again-2 : tie.Need-loop-again-2 Inv-loop μ-loop
 loop-again-2 c =
     let h = c .before in
@@ -74,12 +53,6 @@ loop-again-2 c =
     let t = tested s in
     turn-past _ _ _ _ _ _ _ _ _ _ (t .before .loop .inv .1) (t .loop-test .taken) (t .before .before .pre .0) _ _ (h .before .before .before .made2 .given .1)
     (s .step .ensures) _ (h .hands-over .ensures) (c .if1 .left)
-
-enum-known-made-3 : tie.Need-enum-known-made-3 Inv-loop μ-loop
-enum-known-made-3 c = search needs
-
-add-t23 : tie.Need-add-t23 Inv-loop μ-loop
-add-t23 c = omega arith
 
 returns-2 : tie.Need-returns-2 Inv-loop μ-loop
 returns-2 c =
@@ -98,18 +71,18 @@ advance-spec =
     μ-loop
     loop-holds
     step-requires
-    enum-known-made
-    add-moves
-    loop-less
+    (λ c. search needs)
+    (λ c. omega arith)
+    (λ c. omega arith)
     loop-again
-    enum-known-made-2
+    (λ c. search needs)
     hands-over-requires
-    add-t21
+    (λ c. omega arith)
     returns
-    add-moves-2
-    loop-less-2
+    (λ c. omega arith)
+    (λ c. omega arith)
     loop-again-2
-    enum-known-made-3
-    add-t23
+    (λ c. search needs)
+    (λ c. omega arith)
     returns-2
     returns-3)

@@ -4,9 +4,6 @@ use Rattle.runs.specs.private.Working.{apart, handsOver}
 use Rattle.runs.proofs.engine.hands_over.Statement.{statement}
 use Rattle.runs.proofs.engine.hands_over.Tie as tie
 
-apart-requires : tie.Need-apart-requires
-apart-requires c κs = search needs
-
 returns : tie.Need-returns
 unfolding handsOver
 returns c = rw (c .before .if1 .taken, c .apart .ensures)
@@ -16,4 +13,4 @@ unfolding handsOver
 returns-2 c = rw (c .if1 .left)
 
 pub hands-over-spec : {M : Type 1} → statement M
-hands-over-spec = tie.close (tie.spec apart-requires returns returns-2)
+hands-over-spec = tie.close (tie.spec (λ c κs. search needs) returns returns-2)

@@ -24,17 +24,14 @@ laid c = c .loop .inv (c .before .pre .0) (c .before .pre .1)
 loop-holds : tie.Need-loop-holds Inv-loop μ-loop
 loop-holds c z h = laid-none _ _ _ _ _ z h
 
-element-copy-out-wide : tie.Need-element-copy-out-wide Inv-loop μ-loop
-element-copy-out-wide c = laid-low _ _ _ _ _ _ _ _ _ _ (c .loop-test .taken) (laid (c .before))
-
-wide-requires : tie.Need-wide-requires Inv-loop μ-loop
-wide-requires c κs = search needs
+element-copy-out-index : tie.Need-element-copy-out-index Inv-loop μ-loop
+element-copy-out-index c = laid-low _ _ _ _ _ _ _ _ _ _ (c .loop-test .taken) (laid (c .before))
 
 -- a turn's number, and its place
-number : (c : tie.After-wide Inv-loop μ-loop) → (1 ≤ c .wide .result) × (c .wide .result - 1 < 64)
+number : (c : tie.After-index Inv-loop μ-loop) → (1 ≤ c .index .result) × (c .index .result - 1 < 64)
 number c =
     let t = c .before .before in
-    laid-number _ _ _ _ _ _ _ _ _ _ (t .loop-test .taken) (laid (t .before)) _ (c .wide .ensures)
+    laid-number _ _ _ _ _ _ _ _ _ _ (t .loop-test .taken) (laid (t .before)) _ (c .index .ensures)
 
 sub-g : tie.Need-sub-g Inv-loop μ-loop
 sub-g c = omega (arith, number c)
@@ -51,16 +48,10 @@ mul-chain c = omega (arith, number (c .before))
 element-write-chain : tie.Need-element-write-chain Inv-loop μ-loop
 element-write-chain c = omega (arith, number (c .before))
 
-add-i : tie.Need-add-i Inv-loop μ-loop
-add-i c = omega arith
-
-loop-less : tie.Need-loop-less Inv-loop μ-loop
-loop-less c = omega arith
-
 loop-again : tie.Need-loop-again Inv-loop μ-loop
 loop-again c z h =
     let t = c .before .before .before in
-    laid-more _ _ _ _ _ z h _ _ _ (t .loop-test .taken) (t .before .loop .inv z h) _ (c .before .wide .ensures)
+    laid-more _ _ _ _ _ z h _ _ _ (t .loop-test .taken) (t .before .loop .inv z h) _ (c .before .index .ensures)
 
 returns : tie.Need-returns Inv-loop μ-loop
 returns c = laid-all _ _ _ _ _ _ _ _ _ _ (c .loop-test .left) (laid (c .before))
@@ -72,14 +63,14 @@ lay-spec =
     Inv-loop
     μ-loop
     loop-holds
-    element-copy-out-wide
-    wide-requires
+    element-copy-out-index
+    (λ c κs. search needs)
     sub-g
     mul-left
     element-copy-out-left
     mul-chain
     element-write-chain
-    add-i
-    loop-less
+    (λ c. omega arith)
+    (λ c. omega arith)
     loop-again
     returns)

@@ -15,12 +15,6 @@ returns : tie.Need-returns
 unfolding leftAfter
 returns c = rw (eq-eqb _ _ (c .if1 .taken))
 
-sub-number : tie.Need-sub-number
-sub-number c = omega arith
-
-element-copy-out-number : tie.Need-element-copy-out-number
-element-copy-out-number c = omega arith
-
 cast-number : tie.Need-cast-number
 cast-number c = omega (arith, range (c .before))
 
@@ -42,8 +36,8 @@ left-after-spec =
     tie.close
     (tie.spec
     returns
-    sub-number
-    element-copy-out-number
+    (λ c. omega arith)
+    (λ c. omega arith)
     cast-number
     sub-result
     mul-result

@@ -20,35 +20,17 @@ replayed c = c .before .before .before
 abbrev phased : tie.After-lay → tie.Else3
 phased c = c .before .before .before
 
-filled-requires : tie.Need-filled-requires
-filled-requires c κs = search needs
-
-refused-requires : tie.Need-refused-requires
-refused-requires c κs = search needs
-
 returns : tie.Need-returns
 returns c =
     let f = c .before .before in
     let s = call f in
     open-filled _ _ _ _ _ (s .args .budget) (s .pre .0) (s .pre .2) _ _ (c .refused .ensures) _ (f .filled .ensures) (c .before .if1 .taken)
 
-replay-requires : tie.Need-replay-requires
-replay-requires c κs = search needs
-
-refused-requires-2 : tie.Need-refused-requires-2
-refused-requires-2 c κs = search needs
-
 returns-2 : tie.Need-returns-2
 returns-2 c =
     let p = c .before .before .before in
     let s = call (counted p) in
     open-replay _ _ _ _ _ (s .args .budget) (s .pre .0) (s .pre .2) _ _ (c .refused2 .ensures) _ (p .replay .ensures) (not-true _ (c .before .if2 .taken))
-
-phase-fits-requires : tie.Need-phase-fits-requires
-phase-fits-requires c κs = search needs
-
-refused-requires-3 : tie.Need-refused-requires-3
-refused-requires-3 c κs = search needs
 
 returns-3 : tie.Need-returns-3
 returns-3 c =
@@ -76,9 +58,6 @@ passed c =
       phase = h .phase-fits .ensures .yes (not-false _ (c .if3 .left));
     }
 
-refused-requires-4 : tie.Need-refused-requires-4
-refused-requires-4 c κs = search needs
-
 returns-4 : tie.Need-returns-4
 returns-4 c = let t = c .before .before in open-budget _ _ _ _ _ _ _ (passed t) _ _ (c .refused4 .ensures) (omega (arith, c .before .if4 .taken))
 
@@ -95,16 +74,16 @@ pub open-spec : {M : Type 1} → statement M
 open-spec =
     tie.close
     (tie.spec
-    filled-requires
-    refused-requires
+    (λ c κs. search needs)
+    (λ c κs. search needs)
     returns
-    replay-requires
-    refused-requires-2
+    (λ c κs. search needs)
+    (λ c κs. search needs)
     returns-2
-    phase-fits-requires
-    refused-requires-3
+    (λ c κs. search needs)
+    (λ c κs. search needs)
     returns-3
-    refused-requires-4
+    (λ c κs. search needs)
     returns-4
     lay-requires
     returns-5)

@@ -8,26 +8,8 @@ use Rattle.runs.proofs.engine.phase_fits.Tie as tie
 enum-told : tie.Need-enum-told
 enum-told c = search needs
 
-enum-told-2 : tie.Need-enum-told-2
-enum-told-2 c = search needs
-
-next-candidate-of-requires : tie.Need-next-candidate-of-requires
-next-candidate-of-requires c κs = search needs
-
-enum-known-mode : tie.Need-enum-known-mode
-enum-known-mode c = search needs
-
 returns : tie.Need-returns
 returns c = phase-zero _ _ _ _ _ (c .before .before .mode .given .1) (c .if1 .taken)
-
-sub-is-candidate-of : tie.Need-sub-is-candidate-of
-sub-is-candidate-of c = omega arith
-
-is-candidate-of-requires : tie.Need-is-candidate-of-requires
-is-candidate-of-requires c κs = search needs
-
-enum-told-3 : tie.Need-enum-told-3
-enum-told-3 c = search needs
 
 returns-2 : tie.Need-returns-2
 returns-2 c = phase-down _ _ _ _ (c .enum-told .given .1)
@@ -46,13 +28,13 @@ phase-fits-spec =
     tie.close
     (tie.spec
     enum-told
-    enum-told-2
-    next-candidate-of-requires
-    enum-known-mode
+    (λ c. search needs)
+    (λ c κs. search needs)
+    (λ c. search needs)
     returns
-    sub-is-candidate-of
-    is-candidate-of-requires
-    enum-told-3
+    (λ c. omega arith)
+    (λ c κs. search needs)
+    (λ c. search needs)
     returns-2
     returns-3
     returns-4

@@ -9,9 +9,6 @@ use Rattle.runs.proofs.engine.step.Tie as tie
 enum-told : tie.Need-enum-told
 enum-told c = search needs
 
-next-candidate-of-requires : tie.Need-next-candidate-of-requires
-next-candidate-of-requires c κs = search needs
-
 -- the places on the way: from a search back to the move's start, in phase Down and in phase Back, and from a pick or a pick taken back to it
 abbrev down : tie.After-next-candidate-of → tie.Start
 down c = c .before .before .before
@@ -45,17 +42,8 @@ returns c =
     (a .before .before .if1 .taken) _ _ _ (p .1 .0)
     (p .1 .1 .0) (p .1 .1 .1) (p .0)
 
-enum-told-2 : tie.Need-enum-told-2
-enum-told-2 c = search needs
-
 take-back-requires : tie.Need-take-back-requires
 take-back-requires c κs = let h = handed c in (h .before .before .pre .0, h .before .before .pre .1, takes-back _ _ (h .enum-told2 .given .1) tt)
-
-enum-known-mode : tie.Need-enum-known-mode
-enum-known-mode c = search needs
-
-next-candidate-of-requires-2 : tie.Need-next-candidate-of-requires-2
-next-candidate-of-requires-2 c κs = search needs
 
 pick-requires-2 : tie.Need-pick-requires-2
 pick-requires-2 c κs =
@@ -74,9 +62,6 @@ returns-2 c =
 
 take-back-requires-2 : tie.Need-take-back-requires-2
 take-back-requires-2 c κs = let f = none-above c in (back f .pre .0, back f .pre .1, takes-back _ _ (f .before .before .mode .given .1) tt)
-
-enum-told-3 : tie.Need-enum-told-3
-enum-told-3 c = search needs
 
 returns-3 : tie.Need-returns-3
 returns-3 c =
@@ -104,17 +89,17 @@ step-spec =
     tie.close
     (tie.spec
     enum-told
-    next-candidate-of-requires
+    (λ c κs. search needs)
     pick-requires
     returns
-    enum-told-2
+    (λ c. search needs)
     take-back-requires
-    enum-known-mode
-    next-candidate-of-requires-2
+    (λ c. search needs)
+    (λ c κs. search needs)
     pick-requires-2
     returns-2
     take-back-requires-2
-    enum-told-3
+    (λ c. search needs)
     returns-3
     returns-4
     returns-5

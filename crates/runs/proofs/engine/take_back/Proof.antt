@@ -13,9 +13,6 @@ facts c = let s = c .before in last-facts _ _ _ _ _ (s .pre .0) (s .pre .1) (s .
 returns : tie.Need-returns
 returns c = back-end _ _ _ _ _ (c .before .pre .0) (c .before .pre .1) (c .before .pre .2) (c .if1 .taken)
 
-sub-last : tie.Need-sub-last
-sub-last c = omega arith
-
 element-copy-out-number : tie.Need-element-copy-out-number
 element-copy-out-number c = omega (arith, facts c, c .before .pre .0 .few)
 
@@ -39,9 +36,6 @@ left-after-requires c κs =
     let s = c .before .before .before .before in
     back-number _ _ _ _ _ (s .pre .0) (s .pre .1) (s .pre .2) (omega arith) _ _ _ refl refl refl
 
-with-requires : tie.Need-with-requires
-with-requires c κs = search needs
-
 -- from the left cases back to the start
 abbrev start : tie.After-left-after → tie.Start
 start c = let n = c .before .before .before in n .before .before
@@ -57,7 +51,7 @@ take-back-spec =
     tie.close
     (tie.spec
     returns
-    sub-last
+    (λ c. omega arith)
     element-copy-out-number
     cast-number
     sub-g
@@ -65,5 +59,5 @@ take-back-spec =
     mul-chain
     element-write-chain
     left-after-requires
-    with-requires
+    (λ c κs. search needs)
     returns-2)

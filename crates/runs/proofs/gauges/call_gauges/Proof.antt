@@ -1,53 +1,72 @@
--- `runs::gauges::call_gauges` meets its contract: the moves under the order are the run's (`carried-by`), where the run omits by the essential pairs of the
--- table (`gauge-wants`).
-use mathlib.Core.Path.{_≡_, refl}
-use mathlib.Core.Bool.{true, false}
-use Prim.Native.Nat.{ℕ}
-use native.Mathlib.Omega.{arith}
+-- `runs::gauges::call_gauges` meets its contract: the refusal of the table, or what the core reports at the gauge side (`table-reported`, `core-reported`).
+use mathlib.Core.Path.{_≡_}
 use borrow.Author.Needs.{needs}
-use denote.Ref.{now}
-use Rattle.table.specs.declared.Table.{Table}
+use lib.ListN.{length}
+use Rattle.table.specs.Tables.{Legal, tableRefusal}
+use Rattle.refusals.proofs.Answering.{verdict-refused, verdict-accepted}
+use Rattle.table.proofs.Legality.{legal-of}
 use Rattle.lists.specs.Lists.{gaugeSide}
-use Rattle.runs.specs.private.Working.{tableOf}
-use Rattle.runs.proofs.Wanting.{carried-by, gauge-wants}
+use Rattle.runs.specs.Paused.{gaugeValue}
+use Rattle.runs.proofs.SideCalls.{table-reported, core-reported}
 use Rattle.runs.proofs.gauges.call_gauges.Statement.{statement}
 use Rattle.runs.proofs.gauges.call_gauges.Tie as tie
 
-essential-rows-requires : tie.Need-essential-rows-requires
-essential-rows-requires c κs = search needs
+-- the places on the way, one from the other: the call's start, the check of the table, the value's mode
+abbrev start : tie.After-check-table → tie.Start
+start c = c .before .before
 
--- from where the pairs are at hand back to where they are found, and from there to the start: the essential pairs are looked for where the run omits
-abbrev asked : tie.After-wanted → tie.After-essential-rows
-asked c = c .before .before
+abbrev checked : tie.After-enum-told → tie.After-check-table
+checked c = c .before .before
 
-abbrev begun : tie.After-essential-rows → tie.Start
-begun c = c .before .before .before
+abbrev told : tie.After-gauge-mode → tie.After-enum-told
+told c = c .before .before .before .before
 
--- the table of the call
-abbrev table : tie.Start → Table
-table s = tableOf (s .args .gauges) (s .args .cases) (now (s .args .rows))
+rows-length : (c : tie.Start) → length (c .args .p .table .rows) ≡ 64
+rows-length c = search needs
 
-call-requires : tie.Need-call-requires
-call-requires c κs =
-    let e = asked (c .before .before .before) in
-    let s = begun e in
-    (s .pre .1 .sized, s .pre .2, e .essential-rows .ensures .size, s .pre .3, s .pre .4)
+order-length : (c : tie.Start) → length (c .args .p .order .0) ≡ 64
+order-length c = search needs
+
+picks-length : (c : tie.Start) → length (c .args .p .picks .0) ≡ 64
+picks-length c = search needs
+
+passed : (c : tie.After-enum-told) → tableRefusal (start (checked c) .args .p .table) ≡ 0
+passed c = verdict-accepted _ _ (c .enum-told .given .1) (checked c .check-table .ensures)
+
+legal : (c : tie.After-enum-told) → Legal (start (checked c) .args .p .table)
+legal c = legal-of (start (checked c) .args .p .table) (rows-length (start (checked c))) (passed c)
 
 returns : tie.Need-returns
 returns c =
-    let e = asked (c .before .before .before .before) in
-    let s = begun e in
-    carried-by (table s) (gaugeSide (table s)) _ _ _ (s .pre .1) _ true (e .before .before .if1 .taken)
-    (λ x. gauge-wants (table s) (s .pre .0) _ (e .essential-rows .ensures)) _ _ _ _ _ _ _ _ (c .call .ensures)
+    let k = c .before .before in
+    let t = k .before .before in
+    table-reported gaugeSide (gaugeValue (start t .args .p)) _ _ _ _ _ (c .refused .ensures)
+    (verdict-refused _ _ _ (k .checked .given .1) (t .check-table .ensures))
 
-call-requires-2 : tie.Need-call-requires-2
-call-requires-2 c κs = let s = c .before .before .before in (s .pre .1 .sized, s .pre .2, s .pre .1 .sized .size, s .pre .3, s .pre .4)
+enum-told : tie.Need-enum-told
+enum-told c = search needs
+
+call-requires : tie.Need-call-requires
+call-requires c κs =
+    let e = told (c .before .before .before .before) in
+    let s = start (checked e) in
+    (legal e, order-length s, s .pre .0, rw (s .pre .1) (picks-length s))
 
 returns-2 : tie.Need-returns-2
 returns-2 c =
-    let s = c .before .before .before .before in
-    carried-by (table s) (gaugeSide (table s)) _ _ _ (s .pre .1) _ false (c .before .before .before .if1 .left)
-    (λ x. let z : _≡_ {A = ℕ} 0 1 = cc in absurd (omega arith)) _ _ _ _ _ _ _ _ (c .call2 .ensures)
+    let m = c .before .before .before .before .before in
+    let s = start (checked (told m)) in
+    core-reported gaugeSide (gaugeValue (s .args .p)) _ _ _ _ (passed (told m)) _ (m .gauge-mode .ensures) _ (s .pre .1) (c .call .ensures)
 
 pub call-gauges-spec : {M : Type 1} → statement M
-call-gauges-spec = tie.close (tie.spec essential-rows-requires call-requires returns call-requires-2 returns-2)
+call-gauges-spec =
+    tie.close
+    (tie.spec
+    (λ c κs. search needs)
+    (λ c. search needs)
+    (λ c κs. search needs)
+    returns
+    enum-told
+    (λ c κs. search needs)
+    call-requires
+    returns-2)

@@ -1,17 +1,12 @@
--- `runs::gauge_refusal` meets its contract: the chain and the value are blank.
+-- `runs::gauges::gauge_refusal` meets its contract: the chain and the value are blank.
+use mathlib.Core.Path.{_∙_}
 use borrow.Author.Needs.{needs}
 use Rattle.runs.proofs.Answered.{refusal-step}
 use Rattle.runs.proofs.gauges.gauge_refusal.Statement.{statement}
 use Rattle.runs.proofs.gauges.gauge_refusal.Tie as tie
 
-blank-chain-requires : tie.Need-blank-chain-requires
-blank-chain-requires c κs = search needs
-
-blank-run-requires : tie.Need-blank-run-requires
-blank-run-requires c κs = search needs
-
 returns : tie.Need-returns
-returns c = refusal-step _ _ _ (c .before .blank-chain .ensures) (c .blank-run .ensures)
+returns c = let k = c .before in refusal-step _ _ _ (k .before .blank-chain .ensures) (c .to-gauges .ensures ∙ k .blank-side .ensures .0)
 
 pub gauge-refusal-spec : {M : Type 1} → statement M
-gauge-refusal-spec = tie.close (tie.spec blank-chain-requires blank-run-requires returns)
+gauge-refusal-spec = tie.close (tie.spec (λ c κs. search needs) (λ c κs. search needs) (λ c κs. search needs) returns)

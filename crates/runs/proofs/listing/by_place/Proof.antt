@@ -3,7 +3,8 @@
 use mathlib.Core.Path.{_≡_, refl, sym, subst}
 use denote.Ref.{now}
 use lib.ListN.{length}
-use Rattle.runs.specs.private.Working.{Sized, modePhase}
+use Rattle.runs.specs.Paused.{modePhase}
+use Rattle.runs.specs.private.Working.{Sized}
 use Rattle.runs.proofs.Ordering.{arranged-sized}
 use Rattle.runs.proofs.Batching.{arranged-list}
 use borrow.Author.Needs.{needs}
@@ -30,32 +31,11 @@ sized g =
 made-length : (r : tie.After-renumber) → length (r .renumber .result) ≡ 64
 made-length r = search needs
 
-gather-requires : tie.Need-gather-requires
-gather-requires c κs = search needs
-
-gather-requires-2 : tie.Need-gather-requires-2
-gather-requires-2 c κs = search needs
-
-renumber-requires : tie.Need-renumber-requires
-renumber-requires c κs = search needs
-
-renumbered-requires : tie.Need-renumbered-requires
-renumbered-requires c κs = search needs
-
 list-requires : tie.Need-list-requires
 list-requires c κs =
     let r = picks (c .before .before .before .before) in
     let g = rows r in
     (sized g, made-length r, start g .pre .4, start g .pre .5)
-
-renumber-requires-2 : tie.Need-renumber-requires-2
-renumber-requires-2 c κs = search needs
-
-renumbered-requires-2 : tie.Need-renumbered-requires-2
-renumbered-requires-2 c κs = search needs
-
-same-length : tie.Need-same-length
-same-length c = search needs
 
 returns : tie.Need-returns
 returns c =
@@ -75,12 +55,12 @@ pub by-place-spec : {M : Type 1} → statement M
 by-place-spec =
     tie.close
     (tie.spec
-    gather-requires
-    gather-requires-2
-    renumber-requires
-    renumbered-requires
+    (λ c κs. search needs)
+    (λ c κs. search needs)
+    (λ c κs. search needs)
+    (λ c κs. search needs)
     list-requires
-    renumber-requires-2
-    renumbered-requires-2
-    same-length
+    (λ c κs. search needs)
+    (λ c κs. search needs)
+    (λ c. search needs)
     returns)

@@ -7,21 +7,18 @@ use Rattle.runs.proofs.Turns.{hands-as, gathered-long, turned-length, t
 use Rattle.runs.proofs.listing.hand.Statement.{statement}
 use Rattle.runs.proofs.listing.hand.Tie as tie
 
-turn-into-requires : tie.Need-turn-into-requires
-turn-into-requires c κs = search needs
-
 same-length : tie.Need-same-length
 same-length c =
     let p = c .before .before in
     let s = p .before .before .before .before .before in
-    turned-length _ _ _ _ _ _ (s .pre .0) (s .pre .1) (p .turn-into .ensures)
+    turned-length _ _ _ _ _ _ (s .pre .0) (s .pre .1) (p .transpose-into .ensures)
 
 returns : tie.Need-returns
 returns c =
     let p = c .before .before in
     let e = p .before .before in
     let s = e .before .before .before in
-    turns-as _ _ _ _ _ _ (s .pre .0) (s .pre .1) (p .turn-into .ensures) _ _ _ _ true (e .if2 .taken) (e .before .if1 .taken) refl
+    turns-as _ _ _ _ _ _ (s .pre .0) (s .pre .1) (p .transpose-into .ensures) _ _ _ _ true (e .if2 .taken) (e .before .if1 .taken) refl
 
 put-requires : tie.Need-put-requires
 put-requires c κs = let s = c .before .before .before .before in s .pre
@@ -36,17 +33,11 @@ returns-2 c =
     let s = e .before .before .before in
     hands-as _ _ _ _ _ _ _ _ (s .pre .2) (s .pre .1) (p .put .ensures) _ _ false true (e .if2 .left) (e .before .if1 .taken) refl
 
-gather-requires : tie.Need-gather-requires
-gather-requires c κs = search needs
-
-turn-into-requires-2 : tie.Need-turn-into-requires-2
-turn-into-requires-2 c κs = search needs
-
 same-length-3 : tie.Need-same-length-3
 same-length-3 c =
     let p = c .before .before in
     let s = p .before .before .before .before .before .before .before in
-    turned-length _ _ _ _ _ _ (s .pre .0) (s .pre .1) (p .turn-into2 .ensures)
+    turned-length _ _ _ _ _ _ (s .pre .0) (s .pre .1) (p .transpose-into2 .ensures)
 
 returns-3 : tie.Need-returns-3
 returns-3 c =
@@ -54,7 +45,7 @@ returns-3 c =
     let g = p .before .before .before in
     let e = g .before in
     let s = e .before .before .before in
-    turns-as _ _ _ _ _ _ (s .pre .0) (s .pre .1) (p .turn-into2 .ensures) _ _ _ _ false (e .if3 .taken) (e .before .if1 .left) (g .gather .ensures)
+    turns-as _ _ _ _ _ _ (s .pre .0) (s .pre .1) (p .transpose-into2 .ensures) _ _ _ _ false (e .if3 .taken) (e .before .if1 .left) (g .gather .ensures)
 
 put-numbered-requires : tie.Need-put-numbered-requires
 put-numbered-requires c κs = let s = c .before .before .before .before in (s .pre .0, s .pre .1)
@@ -73,14 +64,14 @@ pub hand-spec : {M : Type 1} → statement M
 hand-spec =
     tie.close
     (tie.spec
-    turn-into-requires
+    (λ c κs. search needs)
     same-length
     returns
     put-requires
     same-length-2
     returns-2
-    gather-requires
-    turn-into-requires-2
+    (λ c κs. search needs)
+    (λ c κs. search needs)
     same-length-3
     returns-3
     put-numbered-requires

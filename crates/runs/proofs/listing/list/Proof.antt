@@ -11,12 +11,6 @@ use Rattle.runs.proofs.listing.list.Tie as tie
 open-requires : tie.Need-open-requires
 open-requires c κs = let s = c .before .before .before in (s .pre .0, refl, s .pre .1)
 
-enum-known-outcome : tie.Need-enum-known-outcome
-enum-known-outcome c = search needs
-
-refused-requires : tie.Need-refused-requires
-refused-requires c κs = search needs
-
 returns : tie.Need-returns
 returns c =
     let o = c .before .before in
@@ -34,9 +28,6 @@ list-on-requires c κs =
     let (few, held) = may-go-on _ _ _ _ _ _ _ _ (a .«open» .ensures) (m .match .keys2) in
     (s .pre .0, held, s .pre .3, few, λ w. words-fit _ _)
 
-same-length : tie.Need-same-length
-same-length c = search needs
-
 returns-2 : tie.Need-returns-2
 returns-2 c =
     let l = c .before .before in
@@ -48,10 +39,10 @@ list-spec =
     tie.close
     (tie.spec
     open-requires
-    enum-known-outcome
-    refused-requires
+    (λ c. search needs)
+    (λ c κs. search needs)
     returns
     div-room
     list-on-requires
-    same-length
+    (λ c. search needs)
     returns-2)

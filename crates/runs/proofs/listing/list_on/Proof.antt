@@ -71,12 +71,6 @@ add-place c =
     let p = place-fits _ _ _ _ _ _ _ _ _ _ _ _ _ (t .before .loop .inv .1) (w .if1 .taken) (t .loop-test .taken) in
     omega (arith, s, p)
 
-sub-room : tie.Need-sub-room Inv-loop μ-loop
-sub-room c = omega arith
-
-loop-less : tie.Need-loop-less Inv-loop μ-loop
-loop-less c = omega arith
-
 loop-again : tie.Need-loop-again Inv-loop μ-loop
 loop-again c =
     let h = c .before .before in
@@ -87,12 +81,6 @@ loop-again c =
     let s = t .before .before .before in
     loop-next _ _ _ _ _ _ _ _ _ _ _ _ _ _ _ _ _ (t .before .loop .inv .1) (s .pre .3) (t .loop-test .taken) _ _ _ (a .advance .ensures)
     (e .enum-told .given .1) (w .if1 .taken) _ (h .hand .ensures)
-
-sub-room-2 : tie.Need-sub-room-2 Inv-loop μ-loop
-sub-room-2 c = omega arith
-
-loop-less-2 : tie.Need-loop-less-2 Inv-loop μ-loop
-loop-less-2 c = omega arith
 
 loop-again-2 : tie.Need-loop-again-2 Inv-loop μ-loop
 loop-again-2 c =
@@ -128,11 +116,11 @@ list-on-spec =
     returns
     hand-requires
     add-place
-    sub-room
-    loop-less
+    (λ c. omega arith)
+    (λ c. omega arith)
     loop-again
-    sub-room-2
-    loop-less-2
+    (λ c. omega arith)
+    (λ c. omega arith)
     loop-again-2
     sub-t36
     same-length-2

@@ -5,12 +5,6 @@ use Rattle.runs.proofs.Turns.{numbered-row, numbered-past}
 use Rattle.runs.proofs.listing.numbered.Statement.{statement}
 use Rattle.runs.proofs.listing.numbered.Tie as tie
 
-element-copy-out-row-numbered : tie.Need-element-copy-out-row-numbered
-element-copy-out-row-numbered c = search needs
-
-row-numbered-requires : tie.Need-row-numbered-requires
-row-numbered-requires c κs = search needs
-
 returns : tie.Need-returns
 returns c =
     let w = c .before .before in
@@ -20,4 +14,4 @@ returns-2 : tie.Need-returns-2
 returns-2 c = numbered-past _ _ _ _ (c .if1 .left)
 
 pub numbered-spec : {M : Type 1} → statement M
-numbered-spec = tie.close (tie.spec element-copy-out-row-numbered row-numbered-requires returns returns-2)
+numbered-spec = tie.close (tie.spec (λ c. search needs) (λ c κs. search needs) returns returns-2)

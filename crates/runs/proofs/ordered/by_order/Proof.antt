@@ -6,12 +6,6 @@ use Rattle.runs.proofs.Ordering.{refused-order}
 use Rattle.runs.proofs.ordered.by_order.Statement.{statement}
 use Rattle.runs.proofs.ordered.by_order.Tie as tie
 
-place-all-requires : tie.Need-place-all-requires
-place-all-requires c κs = search needs
-
-refused-requires : tie.Need-refused-requires
-refused-requires c κs = search needs
-
 returns : tie.Need-returns
 returns c =
     let b = c .before in
@@ -26,9 +20,6 @@ by-place-requires c κs =
     let (is, are) = places-are _ _ _ (p .place-all .ensures) (not-false _ (b .if1 .left)) in
     (s .pre .0, s .pre .1, s .pre .2, s .pre .3, s .pre .4, is, are)
 
-returns-2 : tie.Need-returns-2
-returns-2 c = search needs
-
 pub by-order-spec : {M : Type 1} → statement M
 by-order-spec =
-    tie.close (tie.spec place-all-requires refused-requires returns by-place-requires returns-2)
+    tie.close (tie.spec (λ c κs. search needs) (λ c κs. search needs) returns by-place-requires (λ c. search needs))

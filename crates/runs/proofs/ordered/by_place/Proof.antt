@@ -4,7 +4,8 @@ use mathlib.Core.Path.{_≡_, refl, sym, subst}
 use borrow.Author.Needs.{needs}
 use denote.Ref.{now}
 use lib.ListN.{length}
-use Rattle.runs.specs.private.Working.{Sized, modePhase}
+use Rattle.runs.specs.Paused.{modePhase}
+use Rattle.runs.specs.private.Working.{Sized}
 use Rattle.runs.proofs.Ordering.{arranged-sized, arranged-carried}
 use Rattle.runs.proofs.ordered.by_place.Statement.{statement}
 use Rattle.runs.proofs.ordered.by_place.Tie as tie
@@ -18,15 +19,6 @@ rows r = r .before .before
 
 abbrev picks : tie.After-renumbered → tie.After-renumber
 picks m = m .before
-
-gather-requires : tie.Need-gather-requires
-gather-requires c κs = search needs
-
-renumber-requires : tie.Need-renumber-requires
-renumber-requires c κs = search needs
-
-renumbered-requires : tie.Need-renumbered-requires
-renumbered-requires c κs = search needs
 
 -- the gathered rows are rows as the core takes them
 sized : (g : tie.After-gather) → Sized (start g .args .n) (g .gather .result)
@@ -43,15 +35,6 @@ call-arranged-requires c κs =
     let r = picks (c .before .before .before) in
     let g = rows r in
     (sized g, start g .pre .3, made-length r)
-
-renumber-requires-2 : tie.Need-renumber-requires-2
-renumber-requires-2 c κs = search needs
-
-gather-requires-2 : tie.Need-gather-requires-2
-gather-requires-2 c κs = search needs
-
-renumbered-requires-2 : tie.Need-renumbered-requires-2
-renumbered-requires-2 c κs = search needs
 
 returns : tie.Need-returns
 returns c =
@@ -71,11 +54,11 @@ pub by-place-spec : {M : Type 1} → statement M
 by-place-spec =
     tie.close
     (tie.spec
-    gather-requires
-    renumber-requires
-    renumbered-requires
+    (λ c κs. search needs)
+    (λ c κs. search needs)
+    (λ c κs. search needs)
     call-arranged-requires
-    renumber-requires-2
-    gather-requires-2
-    renumbered-requires-2
+    (λ c κs. search needs)
+    (λ c κs. search needs)
+    (λ c κs. search needs)
     returns)

@@ -7,9 +7,6 @@ use Rattle.runs.proofs.Ordering.{plain-call, flag-found}
 use Rattle.runs.proofs.ordered.call.Statement.{statement}
 use Rattle.runs.proofs.ordered.call.Tie as tie
 
-is-plain-requires : tie.Need-is-plain-requires
-is-plain-requires c κs = search needs
-
 call-requires : tie.Need-call-requires
 call-requires c κs = let s = c .before .before .before .before in (s .pre .0, s .pre .3, s .pre .4)
 
@@ -36,7 +33,7 @@ pub call-spec : {M : Type 1} → statement M
 call-spec =
     tie.close
     (tie.spec
-    is-plain-requires
+    (λ c κs. search needs)
     call-requires
     returns
     by-order-requires
