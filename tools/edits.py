@@ -100,6 +100,8 @@ class Source:
         self.path, self.text, self.plain = path, text, blank(text)
         self.functions, self.constants = [], []  # (name, start, body's start, body's end), (name, start, end)
         owner, owner_end = "", -1
+        # a constant of another crate, by the line that brings it in
+        self.constants += [(m[1], m.start(), m.end() - 1) for m in re.finditer(r"^use \w+::([A-Z_]+);", self.plain, re.M)]
         for m in re.finditer(r"\bimpl\s+(\w+)\s*\{|\bfn\s+(\w+)|\bconst\s+(\w+)\s*:", self.plain):
             if m.start() > owner_end:
                 owner = ""

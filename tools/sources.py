@@ -90,10 +90,9 @@ def cites(text):
 
 
 def spellings(name):
-    """How a declared or imported name is written where it is used: an operator by its parts."""
+    """How a declared or imported name is written where it is used: an operator by its parts, or whole."""
     if "_" in name.strip("_") or name.startswith("_") or name.endswith("_"):
-        parts = [p for p in name.split("_") if p]
-        return parts or [name]
+        return [p for p in name.split("_") if p] + [name]
     return [name]
 
 

@@ -2,6 +2,7 @@
 // side, `gauges` or `cases`, the budget of a batch with the number of repeats and the words of its buffer, at most 65,536, as one word of three numbers,
 // and `omit` or `reversed` as for crate `bench_runs`. It writes what that one writes: the number of ladders and a sum that depends on every row of each
 // and on their order.
+use file_text::Fields;
 use libc::STDIN_FILENO;
 use libc::STDOUT_FILENO;
 use preference::CaseOrder;
@@ -9,7 +10,6 @@ use preference::GaugeOrder;
 use refusals::Verdict;
 use runs::Outcome;
 use table::Table;
-use text::Fields;
 ghost use Prim.Native.Nat.{_+_, _≤_};
 ghost use lib.ListN.{length};
 
@@ -22,7 +22,7 @@ struct Tally {
 fn main() {
     let mut file = io::large_buffer();
     let n = io::read_full(STDIN_FILENO, &mut file);
-    let made = reader::read(&file[..n]);
+    let made = file_reader::read(&file[..n]);
     let verdict = made.verdict;
     let t = made.table;
     match verdict {
@@ -37,7 +37,7 @@ fn main() {
 fn answer(t: Table) {
     let mut word = [0u8; 64];
     let n = os::arg(2, &mut word);
-    let fields = text::fields_of(&word[..n]);
+    let fields = file_text::fields_of(&word[..n]);
     match fields {
         Fields::Three(budget, repeats, words) => tell(measured(t, budget, repeats, words)),
         _ => {
@@ -63,7 +63,7 @@ fn measured(t: Table, budget: u64, repeats: u64, words: u64) -> Tally {
 fn is_given(place: usize, wanted: &[u8]) -> bool {
     let mut word = [0u8; 64];
     let n = os::arg(place, &mut word);
-    text::same_bytes(&word[..n], wanted)
+    file_text::same_bytes(&word[..n], wanted)
 }
 
 fn tell(tally: Tally) {

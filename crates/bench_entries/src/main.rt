@@ -3,20 +3,21 @@
 // numbers. It writes a sum that depends on every answer: ladders and calls for `count`, the first row for `grow` and `read`, the length and a byte
 // for `write`. What is handed in differs from turn to turn, so that no call can be left out: `count` and `read` get a budget and a file that are
 // one shorter after an odd sum, `grow` a chain of one row, of each place in turn, `write` a buffer that was written before.
+use basics;
 use count::Count;
+use file_text::Fields;
+use file_writer::Written;
 use libc::STDIN_FILENO;
 use libc::STDOUT_FILENO;
 use preference::GaugeOrder;
 use refusals::Verdict;
 use table::Chain;
 use table::Table;
-use text::Fields;
-use writer::Written;
 
 fn main() {
     let mut file = io::large_buffer();
     let n = io::read_full(STDIN_FILENO, &mut file);
-    let made = reader::read(&file[..n]);
+    let made = file_reader::read(&file[..n]);
     let verdict = made.verdict;
     let t = made.table;
     match verdict {
@@ -31,7 +32,7 @@ fn main() {
 fn answer(file: &[u8], t: Table) {
     let mut word = [0u8; 64];
     let n = os::arg(2, &mut word);
-    let fields = text::fields_of(&word[..n]);
+    let fields = file_text::fields_of(&word[..n]);
     match fields {
         Fields::Two(budget, repeats) => tell(measured(file, t, budget, repeats)),
         _ => {
@@ -60,7 +61,7 @@ fn measured(file: &[u8], t: Table, budget: u64, repeats: u64) -> u64 {
 fn is_given(wanted: &[u8]) -> bool {
     let mut word = [0u8; 64];
     let n = os::arg(1, &mut word);
-    text::same_bytes(&word[..n], wanted)
+    file_text::same_bytes(&word[..n], wanted)
 }
 
 fn tell(sum: u64) {
@@ -136,7 +137,7 @@ fn read_once(file: &[u8], before: u64) -> u64 {
 }
 
 fn first_row(file: &[u8], before: u64) -> u64 {
-    let made = reader::read(file);
+    let made = file_reader::read(file);
     let t = made.table;
     let rows = t.rows;
     plus(before, rows[0])
@@ -154,7 +155,7 @@ fn repeat_write(t: Table, repeats: u64) -> u64 {
 }
 
 fn write_once(t: Table, space: &mut [u8], before: u64) -> u64 {
-    let answer = writer::write(t, space);
+    let answer = file_writer::write(t, space);
     match answer {
         Written::Length(n) => plus(plus(before, n as u64), byte_at(space, before)),
         Written::Refused(_) => before,
@@ -167,11 +168,7 @@ fn byte_at(space: &[u8], place: u64) -> u64 {
     if space.len() <= i {
         return 0;
     }
-    wide(space[i])
-}
-
-fn wide(b: u8) -> u64 {
-    b as u64
+    basics::wide(space[i])
 }
 
 fn plus(a: u64, b: u64) -> u64 {

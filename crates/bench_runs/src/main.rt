@@ -3,6 +3,7 @@
 // that omits the ladders with no essential pair, or `reversed` for one that prefers the last number to the first. It writes the number of
 // ladders and a sum that depends on every row of each and on their order. The plain lister in bench/plain.rs writes the same, never omits and
 // goes by number.
+use file_text::Fields;
 use libc::STDIN_FILENO;
 use libc::STDOUT_FILENO;
 use preference::CaseOrder;
@@ -11,7 +12,6 @@ use refusals::Verdict;
 use runs::Outcome;
 use table::Chain;
 use table::Table;
-use text::Fields;
 
 // The ladders so far, and their sum.
 struct Tally {
@@ -22,7 +22,7 @@ struct Tally {
 fn main() {
     let mut file = io::large_buffer();
     let n = io::read_full(STDIN_FILENO, &mut file);
-    let made = reader::read(&file[..n]);
+    let made = file_reader::read(&file[..n]);
     let verdict = made.verdict;
     let t = made.table;
     match verdict {
@@ -37,7 +37,7 @@ fn main() {
 fn answer(t: Table) {
     let mut word = [0u8; 64];
     let n = os::arg(2, &mut word);
-    let fields = text::fields_of(&word[..n]);
+    let fields = file_text::fields_of(&word[..n]);
     match fields {
         Fields::Two(budget, repeats) => tell(measured(t, budget, repeats)),
         _ => {
@@ -61,7 +61,7 @@ fn measured(t: Table, budget: u64, repeats: u64) -> Tally {
 fn is_given(place: usize, wanted: &[u8]) -> bool {
     let mut word = [0u8; 64];
     let n = os::arg(place, &mut word);
-    text::same_bytes(&word[..n], wanted)
+    file_text::same_bytes(&word[..n], wanted)
 }
 
 fn tell(tally: Tally) {

@@ -3,6 +3,7 @@
 -- for either side.
 use mathlib.Core.Path.{_≡_, refl, sym, ap, ap₂, _∙_, subst}
 use mathlib.Core.Logic.{_⊎_, inl, inr}
+use mathlib.Core.Bool.{Bool}
 use mathlib.Core.List.{List, [], _∷_, _++_, append-nil}
 use Prim.Native.Nat.{ℕ, _+_, _-_, _/_, _≤_, _<_}
 use native.Mathlib.Decide.{decLt}
@@ -17,14 +18,18 @@ use Rattle.lists.specs.OnTable.{handOut}
 use Rattle.runs.specs.Paused.{Value}
 use Rattle.runs.specs.Calling.{held, valueRefusal, PausedAt}
 use Rattle.runs.specs.Omitting.{movesOf}
-use Rattle.runs.specs.Batches.{Ending, denied, full, used, over, Batch, Tale, batchOn, Batched, CarriesBatch, Denied, Comes}
+use Rattle.runs.specs.Batches.{Ending, denied, full, used, over, ending, Batch, Tale, batchOn, Batched, CarriesBatch, Denied, Comes}
+use Rattle.runs.specs.Sides.{sideOf}
+use Rattle.runs.specs.declared.Outcome.{Outcome}
+use Rattle.runs.specs.declared.Outcome.the-variants.{HandedOut, Spent, End, Refused}
+use Rattle.runs.proofs.Marked.{at-side}
 use Rattle.runs.proofs.BatchSides.{not-denied}
 use Rattle.runs.proofs.BatchDeciding.{batched-cases, batch-reached}
 use Rattle.words.specs.Layouts.{Put}
 use Rattle.words.specs.Serving.{GivesTwo, ServedTwo}
 use Rattle.words.proofs.Answers.{left-zero}
 use Rattle.words.proofs.Back.{rows-size}
-use Rattle.run_words.specs.Values.{valueAt, valueWords}
+use Rattle.run_words.specs.Values.{sideWord, valueAt, valueWords, outcomeOf, refusedOf}
 use Rattle.run_words.proofs.ReadingBack.{Held, numbers-read, value-back}
 use Rattle.c_runs.proofs.Sides.{Startable}
 use Rattle.c_runs.proofs.Returned.{paused-held}
@@ -64,6 +69,19 @@ back-is out ys =
     ap (λ (z : List ℕ). take 3 out ++ (ys ++ z)) (drop-of-length-le (drop 3 out) {i = length out - 3} (omega (arith, length-drop 3 out)))
     ∙ ap (λ (z : List ℕ). take 3 out ++ z) (append-nil ys)
 
+-- the numbers of an outcome are those of how a batch stopped
+pub refused-ending : (o : Outcome) → refusedOf o ≡ refusalOf (ending o)
+refused-ending (Refused why) = refl
+refused-ending HandedOut = refl
+refused-ending Spent = refl
+refused-ending End = refl
+
+pub outcome-ending : (o : Outcome) → outcomeOf o ≡ stopOf (ending o)
+outcome-ending (Refused why) = refl
+outcome-ending HandedOut = refl
+outcome-ending Spent = refl
+outcome-ending End = refl
+
 pub put-batch : (out ys out′ : List ℕ) (b : Batch) (stop : ℕ) → 3 ≤ length out → length ys ≡ length (part out) → stop ≡ stopOf (b .ending)
     → Put (back out ys) 0 (stop ∷ (b .ladders ∷ (b .moves ∷ []))) out′ → Put out 0 (batchWords (record { batch = b; words = ys })) out′
 put-batch out ys out′ b stop long size e p = record {
@@ -73,13 +91,14 @@ put-batch out ys out′ b stop long size e p = record {
       ∙ head-over out ys (stopOf (b .ending)) (b .ladders) (b .moves) long (size ∙ ap length (part-is out));
 }
 
--- what the library promises of the part, of the value that the words read as
-pub batch-at : {side : Table → Side} {b : ℕ} {v : Value} {r : Batch} {ys : List ℕ} (out : List ℕ) (n : ℕ) (w : List ℕ) → v ≡ valueAt n w
-    → Batched side v b (part out) r ys → CarriesBatch side v (length (part out)) b → length ys ≡ length (part out)
-    → BatchCall side (valueAt n w) b (drop 3 out) (record { batch = r; words = ys })
-batch-at {side} {b} {v} {r} {ys} out n w e h c l =
-    subst (λ (u : Value). BatchCall side u b (drop 3 out) (record { batch = r; words = ys })) e
-    (subst (λ (l : List ℕ). BatchCall side v b l (record { batch = r; words = ys })) (part-is out) (record { batched = h; calls = c; long = l }))
+-- what the library promises of the part, of the mark and the value that the words read as
+pub batch-at : {k c : Bool} {b : ℕ} {v : Value} {r : Batch} {ys : List ℕ} (out w : List ℕ) → k ≡ c → v ≡ valueAt (sideWord c) w
+    → Batched (sideOf k) v b (part out) r ys → CarriesBatch (sideOf k) v (length (part out)) b → length ys ≡ length (part out)
+    → BatchCall (sideOf c) (valueAt (sideWord c) w) b (drop 3 out) (record { batch = r; words = ys })
+batch-at {k} {c} {b} {v} {r} {ys} out w d e h calls l =
+    at-side (λ side u. BatchCall side u b (drop 3 out) (record { batch = r; words = ys })) d e
+    (subst (λ (l : List ℕ). BatchCall (sideOf k) v b l (record { batch = r; words = ys })) (part-is out)
+    (record { batched = h; calls = calls; long = l }))
 
 -- ---- what is left reads as the batch
 ending-back : (e : Ending) → ((n : ℕ) → e ≡ denied n → ⊥) → endingRead (stopOf e) ≡ e

@@ -27,21 +27,10 @@ use Rattle.table.specs.Tables.{Legal, tableRows, chainRows, rowsFit, rowsWithin
 use Rattle.table.proofs.Legality.{ChainFacts, chain-facts, chain-within, length-rows, legal-cases}
 use Rattle.table.proofs.Padding.{pad-length}
 use Rattle.judge.specs.Judging.{judgement, Judged}
-use Rattle.judge.specs.private.RowTests.{allNested, allWidest}
 use Rattle.judge.specs.declared.Judgement.{Judgement}
 use Rattle.judge.specs.declared.Judgement.the-variants.{Yes, No, Refused}
-use Rattle.judge.proofs.NestedTest.{chain-of-test, test-of-chain}
-use Rattle.judge.proofs.Verdicts.{
-  judged-refused,
-  judged-yes,
-  judged-no,
-  judged-unique,
-  chain-yes,
-  chain-no,
-  maximal-no-chain,
-  maximal-yes,
-  maximal-no,
-}
+use Rattle.judge.proofs.NestedTest.{chain-dec}
+use Rattle.judge.proofs.Verdicts.{judged-refused, judged-yes, judged-no, judged-dec, judged-unique, maximal-dec}
 use Rattle.lists.specs.Arrangements.{IsArrangement}
 use Rattle.lists.specs.Lists.{gaugeSide, listKey}
 use Rattle.lists.specs.Growing.{FirstContaining}
@@ -62,7 +51,7 @@ use Rattle.essentials.specs.Answers.{pairRefusal, GivesConflicts}
 use Rattle.essentials.specs.private.Unions.{conflictRows}
 use Rattle.essentials.proofs.Answers.{pair-facts, gives, gives-refused, conflicts-unique}
 use Rattle.words.specs.Layouts.{tableAt, chainAt, numbersAt, chainWords}
-use Rattle.words.specs.Serving.{left}
+use Rattle.words.specs.Serving.{wordsAfter}
 use Rattle.words.proofs.Serving.{long-two, long-more}
 use Rattle.words.proofs.Back.{rows-size, numbers-size, chain-left}
 use Rattle.words.proofs.Answers.{short-dec, or-dec, gives-is, gives-exists, gives-unique}
@@ -103,22 +92,12 @@ judged-some n P (inr (x, e)) f = (Refused x, judged-refused x n e)
 
 module _ (t : Table) (s : Chain) (n : length (t .rows) ≡ 64) (m : length (s .rows) ≡ 64) where
   chain-judged : (j : Judgement) × Judged (chainRefusal t s) (IsChain (chainRows s)) j
-  chain-judged = judged-some (chainRefusal t s) (IsChain (chainRows s)) (chain-known t s) (λ e. go e (allNested (s .rows) (t .gauges)) refl)
-    where
-      go : chainRefusal t s ≡ 0 → (a : Bool) → allNested (s .rows) (t .gauges) ≡ a → (j : Judgement) × Judged (chainRefusal t s) (IsChain (chainRows s)) j
-      go e true p = (Yes, chain-yes t s e n m true (sym p) refl)
-      go e false p = (No, chain-no t s e n m false (sym p) refl)
+  chain-judged = judged-some (chainRefusal t s) (IsChain (chainRows s)) (chain-known t s) (λ e. judged-dec (chainRefusal t s) e (chain-dec (chainRows s)))
 
   ladder-judged : (j : Judgement) × Judged (chainRefusal t s) (IsMaximal (tableRows t) (chainRows s)) j
   ladder-judged =
       judged-some (chainRefusal t s) (IsMaximal (tableRows t) (chainRows s)) (chain-known t s) (λ e.
-      go e (allNested (s .rows) (t .gauges)) refl (allWidest (t .rows) (s .rows) (t .gauges)) refl)
-    where
-      go : chainRefusal t s ≡ 0 → (a : Bool) → allNested (s .rows) (t .gauges) ≡ a → (b : Bool) → allWidest (t .rows) (s .rows) (t .gauges) ≡ b
-          → (j : Judgement) × Judged (chainRefusal t s) (IsMaximal (tableRows t) (chainRows s)) j
-      go e false p b q = (No, maximal-no-chain t s e n m false (sym p) refl)
-      go e true p true q = (Yes, maximal-yes t s e n m true true (sym p) refl (sym q) refl)
-      go e true p false q = (No, maximal-no t s e n m true false (sym p) refl (sym q) refl)
+      judged-dec (chainRefusal t s) e (maximal-dec t s e n m))
 
 module _ (t s out : List ℕ) where
   judge-dec : Dec ((length t < 66) ⊎ ((length s < 65) ⊎ (length out < 1)))
@@ -130,7 +109,7 @@ module _ (t s out : List ℕ) where
   -- 66, 65 and 1 words are enough: it is the number and the word of the library's answer
   pub judges-served : (P : Table → Chain → Type 0) → 66 ≤ length t → 65 ≤ length s → 1 ≤ length out → (j : Judgement)
       → Judged (chainRefusal (tableAt 0 t) (chainAt 0 s)) (P (tableAt 0 t) (chainAt 0 s)) j → (out′ : List ℕ) (r : ℕ) → Judges P t s out out′ r
-      → (r ≡ judgement j .refusal) × (out′ ≡ left (judgement j .refusal) (yesNo (judgement j .value) ∷ []) out)
+      → (r ≡ judgement j .refusal) × (out′ ≡ wordsAfter (judgement j .refusal) (yesNo (judgement j .value) ∷ []) out)
   judges-served P lt ls lo =
       gives-is out (judged-unique (chainRefusal (tableAt 0 t) (chainAt 0 s)) (P (tableAt 0 t) (chainAt 0 s))) (long-more lt (long-two ls lo))
 
@@ -159,20 +138,12 @@ first-some t k s n l m z c = (
     arranged = preference-of (t .gauges) k (facts .legal .gauges-high) l (rw (passes-both t (t .gauges) k (grow-passes t k s z .0) .1) tt) .arranged
 
 extends-some : (t : Table) (k : List ℕ) (s : Chain) → length (t .rows) ≡ 64 → length k ≡ 64 → length (s .rows) ≡ 64 → (a : Answer Chain) × Extends t k s a
-extends-some t k s n l m = go (ℕ-discrete (growRefusal t k s) 0) (allNested (chainRows s) (length (chainRows s))) refl
+extends-some t k s n l m = go (ℕ-discrete (growRefusal t k s) 0) (chain-dec (chainRows s))
   where
-    go : Dec (growRefusal t k s ≡ 0) → (b : Bool) → allNested (chainRows s) (length (chainRows s)) ≡ b → (a : Answer Chain) × Extends t k s a
-    go (no z) b e = (refusedBy (growRefusal t k s), record { checked = λ _. refl; no-chain = λ y. absurd (z y); grown = λ y. absurd (z y) })
-    go (yes z) false e = (
-      refusedBy 14,
-      record {
-        checked = λ y. absurd (y z);
-        no-chain = λ _ _. refl;
-        grown = λ _ h. let x : true ≡ false = sym (test-of-chain (chainRows s) h) ∙ e in let y : _≡_ {A = ℕ} 0 1 = cc in absurd (omega arith);
-      },
-    )
-    go (yes z) true e =
-        let c : IsChain (chainRows s) = chain-of-test (chainRows s) e in
+    go : Dec (growRefusal t k s ≡ 0) → Dec (IsChain (chainRows s)) → (a : Answer Chain) × Extends t k s a
+    go (no z) d = (refusedBy (growRefusal t k s), record { checked = λ _. refl; no-chain = λ y. absurd (z y); grown = λ y. absurd (z y) })
+    go (yes z) (no c) = (refusedBy 14, record { checked = λ y. absurd (y z); no-chain = λ _ _. refl; grown = λ _ h. absurd (c h) })
+    go (yes z) (yes c) =
         let (x, f) = first-some t k s n l m z c in (
           record { refusal = 0; value = record { gauges = t .gauges; rows = padded x } },
           record {
@@ -185,16 +156,12 @@ extends-some t k s n l m = go (ℕ-discrete (growRefusal t k s) 0) (allNested (c
 -- an answer that is no refusal: the chain was one of the table, and the rows are those of the first maximal chain that contains it
 module _ (t : Table) (k : List ℕ) (s : Chain) (n : length (t .rows) ≡ 64) (a : Answer Chain) (x : Extends t k s a) (e : a .refusal ≡ 0) where
   grown-answer : (growRefusal t k s ≡ 0) × Grown t (orderOf (t .gauges) k) s a
-  grown-answer = go (ℕ-discrete (growRefusal t k s) 0) (allNested (chainRows s) (length (chainRows s))) refl
+  grown-answer = go (ℕ-discrete (growRefusal t k s) 0) (chain-dec (chainRows s))
     where
-      go : Dec (growRefusal t k s ≡ 0) → (b : Bool) → allNested (chainRows s) (length (chainRows s)) ≡ b
-          → (growRefusal t k s ≡ 0) × Grown t (orderOf (t .gauges) k) s a
-      go (no z) b d = absurd (z (sym (ap (λ (y : Answer Chain). y .refusal) (x .checked z)) ∙ e))
-      go (yes z) true d = (z, x .grown z (chain-of-test (chainRows s) d))
-      go (yes z) false d = absurd (omega (arith, e, ap (λ (y : Answer Chain). y .refusal) (x .no-chain z not-chain)))
-        where
-          not-chain : ¬ IsChain (chainRows s)
-          not-chain h = let y : true ≡ false = sym (test-of-chain (chainRows s) h) ∙ d in let w : _≡_ {A = ℕ} 0 1 = cc in omega arith
+      go : Dec (growRefusal t k s ≡ 0) → Dec (IsChain (chainRows s)) → (growRefusal t k s ≡ 0) × Grown t (orderOf (t .gauges) k) s a
+      go (no z) d = absurd (z (sym (ap (λ (y : Answer Chain). y .refusal) (x .checked z)) ∙ e))
+      go (yes z) (yes c) = (z, x .grown z c)
+      go (yes z) (no c) = absurd (omega (arith, e, ap (λ (y : Answer Chain). y .refusal) (x .no-chain z c)))
 
   grown-legal : Legal t
   grown-legal = chain-facts t s n (grow-passes t k s (grown-answer .0) .1) .legal
@@ -230,7 +197,7 @@ module _ (t o s out : List ℕ) where
 
   pub grows-served : 66 ≤ length t → 64 ≤ length o → 65 ≤ length s → 65 ≤ length out → (a : Answer Chain)
       → Extends (tableAt 0 t) (numbersAt 0 o) (chainAt 0 s) a → (out′ : List ℕ) (r : ℕ) → Grows t o s out out′ r
-      → (r ≡ a .refusal) × (out′ ≡ left (a .refusal) (chainWords (a .value)) out)
+      → (r ≡ a .refusal) × (out′ ≡ wordsAfter (a .refusal) (chainWords (a .value)) out)
   grows-served lt lo ls lw =
       gives-is out (extends-unique (tableAt 0 t) (numbersAt 0 o) (chainAt 0 s)) (long-more lt (long-more lo (long-two ls lw)))
 
@@ -264,7 +231,7 @@ module _ (t : List ℕ) (g c : ℕ) (out : List ℕ) where
   rivals-exist = let (a, p) = conflicts-made (tableAt 0 t) g c (rows-size 2 t) in gives-exists out conflict-dec a p
 
   pub rivals-served : 66 ≤ length t → 64 ≤ length out → (a : Answer (List ℕ)) → GivesConflicts (tableAt 0 t) g c a → (out′ : List ℕ) (r : ℕ)
-      → Conflicts t g c out out′ r → (r ≡ a .refusal) × (out′ ≡ left (a .refusal) (a .value) out)
+      → Conflicts t g c out out′ r → (r ≡ a .refusal) × (out′ ≡ wordsAfter (a .refusal) (a .value) out)
   rivals-served lt lo = gives-is out (conflicts-unique (tableAt 0 t) g c) (long-two lt lo)
 
 -- ---- deciding pairs
@@ -289,7 +256,7 @@ module _ (t : List ℕ) (g c : ℕ) (out : List ℕ) where
 
   pub decides-served : 66 ≤ length t → 1 ≤ length out → (j : Judgement)
       → Judged (pairRefusal (tableAt 0 t) g c) (Essential (tableRows (tableAt 0 t)) g c) j → (out′ : List ℕ) (r : ℕ) → Decides t g c out out′ r
-      → (r ≡ judgement j .refusal) × (out′ ≡ left (judgement j .refusal) (yesNo (judgement j .value) ∷ []) out)
+      → (r ≡ judgement j .refusal) × (out′ ≡ wordsAfter (judgement j .refusal) (yesNo (judgement j .value) ∷ []) out)
   decides-served lt lo =
       gives-is out (judged-unique (pairRefusal (tableAt 0 t) g c) (Essential (tableRows (tableAt 0 t)) g c)) (long-two lt lo)
 

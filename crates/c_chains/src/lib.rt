@@ -9,6 +9,10 @@ use refusals;
 use table::Case;
 use table::Gauge;
 use words;
+use words::CHAIN;
+use words::ORDER;
+use words::SHORT;
+use words::TABLE;
 ghost use mathlib.Core.Path.{_≡_};
 ghost use Rattle.table.specs.declared.Table.{Table};
 ghost use Rattle.table.specs.declared.Chain.{Chain};
@@ -17,16 +21,7 @@ ghost use Rattle.table.specs.Tables.{tableRows, chainRows};
 ghost use Rattle.judge.specs.Judging.{judgement};
 ghost use Rattle.c_chains.specs.Serving.{yesNo, Judges, Grows, Conflicts, Decides, ClaimsConflicts};
 
-// What is returned where a lent slice is shorter than its layout.
-const SHORT: u64 = 100;
-
-// The words of a table, of a chain, of an order, of a set of pairs, and of a yes or no.
-const TABLE: usize = 66;
-
-const CHAIN: usize = 65;
-
-const ORDER: usize = 64;
-
+// The words of a set of pairs, and of a yes or no.
 const PAIRS: usize = 64;
 
 const ANSWER: usize = 1;

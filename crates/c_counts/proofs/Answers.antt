@@ -22,7 +22,7 @@ use Rattle.count.proofs.Laws.{counts-only}
 use Rattle.samples.specs.Samples.{sampleRefusal, sampleTable}
 use Rattle.samples.proofs.Refusing.{sample-legal}
 use Rattle.words.specs.Layouts.{tableAt, numbersAt, tableWords}
-use Rattle.words.specs.Serving.{left}
+use Rattle.words.specs.Serving.{wordsAfter}
 use Rattle.words.proofs.Serving.{long, long-two, long-more}
 use Rattle.words.proofs.Answers.{short-dec, or-dec, gives-is, gives-exists, gives-unique}
 use Rattle.words.proofs.Back.{rows-size, numbers-size, table-left}
@@ -44,7 +44,7 @@ module _ (t o : List ℕ) (b : ℕ) (out : List ℕ) where
   -- 66, 64 and 3 words are enough: it is the number and the three words of the library's answer
   pub counts-served : 66 ≤ length t → 64 ≤ length o → 3 ≤ length out → (a : CountAnswer) → Counts (tableAt 0 t) (numbersAt 0 o) b a
       → (out′ : List ℕ) (r : ℕ) → CountsWords t o b out out′ r
-      → (r ≡ countNumber a) × (out′ ≡ left (countNumber a) (countKind a ∷ (countLadders a ∷ (countCalls a ∷ []))) out)
+      → (r ≡ countNumber a) × (out′ ≡ wordsAfter (countNumber a) (countKind a ∷ (countLadders a ∷ (countCalls a ∷ []))) out)
   counts-served lt lo lw = gives-is out (counts-only (tableAt 0 t) (numbersAt 0 o) b) (long-more lt (long-two lo lw))
 
 -- ---- samples
@@ -61,7 +61,7 @@ module _ (g l start density : ℕ) (out : List ℕ) where
 
   pub samples-served : 66 ≤ length out → (out′ : List ℕ) (r : ℕ) → Samples g l start density out out′ r
       → (r ≡ sampleTable g l start density .refusal)
-      × (out′ ≡ left (sampleTable g l start density .refusal) (tableWords (sampleTable g l start density .value)) out)
+      × (out′ ≡ wordsAfter (sampleTable g l start density .refusal) (tableWords (sampleTable g l start density .value)) out)
   samples-served k = gives-is out (λ x y p q. p ∙ sym q) (long k) (sampleTable g l start density) refl
 
   module _ (out′ : List ℕ) (r : ℕ) (z : r ≡ 0) (h : Samples g l start density out out′ r) where

@@ -6,19 +6,15 @@ use preference::GaugeOrder;
 use refusals;
 use samples;
 use words;
+use words::ORDER;
+use words::SHORT;
+use words::TABLE;
 ghost use mathlib.Core.Path.{_≡_};
-ghost use Rattle.count.specs.Counting.{countAnswer};
+ghost use Rattle.count.specs.Counting.{countSays};
 ghost use Rattle.samples.specs.Samples.{SampleClaims};
 ghost use Rattle.c_counts.specs.Serving.{countNumber, countKind, countLadders, countCalls, CountsWords, Samples};
 
-// What is returned where a lent slice is shorter than its layout.
-const SHORT: u64 = 100;
-
-// The words of a table, of an order, and of a count.
-const TABLE: usize = 66;
-
-const ORDER: usize = 64;
-
+// The words of a count.
 const COUNT: usize = 3;
 
 // How many ladders the table has, by at most `budget` calls.
@@ -68,7 +64,7 @@ pub fn sample(gauges: u64, cases: u64, start: u64, density: u64, table: &mut [u6
 
 // The number of the refusal that an answer is, else 0.
 fn count_number(counted: Count) -> u64
-    ensures { λ r. ⌜ r ≡ countNumber (countAnswer counted) ⌝ }
+    ensures { λ r. ⌜ r ≡ countNumber (countSays counted) ⌝ }
 {
     match counted {
         Count::Refused(why) => refusals::refusal_number(why),
@@ -79,7 +75,7 @@ fn count_number(counted: Count) -> u64
 
 // 1 where the ladders were counted, 2 where the budget was spent.
 fn count_kind(counted: Count) -> u64
-    ensures { λ r. ⌜ r ≡ countKind (countAnswer counted) ⌝ }
+    ensures { λ r. ⌜ r ≡ countKind (countSays counted) ⌝ }
 {
     match counted {
         Count::Refused(why) => 0,
@@ -89,7 +85,7 @@ fn count_kind(counted: Count) -> u64
 }
 
 fn count_of_ladders(counted: Count) -> u64
-    ensures { λ r. ⌜ r ≡ countLadders (countAnswer counted) ⌝ }
+    ensures { λ r. ⌜ r ≡ countLadders (countSays counted) ⌝ }
 {
     match counted {
         Count::Refused(why) => 0,
@@ -99,7 +95,7 @@ fn count_of_ladders(counted: Count) -> u64
 }
 
 fn count_of_calls(counted: Count) -> u64
-    ensures { λ r. ⌜ r ≡ countCalls (countAnswer counted) ⌝ }
+    ensures { λ r. ⌜ r ≡ countCalls (countSays counted) ⌝ }
 {
     match counted {
         Count::Refused(why) => 0,

@@ -15,6 +15,7 @@ use lib.Dec.{eqb, ltb}
 use lib.ListN.{length, take, drop, getD, set, replicate, length-append, length-map, length-replicate, List·getD-append}
 use lib.Seq.{sets as stored, sets-eq, length-sets, length-take-le, getD-set-other}
 use borrow.Author.Tests.{eq-eqb, ne-eqb, lt-ltb}
+use Rattle.basics.proofs.Clash.{clash}
 use Rattle.sets.proofs.Tabulated.{getD-tabulate}
 use Rattle.table.specs.declared.Table.{Table}
 use Rattle.table.specs.declared.Chain.{Chain}
@@ -103,7 +104,7 @@ few-gauges t b n e = go (decLt mostSide (t .gauges))
         let d : true ≡ false =
         sym (lt-ltb mostSide (t .gauges) l)
         ∙ few-by (tableRefusal t) (ltb mostTried b) (ltb mostSide (t .gauges)) (ltb mostSide (t .cases)) (ltb mostLadders n) e in
-        let z : _≡_ {A = ℕ} 0 1 = cc in absurd (omega arith)
+        clash cc
     go (no l) = omega arith
 
 module _ (t : Table) (b : ℕ) (size : length (t .rows) ≡ 64) (a : Reading) (c : Covers t b a) (z : replyNumber (a .reply) ≡ 0) where

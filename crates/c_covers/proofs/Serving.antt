@@ -4,7 +4,6 @@ use mathlib.Core.Logic.{_⊎_}
 use mathlib.Core.List.{List, [], _∷_}
 use Prim.Native.Nat.{ℕ, _<_}
 use lib.ListN.{length}
-use lib.Seq.{sets as stored}
 use borrow.Author.Tests.{ne-eqb}
 use Rattle.table.specs.declared.Table.{Table}
 use Rattle.mechanisms.specs.Covering.{Reading, Covers}

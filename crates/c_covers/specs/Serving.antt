@@ -13,15 +13,15 @@ use lib.ListN.{length}
 use lib.Seq.{sets as stored}
 use Rattle.table.specs.declared.Table.{Table}
 use Rattle.table.specs.declared.Chain.{Chain}
-use Rattle.mechanisms.specs.Covering.{Reply, covered, spent, refused, Reading, Covers}
+use Rattle.mechanisms.specs.Covering.{CoverReply, covered, spent, refused, Reading, Covers}
 use Rattle.words.specs.Layouts.{tableAt, chainWords}
 
-abbrev pub replyNumber : Reply → ℕ
+abbrev pub replyNumber : CoverReply → ℕ
 replyNumber covered = 0
 replyNumber spent = 0
 replyNumber (refused n) = n
 
-abbrev pub replyKind : Reply → ℕ
+abbrev pub replyKind : CoverReply → ℕ
 replyKind covered = 1
 replyKind spent = 2
 replyKind (refused n) = 0

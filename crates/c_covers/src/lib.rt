@@ -5,16 +5,13 @@ use mechanisms::CoverOutcome;
 use refusals;
 use table::Chain;
 use words;
+use words::SHORT;
+use words::TABLE;
 ghost use mathlib.Core.Path.{_≡_};
-ghost use Rattle.mechanisms.specs.Covering.{replies};
+ghost use Rattle.mechanisms.specs.Covering.{coverOutcomeSays};
 ghost use Rattle.c_covers.specs.Serving.{replyNumber, replyKind, PutChains, CoversWords};
 
-// What is returned where a lent slice is shorter than its layout.
-const SHORT: u64 = 100;
-
-// The words of a table, and of a cover.
-const TABLE: usize = 66;
-
+// The words of a cover.
 const COVER: usize = 523;
 
 // The chains of a cover, where they start, and the words of each.
@@ -65,7 +62,7 @@ fn put_chains(out: &mut [u64], chains: [Chain; 8])
 
 // The number of the refusal that an outcome is, else 0.
 fn outcome_number(outcome: CoverOutcome) -> u64
-    ensures { λ r. ⌜ r ≡ replyNumber (replies outcome) ⌝ }
+    ensures { λ r. ⌜ r ≡ replyNumber (coverOutcomeSays outcome) ⌝ }
 {
     match outcome {
         CoverOutcome::Refused(why) => refusals::refusal_number(why),
@@ -76,7 +73,7 @@ fn outcome_number(outcome: CoverOutcome) -> u64
 
 // 1 where a cover was found, 2 where the budget was spent.
 fn outcome_kind(outcome: CoverOutcome) -> u64
-    ensures { λ r. ⌜ r ≡ replyKind (replies outcome) ⌝ }
+    ensures { λ r. ⌜ r ≡ replyKind (coverOutcomeSays outcome) ⌝ }
 {
     match outcome {
         CoverOutcome::Refused(why) => 0,

@@ -15,10 +15,10 @@ use native.Mathlib.Omega.{arith}
 use lib.Dec.{eqb}
 use lib.ListN.{length}
 use Rattle.table.specs.Tables.{Legal}
-use Rattle.reader.specs.Promises.{TableOfFile, LineOfFile}
-use Rattle.reader.specs.private.Reading.{readFile, commentAt}
-use Rattle.reader.specs.private.Stopping.{stopLine}
-use Rattle.reader.proofs.Promising.{
+use Rattle.file_reader.specs.Promises.{TableOfFile, LineOfFile}
+use Rattle.file_reader.specs.private.Reading.{readFile, commentAt}
+use Rattle.file_reader.specs.private.Stopping.{stopLine}
+use Rattle.file_reader.proofs.Promising.{
   table-of-file,
   table-of-file-unique,
   line-of-file,
@@ -26,9 +26,9 @@ use Rattle.reader.proofs.Promising.{
   comment-of-file,
   comment-of-file-unique,
 }
-use Rattle.writer.specs.Writing.{writeAnswer, bufferAfter}
+use Rattle.file_writer.specs.Writing.{writeAnswer, bufferAfter}
 use Rattle.words.specs.Layouts.{tableAt, tableWords}
-use Rattle.words.specs.Serving.{left}
+use Rattle.words.specs.Serving.{wordsAfter}
 use Rattle.words.proofs.Serving.{long, long-two}
 use Rattle.words.proofs.Answers.{short-dec, or-dec, gives-is, gives-exists, gives-unique}
 use Rattle.words.proofs.Back.{table-left, rows-size}
@@ -46,7 +46,7 @@ module _ (file out : List ℕ) where
 
   -- 66 words are enough
   pub reads-served : 66 ≤ length out → (out′ : List ℕ) (r : ℕ) → Reads file out out′ r
-      → (r ≡ readFile file .refusal) × (out′ ≡ left (readFile file .refusal) (tableWords (readFile file .value)) out)
+      → (r ≡ readFile file .refusal) × (out′ ≡ wordsAfter (readFile file .refusal) (tableWords (readFile file .value)) out)
   reads-served l = gives-is out (table-of-file-unique file) (long l) (readFile file) (table-of-file file (readFile file) refl)
 
   -- the table in the words is that of the file
@@ -69,7 +69,7 @@ module _ (file : List ℕ) (either : ℕ) (out : List ℕ) where
 
   -- 1 word is enough, and no file is refused: the word is the line that decides
   pub locates-served : 1 ≤ length out → (out′ : List ℕ) (r : ℕ) → Locates file either out out′ r → (n : ℕ) → LineOfFile (not (eqb either 0)) file n
-      → (r ≡ 0) × (out′ ≡ left 0 (n ∷ []) out)
+      → (r ≡ 0) × (out′ ≡ wordsAfter 0 (n ∷ []) out)
   locates-served l out′ r g n x = gives-is out (line-of-file-unique (not (eqb either 0)) file) (long l) n x out′ r g
 
 -- ---- comments
@@ -81,7 +81,8 @@ module _ (file : List ℕ) (k : ℕ) (out : List ℕ) where
   comment-exists = gives-exists out (short-dec out 2) (commentAt file k) (comment-of-file file k (commentAt file k) refl)
 
   pub comment-served : 2 ≤ length out → (out′ : List ℕ) (r : ℕ) → ShowsComment file k out out′ r
-      → (r ≡ commentAt file k .refusal) × (out′ ≡ left (commentAt file k .refusal) (commentAt file k .value .start ∷ (commentAt file k .value .len ∷ [])) out)
+      → (r ≡ commentAt file k .refusal) × (out′ ≡ wordsAfter (commentAt file k .refusal)
+      (commentAt file k .value .start ∷ (commentAt file k .value .len ∷ [])) out)
   comment-served l = gives-is out (comment-of-file-unique file k) (long l) (commentAt file k) (comment-of-file file k (commentAt file k) refl)
 
 -- ---- writing
@@ -99,7 +100,7 @@ module _ (t bytes len : List ℕ) where
           (a1 ∙ sym a2, c1 ∙ sym c2, r1 ∙ sym r2)
       go (no s) = (
         x .file ∙ sym (y .file),
-        x .size ∙ ap (λ (n : ℕ). left n (writeAnswer (tableAt 0 t) (length bytes) .value ∷ []) len) same ∙ sym (y .size),
+        x .size ∙ ap (λ (n : ℕ). wordsAfter n (writeAnswer (tableAt 0 t) (length bytes) .value ∷ []) len) same ∙ sym (y .size),
         same,
       )
         where
@@ -119,7 +120,7 @@ module _ (t bytes len : List ℕ) where
       go (yes s) = (bytes, len, 100, writes-short t bytes len s)
       go (no s) = (
         bufferAfter (tableAt 0 t) bytes,
-        left (writeAnswer (tableAt 0 t) (length bytes) .refusal) (writeAnswer (tableAt 0 t) (length bytes) .value ∷ []) len,
+        wordsAfter (writeAnswer (tableAt 0 t) (length bytes) .refusal) (writeAnswer (tableAt 0 t) (length bytes) .value ∷ []) len,
         writeAnswer (tableAt 0 t) (length bytes) .refusal,
         record {
           short = λ y. absurd (s y);

@@ -8,8 +8,8 @@ use native.Mathlib.Omega.{arith}
 use lib.ListN.{length, take}
 use lib.Seq.{getD-set-same}
 use Rattle.table.specs.declared.Table.{Table}
-use Rattle.reader.proofs.Promising.{table-of-file-unique}
-use Rattle.writer.specs.Writing.{writeAnswer}
+use Rattle.file_reader.proofs.Promising.{table-of-file-unique}
+use Rattle.file_writer.specs.Writing.{writeAnswer}
 use Rattle.round_trip.specs.Back.{TableBack}
 use Rattle.round_trip.proofs.Written.{table-back-read}
 use Rattle.words.specs.Layouts.{wordAt, tableAt}

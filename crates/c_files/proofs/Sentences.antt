@@ -16,10 +16,10 @@ use lib.Seq.{sets as stored}
 use borrow.Author.Tests.{eq-eqb, ne-eqb}
 use Rattle.table.specs.declared.Table.{Table}
 use Rattle.table.specs.Tables.{tableRefusal}
-use Rattle.writer.specs.Writing.{writeFile, writeAnswer, roomRefusal, roomAnswer, roomBuffer}
-use Rattle.writer.proofs.Files.{too-short, long-enough}
+use Rattle.file_writer.specs.Writing.{writeFile, writeAnswer, roomRefusal, roomAnswer, roomBuffer}
+use Rattle.file_writer.proofs.Files.{too-short, long-enough}
 use Rattle.round_trip.specs.Back.{TableBack}
-use Rattle.words.specs.Serving.{left}
+use Rattle.words.specs.Serving.{wordsAfter}
 use Rattle.words.proofs.Serving.{left-refused}
 use Rattle.words.proofs.Answers.{left-zero}
 use Rattle.c_files.specs.Serving.{WrittenTable, WritesTable}
@@ -46,7 +46,7 @@ module _ (k : ℕ) (file bytes : List ℕ) (r : ℕ) (n : r ≡ roomRefusal k fi
   room-filled bytes′ e z =
       e ∙ ap (λ (b : Bool). cond b (file ++ drop (length file) bytes) bytes) (eq-eqb (roomRefusal k file (length bytes)) 0 (sym n ∙ z))
 
-  pub room-sized : (len len′ : List ℕ) → len′ ≡ left r (roomAnswer k file (length bytes) .value ∷ []) len → r ≡ 0 → len′ ≡ stored len 0 (length file ∷ [])
+  pub room-sized : (len len′ : List ℕ) → len′ ≡ wordsAfter r (roomAnswer k file (length bytes) .value ∷ []) len → r ≡ 0 → len′ ≡ stored len 0 (length file ∷ [])
   room-sized len len′ e z =
       e ∙ left-zero r (roomAnswer k file (length bytes) .value ∷ []) len z
       ∙ ap (λ (b : Bool). stored len 0 (cond b (length file) 0 ∷ [])) (eq-eqb (roomRefusal k file (length bytes)) 0 (sym n ∙ z))

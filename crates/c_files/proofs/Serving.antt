@@ -7,7 +7,7 @@ use lib.ListN.{length, take}
 use lib.Seq.{sets as stored}
 use Rattle.refusals.specs.Answers.{Answer}
 use Rattle.table.specs.declared.Table.{Table}
-use Rattle.writer.specs.Writing.{writeAnswer, bufferAfter}
+use Rattle.file_writer.specs.Writing.{writeAnswer, bufferAfter}
 use Rattle.words.specs.Layouts.{tableAt, Put}
 use Rattle.words.proofs.Serving.{left-refused}
 use Rattle.words.proofs.Back.{rows-size}

@@ -10,12 +10,12 @@ use lib.Dec.{eqb}
 use lib.ListN.{length, take}
 use Rattle.refusals.specs.Answers.{Answer}
 use Rattle.table.specs.declared.Table.{Table}
-use Rattle.reader.specs.Comments.{Part}
-use Rattle.reader.specs.Promises.{TableOfFile, LineOfFile, CommentOfFile}
-use Rattle.writer.specs.Writing.{writeAnswer, bufferAfter}
+use Rattle.file_reader.specs.Comments.{Part}
+use Rattle.file_reader.specs.Promises.{TableOfFile, LineOfFile, CommentOfFile}
+use Rattle.file_writer.specs.Writing.{writeAnswer, bufferAfter}
 use Rattle.round_trip.specs.Back.{TableBack}
 use Rattle.words.specs.Layouts.{tableAt, tableWords}
-use Rattle.words.specs.Serving.{left, Gives}
+use Rattle.words.specs.Serving.{wordsAfter, Gives}
 
 -- the table of a file of pairs
 abbrev pub Reads : List ℕ → List ℕ → List ℕ → ℕ → Type 0
@@ -55,7 +55,7 @@ ShowsComment file k out out′ r =
 pub record WrittenTable (t : Table) (bytes len bytes′ len′ : List ℕ) (r : ℕ) : Type 0 where
   pub number : r ≡ writeAnswer t (length bytes) .refusal
   pub file : bytes′ ≡ bufferAfter t bytes
-  pub size : len′ ≡ left r (writeAnswer t (length bytes) .value ∷ []) len
+  pub size : len′ ≡ wordsAfter r (writeAnswer t (length bytes) .value ∷ []) len
   pub back : r ≡ 0 → TableBack t (take (writeAnswer t (length bytes) .value) bytes′)
 
 pub record WritesTable (t bytes len bytes′ len′ : List ℕ) (r : ℕ) : Type 0 where

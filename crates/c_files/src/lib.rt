@@ -1,23 +1,20 @@
 // Reading and writing files of pairs, finding the line that decides and looking up comments, on lent words and bytes: what the C library's entries of these
 // names do. Any slices are taken: a slice of words shorter than its layout is refused with 100 before anything else, and a refusal leaves all lent memory
 // as it was. No function has a `requires`.
-use reader;
-use reader::Found;
+use file_reader;
+use file_reader::Found;
+use file_writer;
+use file_writer::Written;
 use refusals;
 use words;
-use writer;
-use writer::Written;
+use words::SHORT;
+use words::TABLE;
 ghost use mathlib.Core.Path.{_≡_};
-ghost use Rattle.reader.specs.Comments.{found as foundAs};
-ghost use Rattle.writer.specs.Writing.{written as writtenAs};
+ghost use Rattle.file_reader.specs.Comments.{found as foundAs};
+ghost use Rattle.file_writer.specs.Writing.{written as writtenAs};
 ghost use Rattle.c_files.specs.Serving.{Reads, Locates, ShowsComment, WritesTable};
 
-// What is returned where a lent slice is shorter than its layout.
-const SHORT: u64 = 100;
-
-// The words of a table, of a comment's place, and of a length or a line's number.
-const TABLE: usize = 66;
-
+// The words of a comment's place, and of a length or a line's number.
 const SPAN: usize = 2;
 
 const LENGTH: usize = 1;
@@ -29,7 +26,7 @@ pub fn read(file: &[u8], table: &mut [u64]) -> u64
     if table.len() < TABLE {
         return SHORT;
     }
-    let made = reader::read(file);
+    let made = file_reader::read(file);
     let verdict = made.verdict;
     let n = words::verdict_number(verdict);
     if n != 0 {
@@ -48,7 +45,7 @@ pub fn locate(file: &[u8], either: u64, line: &mut [u64]) -> u64
     if line.len() < LENGTH {
         return SHORT;
     }
-    let n = reader::locate(file, either != 0);
+    let n = file_reader::locate(file, either != 0);
     words::put_word(line, 0, n);
     0
 }
@@ -60,7 +57,7 @@ pub fn comment(file: &[u8], k: u64, span: &mut [u64]) -> u64
     if span.len() < SPAN {
         return SHORT;
     }
-    let place = reader::comment_at(file, k);
+    let place = file_reader::comment_at(file, k);
     let n = found_number(place);
     if n != 0 {
         return n;
@@ -81,7 +78,7 @@ pub fn write(table: &[u64], bytes: &mut [u8], length: &mut [u64]) -> u64
         return SHORT;
     }
     let t = words::table_at(table, 0);
-    let written = writer::write(t, bytes);
+    let written = file_writer::write(t, bytes);
     let n = written_number(written);
     if n != 0 {
         return n;

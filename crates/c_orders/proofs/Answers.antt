@@ -14,17 +14,18 @@ use lib.ListN.{length, drop}
 use Rattle.refusals.specs.Answers.{Answer}
 use Rattle.table.specs.declared.Table.{Table}
 use Rattle.table.specs.declared.Chain.{Chain}
-use Rattle.table.specs.Tables.{chainRefusal}
-use Rattle.judge.specs.private.RowTests.{allNested, allWidest}
+use Rattle.table.specs.Chains.{IsChain, IsMaximal}
+use Rattle.table.specs.Tables.{tableRows, chainRows, chainRefusal}
 use Rattle.judge.specs.declared.Judgement.the-variants.{Yes, No}
-use Rattle.judge.proofs.Verdicts.{chain-yes as is-chain, chain-no as no-chain, maximal-no-chain, maximal-yes, maximal-no}
-use Rattle.orders.specs.Adding.{pairBytes}
+use Rattle.judge.proofs.NestedTest.{chain-dec}
+use Rattle.judge.proofs.Verdicts.{judged-yes, judged-no, maximal-dec}
+use Rattle.pair_orders.specs.Adding.{pairBytes}
 use Rattle.wiring.specs.Wiring.{Wires}
 use Rattle.wiring.specs.private.Steps.{LadderChecked, Checked, includes}
 use Rattle.wiring.proofs.Checking.{ladder-no, ladder-lacks, ladder-yes, chain-no, chain-yes}
 use Rattle.wiring.proofs.Answers.{Plan, plan, wires-unique}
 use Rattle.words.specs.Layouts.{tableAt, chainAt}
-use Rattle.words.specs.Serving.{left}
+use Rattle.words.specs.Serving.{wordsAfter}
 use Rattle.words.proofs.Serving.{long-two, long-more}
 use Rattle.words.proofs.Answers.{short-dec, or-dec}
 use Rattle.words.proofs.Back.{rows-size}
@@ -47,7 +48,7 @@ module _ (t s x bytes count : List ℕ) where
           (a1 ∙ sym a2, c1 ∙ sym c2, r1 ∙ sym r2)
       go (no l) = (
         same .1,
-        u .counted ∙ ap₂ (λ (n : ℕ) (e : Answer ℕ). left n (e .value ∷ []) count) number (same .0) ∙ sym (v .counted),
+        u .counted ∙ ap₂ (λ (n : ℕ) (e : Answer ℕ). wordsAfter n (e .value ∷ []) count) number (same .0) ∙ sym (v .counted),
         number,
       )
         where
@@ -69,22 +70,14 @@ module _ (t : Table) (s x : Chain) (nt : length (t .rows) ≡ 64) (ns : length (
   ladder-some : chainRefusal t s ≡ 0 → (n : ℕ) × LadderChecked t s x n
   ladder-some es = go (ℕ-discrete (chainRefusal t x) 0)
     where
-      held : (ex : chainRefusal t x ≡ 0) → allNested (x .rows) (t .gauges) ≡ true → allWidest (t .rows) (x .rows) (t .gauges) ≡ true → (b : Bool)
-          → includes (x .rows) (s .rows) (t .gauges) ≡ b → (n : ℕ) × LadderChecked t s x n
-      held ex p q true i = (0, ladder-yes t s x Yes (maximal-yes t x ex nt nx true true (sym p) refl (sym q) refl) refl nt ns nx es true (sym i) refl)
-      held ex p q false i = (25, ladder-lacks t s x Yes (maximal-yes t x ex nt nx true true (sym p) refl (sym q) refl) refl nt ns nx es false (sym i) refl)
-
-      wide : (ex : chainRefusal t x ≡ 0) → allNested (x .rows) (t .gauges) ≡ true → (b : Bool) → allWidest (t .rows) (x .rows) (t .gauges) ≡ b
+      held : (ex : chainRefusal t x ≡ 0) → Dec (IsMaximal (tableRows t) (chainRows x)) → (b : Bool) → includes (x .rows) (s .rows) (t .gauges) ≡ b
           → (n : ℕ) × LadderChecked t s x n
-      wide ex p true q = held ex p q (includes (x .rows) (s .rows) (t .gauges)) refl
-      wide ex p false q = (25, ladder-no t s x No (maximal-no t x ex nt nx true false (sym p) refl (sym q) refl) refl)
-
-      nested : (ex : chainRefusal t x ≡ 0) → (b : Bool) → allNested (x .rows) (t .gauges) ≡ b → (n : ℕ) × LadderChecked t s x n
-      nested ex true p = wide ex p (allWidest (t .rows) (x .rows) (t .gauges)) refl
-      nested ex false p = (25, ladder-no t s x No (maximal-no-chain t x ex nt nx false (sym p) refl) refl)
+      held ex (no f) b i = (25, ladder-no t s x No (judged-no (chainRefusal t x) ex f) refl)
+      held ex (yes m) true i = (0, ladder-yes t s x Yes (judged-yes (chainRefusal t x) ex m) refl nt ns nx es true (sym i) refl)
+      held ex (yes m) false i = (25, ladder-lacks t s x Yes (judged-yes (chainRefusal t x) ex m) refl nt ns nx es false (sym i) refl)
 
       go : Dec (chainRefusal t x ≡ 0) → (n : ℕ) × LadderChecked t s x n
-      go (yes ex) = nested ex (allNested (x .rows) (t .gauges)) refl
+      go (yes ex) = held ex (maximal-dec t x ex nt nx) (includes (x .rows) (s .rows) (t .gauges)) refl
       go (no z) = (
         chainRefusal t x,
         record {
@@ -98,12 +91,12 @@ module _ (t : Table) (s x : Chain) (nt : length (t .rows) ≡ 64) (ns : length (
   checks-some : (n : ℕ) × Checked t s x n
   checks-some = go (ℕ-discrete (chainRefusal t s) 0)
     where
-      nested : chainRefusal t s ≡ 0 → (b : Bool) → allNested (s .rows) (t .gauges) ≡ b → (n : ℕ) × Checked t s x n
-      nested es true p = let (n, l) = ladder-some es in (n, chain-yes t s x Yes (is-chain t s es nt ns true (sym p) refl) refl n l)
-      nested es false p = (14, chain-no t s x No (no-chain t s es nt ns false (sym p) refl) refl)
+      chained : chainRefusal t s ≡ 0 → Dec (IsChain (chainRows s)) → (n : ℕ) × Checked t s x n
+      chained es (yes c) = let (n, l) = ladder-some es in (n, chain-yes t s x Yes (judged-yes (chainRefusal t s) es c) refl n l)
+      chained es (no f) = (14, chain-no t s x No (judged-no (chainRefusal t s) es f) refl)
 
       go : Dec (chainRefusal t s ≡ 0) → (n : ℕ) × Checked t s x n
-      go (yes es) = nested es (allNested (s .rows) (t .gauges)) refl
+      go (yes es) = chained es (chain-dec (chainRows s))
       go (no z) = (
         chainRefusal t s,
         record {
@@ -173,7 +166,7 @@ orders-exists t s x bytes count = go (order-dec t s x bytes count)
     go (no l) =
         let (a, after, w) = wires-some (tableAt 0 t) (chainAt 0 s) (chainAt 0 x) (rows-size 2 t) (rows-size 1 s) (rows-size 1 x) bytes in (
           after,
-          left (a .refusal) (a .value ∷ []) count,
+          wordsAfter (a .refusal) (a .value ∷ []) count,
           a .refusal,
           record { short = λ y. absurd (l y); served = λ _. record { answer = a; wires = w; number = refl; counted = refl } },
         )
@@ -181,9 +174,9 @@ orders-exists t s x bytes count = go (order-dec t s x bytes count)
 -- 66, 65, 65 and 1 words are enough: it is the number, the count and the bytes of the library's answer
 pub orders-served : (t s x bytes count : List ℕ) → 66 ≤ length t → 65 ≤ length s → 65 ≤ length x → 1 ≤ length count → (a : Answer ℕ) (after : List ℕ)
     → Wires (tableAt 0 t) (chainAt 0 s) (chainAt 0 x) bytes a after → (bytes′ count′ : List ℕ) (r : ℕ) → OrdersWords t s x bytes count bytes′ count′ r
-    → (bytes′ ≡ after) × (count′ ≡ left (a .refusal) (a .value ∷ []) count) × (r ≡ a .refusal)
+    → (bytes′ ≡ after) × (count′ ≡ wordsAfter (a .refusal) (a .value ∷ []) count) × (r ≡ a .refusal)
 orders-served t s x bytes count lt ls lx lc a after w bytes′ count′ r g =
-    orders-unique t s x bytes count bytes′ after count′ (left (a .refusal) (a .value ∷ []) count) r (a .refusal) g (record {
+    orders-unique t s x bytes count bytes′ after count′ (wordsAfter (a .refusal) (a .value ∷ []) count) r (a .refusal) g (record {
       short = λ y. absurd (long-more lt (long-more ls (long-two lx lc)) y);
       served = λ _. record { answer = a; wires = w; number = refl; counted = refl };
     })

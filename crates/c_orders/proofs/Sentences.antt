@@ -16,7 +16,7 @@ use Rattle.table.specs.declared.Table.{Table}
 use Rattle.table.specs.declared.Chain.{Chain}
 use Rattle.table.specs.Tables.{chainRows}
 use Rattle.pairs.specs.PairOrder.{Pair}
-use Rattle.orders.specs.Adding.{FirstOrder, pairBytes}
+use Rattle.pair_orders.specs.Adding.{FirstOrder, pairBytes}
 use Rattle.wiring.specs.Wiring.{Checks, Refuses, WritesOrder, Wires}
 use Rattle.words.proofs.Serving.{left-refused}
 use Rattle.words.proofs.Answers.{left-zero}

@@ -12,13 +12,13 @@ use Rattle.table.specs.declared.Table.{Table}
 use Rattle.table.specs.declared.Chain.{Chain}
 use Rattle.wiring.specs.Wiring.{Wires}
 use Rattle.words.specs.Layouts.{tableAt, chainAt}
-use Rattle.words.specs.Serving.{left}
+use Rattle.words.specs.Serving.{wordsAfter}
 
 pub record OrderedWords (t : Table) (s x : Chain) (bytes count bytes′ count′ : List ℕ) (r : ℕ) : Type 0 where
   pub answer : Answer ℕ
   pub wires : Wires t s x bytes answer bytes′
   pub number : r ≡ answer .refusal
-  pub counted : count′ ≡ left r (answer .value ∷ []) count
+  pub counted : count′ ≡ wordsAfter r (answer .value ∷ []) count
 
 -- a slice of words is shorter than its layout
 abbrev pub ShortOrder : List ℕ → List ℕ → List ℕ → List ℕ → Type 0

@@ -5,19 +5,15 @@ use refusals;
 use wiring;
 use wiring::Ordered;
 use words;
+use words::CHAIN;
+use words::SHORT;
+use words::TABLE;
 ghost use mathlib.Core.Path.{_≡_};
-ghost use Rattle.orders.specs.Adding.{OrderClaims};
+ghost use Rattle.pair_orders.specs.Adding.{OrderClaims};
 ghost use Rattle.wiring.specs.Wiring.{ordered as orderedAs};
 ghost use Rattle.c_orders.specs.Serving.{OrdersWords};
 
-// What is returned where a lent slice is shorter than its layout.
-const SHORT: u64 = 100;
-
-// The words of a table, of a chain, and of a count.
-const TABLE: usize = 66;
-
-const CHAIN: usize = 65;
-
+// The words of a count.
 const COUNT: usize = 1;
 
 // Writes to the front of `bytes` the pairs that the chain lacks of the ladder, two bytes a pair, and their number to `count`.

@@ -12,6 +12,7 @@ use mathlib.Core.List.{List, [], _∷_, _++_, map, List·Memᴰ}
 use Prim.Native.Nat.{ℕ, zero, suc}
 use native.Mathlib.Decide.{ℕ-discrete}
 use native.Mathlib.Omega.{arith}
+use Rattle.basics.proofs.Clash.{clash}
 use Rattle.refusals.specs.Answers.{Answer}
 use Rattle.table.specs.declared.Table.{Table}
 use Rattle.table.specs.Tables.{padded}
@@ -50,9 +51,9 @@ module _ (side : Table → Side) (v : Value) where
 
       by : (f : Phase) (p : List ℕ) → PausedAt side v (at p f) → ((q : List ℕ) × Stands q) ⊎ Nowhere
       by Down p h = inl (p, h)
-      by Handed p h = inr (other Handed p h (λ e. let z : _≡_ {A = ℕ} 0 1 = cc in omega arith))
-      by (Back i) p h = inr (other (Back i) p h (λ e. let z : _≡_ {A = ℕ} 0 1 = cc in omega arith))
-      by Ended p h = inr (other Ended p h (λ e. let z : _≡_ {A = ℕ} 0 1 = cc in omega arith))
+      by Handed p h = inr (other Handed p h (λ e. clash cc))
+      by (Back i) p h = inr (other (Back i) p h (λ e. clash cc))
+      by Ended p h = inr (other Ended p h (λ e. clash cc))
 
       go : ((s : State) × PausedAt side v s) ⊎ ((s : State) → PausedAt side v s → ⊥) → ((p : List ℕ) × Stands p) ⊎ Nowhere
       go (inl (s, h)) = by (s .phase) (s .picks) h
@@ -73,14 +74,16 @@ module _ (side : Table → Side) (v : Value) where
       by z (inl (p, h)) = (found p, found-at z p h)
       by z (inr none) = (
         noPicks 15,
-        candidates-refused side v 15 (record { table = λ l. absurd (omega (arith, z)); value = λ _ _. refl; never = λ _ p h. none p h }),
+        candidates-refused side v 15 (omega arith)
+            (record { table = λ l. absurd (omega (arith, z)); value = λ _ _. refl; stands = λ _ p h. absurd (none p h) }),
       )
 
       go : Dec (valueRefusal side v ≡ 0) → (a : Answer (List ℕ)) × CandidatesAt side v a
       go (yes z) = by z (part-decided (starts z))
       go (no z) = (
         noPicks (valueRefusal side v),
-        candidates-refused side v (valueRefusal side v) (record { table = λ _. refl; value = λ y. absurd (z y); never = λ y. absurd (z y) }),
+        candidates-refused side v (valueRefusal side v) (omega (arith, z))
+            (record { table = λ _. refl; value = λ y. absurd (z y); stands = λ y. absurd (z y) }),
       )
 
   -- ---- the candidate that a number is
@@ -145,7 +148,7 @@ module _ (side : Table → Side) (v : Value) where
                 let ij : i ≡ j = omega (arith, e, f) in
                 let b : true ≡ false =
                 sym (mem-candidate (held side v) (side t .rows) p j m) ∙ ap (candidateBy (held side v) (side t .rows) p) (sym ij) ∙ d in
-                let q : _≡_ {A = ℕ} 0 1 = cc in omega arith)
+                clash cc)
 
         by : valueRefusal side v ≡ 0 → ((p : List ℕ) × Stands p) ⊎ Nowhere → Known
         by z (inl (p, h)) = number z p h g refl
@@ -153,7 +156,8 @@ module _ (side : Table → Side) (v : Value) where
             inr (
               15,
               λ e. omega (arith, e),
-              part-refused side v g 15 (record { table = λ l. absurd (omega (arith, z)); value = λ _ _. refl; never = λ _ p h. none p h }) _ refl,
+              part-refused side v g 15 (omega arith)
+                  (record { table = λ l. absurd (omega (arith, z)); value = λ _ _. refl; stands = λ _ p h. absurd (none p h) }),
             )
 
         go : Dec (valueRefusal side v ≡ 0) → Known
@@ -162,5 +166,6 @@ module _ (side : Table → Side) (v : Value) where
             inr (
               valueRefusal side v,
               z,
-              part-refused side v g (valueRefusal side v) (record { table = λ _. refl; value = λ y. absurd (z y); never = λ y. absurd (z y) }) _ refl,
+              part-refused side v g (valueRefusal side v) (omega (arith, z))
+                  (record { table = λ _. refl; value = λ y. absurd (z y); stands = λ y. absurd (z y) }),
             )

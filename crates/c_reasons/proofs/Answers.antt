@@ -20,7 +20,7 @@ use Rattle.runs.proofs.Starting.{gauge-started, case-started}
 use Rattle.explain.specs.Reasons.{Question, gaugeQuestion, caseQuestion, firstLacking, reasonRefusal, noPick, Explained, Reasoned}
 use Rattle.explain.proofs.Answers.{explained-unique}
 use Rattle.words.specs.Layouts.{tableAt, numbersAt}
-use Rattle.words.specs.Serving.{left}
+use Rattle.words.specs.Serving.{wordsAfter}
 use Rattle.words.proofs.Serving.{long-two}
 use Rattle.words.proofs.Answers.{short-dec, or-dec, gives-is, gives-exists, gives-unique}
 use Rattle.words.proofs.Back.{rows-size, numbers-size}
@@ -65,7 +65,7 @@ module _ (side : Table → Side) (question : Table → ℕ → ℕ → Question)
 
   -- 199 and 1 words are enough: it is the number and the pick of the library's answer
   pub explains-served : 199 ≤ length w → 1 ≤ length out → (a : Answer ℕ) → Explained side question (valueAt n w) g c a → (out′ : List ℕ) (r : ℕ)
-      → Explains side question n w g c out out′ r → (r ≡ a .refusal) × (out′ ≡ left (a .refusal) (a .value ∷ []) out)
+      → Explains side question n w g c out out′ r → (r ≡ a .refusal) × (out′ ≡ wordsAfter (a .refusal) (a .value ∷ []) out)
   explains-served lw lo = gives-is out (explained-unique side question (valueAt n w) g c) (long-two lw lo)
 
   explains-some : StartsAll side (tableAt 1 w) → (out′ : List ℕ) × (r : ℕ) × Explains side question n w g c out out′ r

@@ -6,7 +6,7 @@ use mathlib.Core.Path.{_≡_, refl, sym, ap, _∙_, subst}
 use mathlib.Core.Logic.{_⊎_, inl, inr}
 use mathlib.Core.List.{List}
 use Prim.Native.Nat.{ℕ}
-use native.Mathlib.Omega.{arith}
+use Rattle.basics.proofs.Clash.{clash}
 use Rattle.table.specs.declared.Table.{Table}
 use Rattle.rules.specs.Machine.{Phase, Down, Handed, Back, Ended, State, at}
 use Rattle.lists.specs.Lists.{Side}
@@ -17,10 +17,10 @@ use Rattle.runs.proofs.Deciding.{paused-decided}
 use Rattle.runs.proofs.Demands.{Started}
 
 is-handed : (f : Phase) → Dec (f ≡ Handed)
-is-handed Down = no (λ e. let z : _≡_ {A = ℕ} 0 1 = cc in omega arith)
+is-handed Down = no (λ e. clash cc)
 is-handed Handed = yes refl
-is-handed (Back k) = no (λ e. let z : _≡_ {A = ℕ} 0 1 = cc in omega arith)
-is-handed Ended = no (λ e. let z : _≡_ {A = ℕ} 0 1 = cc in omega arith)
+is-handed (Back k) = no (λ e. clash cc)
+is-handed Ended = no (λ e. clash cc)
 
 module _ (side : Table → Side) (v : Value) where
   -- a value stands for one state

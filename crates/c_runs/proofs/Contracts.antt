@@ -1,5 +1,7 @@
 -- The contracts of a run call and of a fresh start, from what each gives by value: demand 3 in words comes with it (`runs-of`, `starts-of`). And the words
 -- that a start left which returned 0 hold the fresh run (`start-passes`, `start-fresh`, `start-omitting`).
+--
+-- Pins, which nothing else cites: `start-omitting`.
 use mathlib.Core.Path.{_≡_, sym, ap, _∙_, subst}
 use mathlib.Core.Logic.{_⊎_, inr}
 use mathlib.Core.Bool.{Bool, true, false, not, cond}

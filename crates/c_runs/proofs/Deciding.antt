@@ -16,7 +16,7 @@ use Rattle.rules.proofs.Calls.{above-by}
 use Rattle.lists.specs.Lists.{Side}
 use Rattle.lists.specs.OnTable.{handOut}
 use Rattle.runs.specs.Paused.{Value}
-use Rattle.runs.specs.Calling.{Step, refusal, told, held, valueRefusal, PausedAt}
+use Rattle.runs.specs.Calling.{Step, refusalStep, told, held, valueRefusal, PausedAt}
 use Rattle.runs.specs.private.Either.{callOf, CalledOf}
 use Rattle.runs.specs.Omitting.{movesOf}
 use Rattle.runs.proofs.Answered.{paused-state, called-refused}
@@ -36,11 +36,11 @@ module _ (side : Table → Side) (v : Value) where
     pub is : r ≡ told (v .table) here (v .order) (v .omit) (callOf (v .table) here (held side v) (v .omit) b state)
 
   pub called-cases : Startable side → length (v .table .rows) ≡ 64 → length (v .order) ≡ 64 → (b : ℕ) (r : Step) → CalledOf side v b r
-      → ((m : ℕ) × ¬ (m ≡ 0) × (r ≡ refusal m)) ⊎ Moved b r
+      → ((m : ℕ) × ¬ (m ≡ 0) × (r ≡ refusalStep m)) ⊎ Moved b r
   called-cases all rows long b r c = go (ℕ-discrete (valueRefusal side v) 0)
     where
       by-state : valueRefusal side v ≡ 0 → ((s : State) × PausedAt side v s) ⊎ ((s : State) → PausedAt side v s → ⊥) → Dec (b ≤ mostBudget)
-          → ((m : ℕ) × ¬ (m ≡ 0) × (r ≡ refusal m)) ⊎ Moved b r
+          → ((m : ℕ) × ¬ (m ≡ 0) × (r ≡ refusalStep m)) ⊎ Moved b r
       by-state z (inl (s, p)) (yes l) = inr (record { state = s; passed = z; paused-at = p; within = l; is = c .rules z s p })
       by-state z (inl (s, p)) (no l) =
           let mv : State → Move = movesOf (v .table) here (held side v) (v .omit) in
@@ -51,7 +51,7 @@ module _ (side : Table → Side) (v : Value) where
           )
       by-state z (inr none) d = inl (15, λ d. omega (arith, d), c .value z none)
 
-      go : Dec (valueRefusal side v ≡ 0) → ((m : ℕ) × ¬ (m ≡ 0) × (r ≡ refusal m)) ⊎ Moved b r
+      go : Dec (valueRefusal side v ≡ 0) → ((m : ℕ) × ¬ (m ≡ 0) × (r ≡ refusalStep m)) ⊎ Moved b r
       go (no z) = inl (valueRefusal side v, z, c .table (omega (arith, z)))
       go (yes z) = by-state z (paused-decided side v (all (v .table) rows (v .order) long z)) (decLe b mostBudget)
 
@@ -72,10 +72,13 @@ module _ (side : Table → Side) (v : Value) where
         },
       )
       by-state z (inr none) = (
-        refusal 15,
+        refusalStep 15,
         record { table = λ l. absurd (omega (arith, z)); value = λ e n. refl; rules = λ e s p. absurd (none s p) },
       )
 
       go : Dec (valueRefusal side v ≡ 0) → (r : Step) × CalledOf side v b r
-      go (no z) = (refusal (valueRefusal side v), called-refused side v b (valueRefusal side v) refl (omega (arith, z)) (refusal (valueRefusal side v)) refl)
+      go (no z) = (
+        refusalStep (valueRefusal side v),
+        called-refused side v b (valueRefusal side v) refl (omega (arith, z)) (refusalStep (valueRefusal side v)) refl,
+      )
       go (yes z) = by-state z (paused-decided side v (all (v .table) rows (v .order) long z))

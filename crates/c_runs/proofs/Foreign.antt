@@ -13,6 +13,7 @@ use native.Mathlib.Omega.{arith}
 use lib.Dec.{eqb}
 use lib.ListN.{length}
 use lib.Seq.{sets as stored}
+use Rattle.basics.proofs.Clash.{clash}
 use Rattle.table.specs.declared.Table.{Table}
 use Rattle.table.specs.Tables.{tableRefusal, inRange, rowsFit}
 use Rattle.rules.specs.Machine.{Phase, Down, Handed, Back, Ended, State}
@@ -59,12 +60,12 @@ unfolding phaseOf
 foreign-phase n w e = rw e
 
 no-number : (f : Phase) → ¬ (Back 0 ≡ numbered f)
-no-number Down e = let z : _≡_ {A = ℕ} 0 1 = cc in omega arith
-no-number Handed e = let z : _≡_ {A = ℕ} 0 1 = cc in omega arith
+no-number Down e = clash cc
+no-number Handed e = clash cc
 no-number (Back i) e = let z : 0 ≡ suc i = cc in omega arith
-no-number Ended e = let z : _≡_ {A = ℕ} 0 1 = cc in omega arith
+no-number Ended e = clash cc
 
-pub foreign-none : (side : Table → Side) (n : ℕ) (w : List ℕ) → isValue n w ≡ false → (s : State) → PausedAt side (valueAt n w) s → ⊥
+foreign-none : (side : Table → Side) (n : ℕ) (w : List ℕ) → isValue n w ≡ false → (s : State) → PausedAt side (valueAt n w) s → ⊥
 foreign-none side n w e s p = no-number (s .phase) (sym (foreign-phase n w e) ∙ ap (λ (v : Value). v .phase) (p .stands))
 
 -- ---- the law

@@ -5,7 +5,7 @@ use mathlib.Core.Bool.{Bool, true, false, cond}
 use mathlib.Core.Option.{Option, none, some}
 use mathlib.Core.List.{List, map, head?}
 use Prim.Native.Nat.{ℕ, zero, suc, _≤_}
-use native.Mathlib.Omega.{arith}
+use Rattle.basics.proofs.Clash.{clash}
 use Rattle.table.specs.declared.Table.{Table}
 use Rattle.table.specs.Chains.{IsMaximal}
 use Rattle.table.specs.Tables.{tableRows, padded}
@@ -31,8 +31,8 @@ use Rattle.runs.proofs.HandOuts.{handed-leaf, sequence-of}
 
 -- ---- a move gives a hand-out only as it becomes Handed, with the picks that are handed out
 back-hands : (c : Cut) (p : List ℕ) → ¬ (takeBack c .given ≡ hands p)
-back-hands empty p e = let z : _≡_ {A = ℕ} 0 1 = cc in omega arith
-back-hands (cut q g) p e = let z : _≡_ {A = ℕ} 0 1 = cc in omega arith
+back-hands empty p e = clash cc
+back-hands (cut q g) p e = clash cc
 
 module _ (place : ℕ → ℕ) (kids : List ℕ → List ℕ) where
   move-hands : (q : List ℕ) (f : Phase) (p : List ℕ) → stepIn place kids q f .given ≡ hands p → stepIn place kids q f .next ≡ at p Handed
@@ -40,14 +40,14 @@ module _ (place : ℕ → ℕ) (kids : List ℕ → List ℕ) where
     where
       go : (o : Option ℕ) → down q o .given ≡ hands p → down q o .next ≡ at p Handed
       go none e = let d : q ≡ p = cc in ap (λ (l : List ℕ). at l Handed) d
-      go (some g) e = let z : _≡_ {A = ℕ} 0 1 = cc in absurd (omega arith)
+      go (some g) e = clash cc
   move-hands q Handed p = λ e. absurd (back-hands (cutLast q) p e)
   move-hands q (Back g) p = go (head? (aboveIn place g (kids q)))
     where
       go : (o : Option ℕ) → back q o .given ≡ hands p → back q o .next ≡ at p Handed
       go none e = absurd (back-hands (cutLast q) p e)
-      go (some h) e = let z : _≡_ {A = ℕ} 0 1 = cc in absurd (omega arith)
-  move-hands q Ended p = λ e. let z : _≡_ {A = ℕ} 0 1 = cc in absurd (omega arith)
+      go (some h) e = clash cc
+  move-hands q Ended p = λ e. clash cc
 
 -- a run that omits hands out what the rules hand out
 taken-hands : (out : List ℕ → List ℕ) (keep : List ℕ → Bool) (g : Given) (p : List ℕ) → taken out keep g ≡ hands p → g ≡ hands p
@@ -56,7 +56,7 @@ taken-hands out keep (hands q) p e = go (keep (out q)) e
   where
     go : (b : Bool) → cond b (hands q) nothing ≡ hands p → hands q ≡ hands p
     go true d = d
-    go false d = let z : _≡_ {A = ℕ} 0 1 = cc in absurd (omega arith)
+    go false d = clash cc
 taken-hands out keep ends p e = e
 
 module _ (t : Table) (s : Side) (o : List ℕ) where
@@ -75,7 +75,7 @@ module _ (t : Table) (s : Side) (o : List ℕ) where
 
     carried : (b : ℕ) (x : State) (y : List ℕ) → carryBy mv out b x .answer ≡ handed y
         → (carryBy mv out b x .next .phase ≡ Handed) × (out (carryBy mv out b x .next .picks) ≡ y)
-    carried zero x y e = let z : _≡_ {A = ℕ} 0 1 = cc in absurd (omega arith)
+    carried zero x y e = clash cc
     carried (suc b) x y e = go (mv x .given) refl (carried b (mv x .next) y) e
       where
         go : (g : Given) → mv x .given ≡ g
@@ -89,7 +89,7 @@ module _ (t : Table) (s : Side) (o : List ℕ) where
             let n = hands-at omit x p d in
             let q : out p ≡ y = cc in
             (ap (λ (a : State). a .phase) n, ap (λ (a : State). out (a .picks)) n ∙ q)
-        go ends d ih z = let w : _≡_ {A = ℕ} 0 1 = cc in absurd (omega arith)
+        go ends d ih z = clash cc
 
     pub call-hands : (b : ℕ) (x : State) (y : List ℕ) → b ≤ mostBudget → callOf t s o omit b x .answer ≡ handed y
         → (callOf t s o omit b x .next .phase ≡ Handed) × (out (callOf t s o omit b x .next .picks) ≡ y)

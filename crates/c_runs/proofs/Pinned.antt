@@ -3,6 +3,8 @@
 -- of slices lent for the answers (`word-calls-exist`), and no other (`word-calls-unique`). The promises of such lists, put to use, hold of them
 -- (`word-demand-made`, `carries-word-made`, and of the runs that omit `word-omits-made`, `carries-word-omits-made`), and leave one list of answers to be
 -- read (`word-demand-unique`, `word-omits-unique`).
+--
+-- Pins, which nothing else cites: `carries-word-made`, `carries-word-omits-made`.
 use mathlib.Core.Path.{_≡_, refl, sym, ap, ap₂, _∙_, subst}
 use mathlib.Core.Logic.{_⊎_}
 use mathlib.Core.Bool.{Bool, true, false, not, cond}

@@ -10,9 +10,10 @@ use mathlib.Core.List.{List, [], _∷_, map}
 use Prim.Native.Nat.{ℕ, zero, suc, _≤_}
 use native.Mathlib.Omega.{arith}
 use lib.ListN.{length, getD, length-map}
+use Rattle.basics.proofs.Clash.{clash}
 use Rattle.table.specs.declared.Table.{Table}
 use Rattle.table.specs.declared.Chain.{Chain}
-use Rattle.table.specs.Tables.{noRows, padded, blankChain, chainRows}
+use Rattle.table.specs.Tables.{padded, blankChain, chainRows}
 use Rattle.table.proofs.Legality.{length-rows}
 use Rattle.table.proofs.Padding.{pad-length, pad-getD}
 use Rattle.rules.specs.Machine.{State, fresh}
@@ -26,8 +27,8 @@ use Rattle.lists.proofs.Standing.{index-below}
 use Rattle.lists.proofs.PlacedCandidates.{AllBelow}
 use Rattle.lists.proofs.PlacedRuns.{good-below, good-short, reached-placed}
 use Rattle.preference.specs.Preferences.{preferredRefusal}
-use Rattle.runs.specs.Paused.{Value, paused, blankValue}
-use Rattle.runs.specs.Calling.{Step, refusal, sequence, arrangement, byRules, held}
+use Rattle.runs.specs.Paused.{Value, paused, blankValue, noNumbers}
+use Rattle.runs.specs.Calling.{Step, refusalStep, sequence, arrangement, byRules, held}
 use Rattle.runs.specs.private.Either.{callOf, CalledOf}
 use Rattle.runs.specs.Omitting.{movesOf}
 use Rattle.runs.proofs.Padding.{take-padded}
@@ -43,13 +44,13 @@ module _ (s : Side) (o : List ℕ) (counted : length (s .rows) ≡ s .count) (a 
   index-all [] b = tt
   index-all (i ∷ q) b = (index-below (s .count) o a i (b .0), index-all q (b .1))
 
-  pub reached-below : (x : State) → ReachedOn s o x → AllBelow (s .count) (x .picks)
+  reached-below : (x : State) → ReachedOn s o x → AllBelow (s .count) (x .picks)
   reached-below x r =
       let y = reached-placed s o counted a x .0 r in
       subst (AllBelow (s .count)) (ap (λ (z : State). z .picks) (y .is))
       (index-all (y .state .picks) (good-below s o counted a (y .state) (y .good) .picks))
 
-  pub reached-short : (x : State) → ReachedOn s o x → length (x .picks) ≤ s .count
+  reached-short : (x : State) → ReachedOn s o x → length (x .picks) ≤ s .count
   reached-short x r =
       let y = reached-placed s o counted a x .0 r in
       subst (λ (p : List ℕ). length p ≤ s .count) (ap (λ (z : State). z .picks) (y .is))
@@ -155,7 +156,7 @@ module _ (side : Table → Side) (all : Startable side) where
       moved-readable : Readable r
       moved-readable = subst Readable (sym (m .is)) (go (by (m .state) .answer) refl)
         where
-          blank : (s : Step) → ((y : List ℕ) → ¬ (s .answer ≡ handed y)) → s .chain ≡ blankChain → s .picks ≡ noRows → Readable s
+          blank : (s : Step) → ((y : List ℕ) → ¬ (s .answer ≡ handed y)) → s .chain ≡ blankChain → s .picks ≡ noNumbers → Readable s
           blank s n e d = record {
             rows = ap (λ (c : Chain). length (c .rows)) e ∙ no-numbers .size;
             picks = subst Numbers (sym d) no-numbers;
@@ -164,27 +165,27 @@ module _ (side : Table → Side) (all : Startable side) where
 
           go : (a : Reply) → by (m .state) .answer ≡ a → Readable (byRules t here (v .order) (v .omit) a (by (m .state) .moves) (by (m .state) .next))
           go (refused n) e = absurd (only18-by (movesOf t here (held side v) (v .omit)) (handOut here) b (m .state) .else (m .within) n e)
-          go spent e = blank _ (λ y d. let z : _≡_ {A = ℕ} 0 1 = cc in omega arith) refl refl
+          go spent e = blank _ (λ y d. clash cc) refl refl
           go (handed y) e =
               let (size, few, numbers) = handed-facts y e in record {
                 rows = pad-length y (omega arith);
                 picks = numbers;
                 set = λ z d. let q : y ≡ z = cc in take-padded y (t .gauges) (sym size) ∙ q;
               }
-          go end e = blank _ (λ y d. let z : _≡_ {A = ℕ} 0 1 = cc in omega arith) refl refl
+          go end e = blank _ (λ y d. clash cc) refl refl
 
     pub called-held : CalledOf side v b r → Held (r .next)
     called-held c = go (called-cases side v all rows (h .size) b r c)
       where
-        go : ((m : ℕ) × ¬ (m ≡ 0) × (r ≡ refusal m)) ⊎ Moved side v b r → Held (r .next)
+        go : ((m : ℕ) × ¬ (m ≡ 0) × (r ≡ refusalStep m)) ⊎ Moved side v b r → Held (r .next)
         go (inl (m, z, e)) = subst (λ (x : Step). Held (x .next)) (sym e) blank-held
         go (inr m) = moved-held m
 
     -- a call is refused with a number that is not 0, and then everything else is blank; or its answer can be read from words
-    pub called-read : CalledOf side v b r → ((m : ℕ) × ¬ (m ≡ 0) × (r ≡ refusal m)) ⊎ (((n : ℕ) → ¬ (r .answer ≡ refused n)) × Readable r)
+    pub called-read : CalledOf side v b r → ((m : ℕ) × ¬ (m ≡ 0) × (r ≡ refusalStep m)) ⊎ (((n : ℕ) → ¬ (r .answer ≡ refused n)) × Readable r)
     called-read c = go (called-cases side v all rows (h .size) b r c)
       where
-        go : ((m : ℕ) × ¬ (m ≡ 0) × (r ≡ refusal m)) ⊎ Moved side v b r
-            → ((m : ℕ) × ¬ (m ≡ 0) × (r ≡ refusal m)) ⊎ (((n : ℕ) → ¬ (r .answer ≡ refused n)) × Readable r)
+        go : ((m : ℕ) × ¬ (m ≡ 0) × (r ≡ refusalStep m)) ⊎ Moved side v b r
+            → ((m : ℕ) × ¬ (m ≡ 0) × (r ≡ refusalStep m)) ⊎ (((n : ℕ) → ¬ (r .answer ≡ refused n)) × Readable r)
         go (inl q) = inl q
         go (inr m) = inr (moved-answers m, moved-readable m)

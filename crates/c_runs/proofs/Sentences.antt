@@ -20,7 +20,7 @@ use Rattle.table.specs.declared.Table.{Table}
 use Rattle.table.specs.Chains.{IsMaximal}
 use Rattle.table.specs.Tables.{tableRows}
 use Rattle.rules.specs.Machine.{State, fresh}
-use Rattle.rules.specs.Keeping.{kept as keptOf}
+use Rattle.rules.specs.Keeping.{keptSets as keptOf}
 use Rattle.lists.specs.Lists.{Side, gaugeSide, caseSide, PreferredList, BaseList}
 use Rattle.lists.specs.OnTable.{callOn, callsOn, leftOn}
 use Rattle.lists.specs.Keeping.{callKeeping, callsKeeping, leftKeeping}
@@ -29,8 +29,8 @@ use Rattle.preference.specs.Preferences.{preferredRefusal, plainNumbers}
 use Rattle.conflicts.specs.Conflicts.{HoldsEssential}
 use Rattle.conflicts.specs.Omitting.{keepsOf}
 use Rattle.runs.specs.Paused.{Value, paused, blankValue}
-use Rattle.runs.specs.Calling.{Step, refusal, arrangement, told, held, valueRefusal, PausedAt, Calls, left}
-use Rattle.runs.specs.Demand.{sets, Ends, HandsOut, Demand3, RunDemand, SharesSet}
+use Rattle.runs.specs.Calling.{Step, refusalStep, arrangement, told, held, valueRefusal, PausedAt, Calls, lastValue}
+use Rattle.runs.specs.Demand.{handedSets, Ends, HandsOut, Demand3, RunDemand, SharesSet}
 use Rattle.runs.specs.Omitting.{CallsEither, RunOmits}
 use Rattle.words.specs.Layouts.{tableAt, numbersAt}
 use Rattle.words.proofs.Back.{numbers-size}
@@ -45,7 +45,7 @@ use Rattle.c_runs.proofs.Contracts.{called-of, start-passes, start-fres
 -- 1, 2, 3 and on" and once a call has answered end, 01's own list; and rules 1 to 5 give each answer and v
 abbrev pub AsDemanded : (Table → Side) → Table → List ℕ → List ℕ → List Step → Value → Type 0
 AsDemanded side t k bs rs v =
-    Demand3 t (side t) (arrangement (side t) k) bs rs × (k ≡ plainNumbers (side t .count) → Ends rs → BaseList t (side t) (sets rs))
+    Demand3 t (side t) (arrangement (side t) k) bs rs × (k ≡ plainNumbers (side t .count) → Ends rs → BaseList t (side t) (handedSets rs))
     × (rs ≡ map (told t (side t) k false) (callsOn (side t) (arrangement (side t) k) bs))
     × (v ≡ paused t k false (leftOn (side t) (arrangement (side t) k) bs))
 
@@ -53,7 +53,7 @@ AsDemanded side t k bs rs v =
 abbrev pub AsOmitting : (Table → Side) → Table → List ℕ → List ℕ → List Step → Value → Type 0
 AsOmitting side t k bs rs v =
     ((list : List (List ℕ)) × PreferredList t (side t) (arrangement (side t) k) list × HandsOut (keptOf (keepsOf t) list) bs rs)
-    × (Ends rs → (x : List ℕ) → List·Memᴰ x (sets rs) ↔ (IsMaximal (tableRows t) x × HoldsEssential (tableRows t) x))
+    × (Ends rs → (x : List ℕ) → List·Memᴰ x (handedSets rs) ↔ (IsMaximal (tableRows t) x × HoldsEssential (tableRows t) x))
     × (rs ≡ map (told t (side t) k true) (callsKeeping (side t) (arrangement (side t) k) (keepsOf t) bs))
     × (v ≡ paused t k true (leftKeeping (side t) (arrangement (side t) k) (keepsOf t) bs))
 
@@ -62,10 +62,10 @@ abbrev pub OneSetWith : (Table → Side) → ℕ → Table → List ℕ → (Tab
 OneSetWith side n t w other m =
     (j : List ℕ) → length j ≡ 64 → preferredRefusal t (other t .count) j ≡ 0 → (u : List ℕ) → FreshWords m t j false u
     → (bs cs : List ℕ) (xs ys : List Seen) → WordCalls side n w bs xs → WordCalls other m u cs ys → Ends (stepsRead n xs) → Ends (stepsRead m ys)
-    → OneSet t (sets (stepsRead n xs)) (sets (stepsRead m ys))
+    → OneSet t (handedSets (stepsRead n xs)) (handedSets (stepsRead m ys))
 
 module _ (side : Table → Side) (t : Table) (k : List ℕ) where
-  as-demanded : (v : Value) (bs : List ℕ) (rs : List Step) (w : Value) → RunDemand side t k v bs rs → w ≡ left v rs → AsDemanded side t k bs rs w
+  as-demanded : (v : Value) (bs : List ℕ) (rs : List Step) (w : Value) → RunDemand side t k v bs rs → w ≡ lastValue v rs → AsDemanded side t k bs rs w
   as-demanded v bs rs w d e = (
     d .demand,
     λ p z. subst (BaseList t (side t)) (sym (d .demand .hands .whole z)) (d .base p),
@@ -73,7 +73,7 @@ module _ (side : Table → Side) (t : Table) (k : List ℕ) where
     e ∙ d .rules .last,
   )
 
-  as-omitting : (v : Value) (bs : List ℕ) (rs : List Step) (w : Value) → RunOmits side t k v bs rs → w ≡ left v rs → AsOmitting side t k bs rs w
+  as-omitting : (v : Value) (bs : List ℕ) (rs : List Step) (w : Value) → RunOmits side t k v bs rs → w ≡ lastValue v rs → AsOmitting side t k bs rs w
   as-omitting v bs rs w o e = (
     (o .list, o .listed, o .hands),
     λ z x.
@@ -100,11 +100,11 @@ module _ (side : Table → Side) (t : Table) (k : List ℕ) where
     )
 
   module _ (a : Answer Value) (ok : preferredRefusal t (side t .count) k ≡ 0) (bs : List ℕ) (rs : List Step) where
-    pub fresh-demand : FreshStart side t k false a → Calls side (a .value) bs rs → AsDemanded side t k bs rs (left (a .value) rs)
-    fresh-demand f c = as-demanded (a .value) bs rs (left (a .value) rs) (f .demand refl ok bs rs c) refl
+    pub fresh-demand : FreshStart side t k false a → Calls side (a .value) bs rs → AsDemanded side t k bs rs (lastValue (a .value) rs)
+    fresh-demand f c = as-demanded (a .value) bs rs (lastValue (a .value) rs) (f .demand refl ok bs rs c) refl
 
-    pub fresh-omits : FreshStart side t k true a → CallsEither side (a .value) bs rs → AsOmitting side t k bs rs (left (a .value) rs)
-    fresh-omits f c = as-omitting (a .value) bs rs (left (a .value) rs) (f .omits refl ok bs rs c) refl
+    pub fresh-omits : FreshStart side t k true a → CallsEither side (a .value) bs rs → AsOmitting side t k bs rs (lastValue (a .value) rs)
+    fresh-omits f c = as-omitting (a .value) bs rs (lastValue (a .value) rs) (f .omits refl ok bs rs c) refl
 
   -- of either side, with the preference in j
   pub fresh-shared : (a : Answer Value) → FreshStart side t k false a → (j : List ℕ) → length j ≡ 64
@@ -131,8 +131,9 @@ module _ (side : Table → Side) (n : ℕ) (t o : List ℕ) (omit : ℕ) (out ou
 
   -- "the ladders handed out are, in turn, the front of that run's list. Once a call has answered "end", they are the whole list."
   pub start-hands : Starts side n t o omit out out′ r → r ≡ 0 → omit ≡ 0 → (bs : List ℕ) (xs : List Seen) → WordCalls side n out′ bs xs
-      → (list : List (List ℕ)) × PreferredList T (side T) (arrangement (side T) K) list × ((rest : List (List ℕ)) × (sets (stepsRead n xs) ++ rest ≡ list))
-      × (Ends (stepsRead n xs) → sets (stepsRead n xs) ≡ list)
+      → (list : List (List ℕ)) × PreferredList T (side T) (arrangement (side T) K) list
+      × ((rest : List (List ℕ)) × (handedSets (stepsRead n xs) ++ rest ≡ list))
+      × (Ends (stepsRead n xs) → handedSets (stepsRead n xs) ≡ list)
   start-hands s e z bs xs c =
       let d = start-demand s e z bs xs c .0 in
       (d .list, d .listed, d .hands .front, d .hands .whole)
@@ -149,15 +150,15 @@ module _ (side : Table → Side) (n : ℕ) (t o : List ℕ) (omit : ℕ) (out ou
 -- "So the two runs, each gone to its end, share one set"
 pub starts-share : (t o a a′ j b b′ : List ℕ) → Starts gaugeSide 1 t o 0 a a′ 0 → Starts caseSide 2 t j 0 b b′ 0
     → (bs cs : List ℕ) (xs ys : List Seen) → WordCalls gaugeSide 1 a′ bs xs → WordCalls caseSide 2 b′ cs ys → Ends (stepsRead 1 xs) → Ends (stepsRead 2 ys)
-    → OneSet (tableAt 0 t) (sets (stepsRead 1 xs)) (sets (stepsRead 2 ys))
+    → OneSet (tableAt 0 t) (handedSets (stepsRead 1 xs)) (handedSets (stepsRead 2 ys))
 starts-share t o a a′ j b b′ g h =
     start-shared gaugeSide 1 t o 0 a a′ 0 g refl refl .1 (numbersAt 0 j) (numbers-size 0 j) (start-passes caseSide cases-start 2 t j 0 b b′ 0 h refl) b′
     (start-fresh caseSide cases-start 2 t j 0 b b′ 0 h refl refl)
 
 -- ---- a call by value, from v with the budget b: s is the answer
 module _ (side : Table → Side) (v : Value) (b : ℕ) (s : Step) where
-  pub call-refused : RunCall side v b s → (0 < valueRefusal side v → s ≡ refusal (valueRefusal side v))
-      × (valueRefusal side v ≡ 0 → ((x : State) → PausedAt side v x → ⊥) → s ≡ refusal 15)
+  pub call-refused : RunCall side v b s → (0 < valueRefusal side v → s ≡ refusalStep (valueRefusal side v))
+      × (valueRefusal side v ≡ 0 → ((x : State) → PausedAt side v x → ⊥) → s ≡ refusalStep 15)
   call-refused c = (c .called .table, c .called .value)
 
   pub call-rules : RunCall side v b s → valueRefusal side v ≡ 0 → (x : State) → PausedAt side v x
@@ -170,16 +171,16 @@ module _ (side : Table → Side) (v : Value) (b : ℕ) (s : Step) where
     abbrev start : Bool → Value
     start omit = paused (v .table) (v .order) omit fresh
 
-    pub call-demand : RunCall side v b s → Calls side (start false) bs rs → left (start false) rs ≡ v
-        → AsDemanded side (v .table) (v .order) (bs ++ (b ∷ [])) (rs ++ (s ∷ [])) (left (start false) (rs ++ (s ∷ [])))
+    pub call-demand : RunCall side v b s → Calls side (start false) bs rs → lastValue (start false) rs ≡ v
+        → AsDemanded side (v .table) (v .order) (bs ++ (b ∷ [])) (rs ++ (s ∷ [])) (lastValue (start false) (rs ++ (s ∷ [])))
     call-demand c q e =
-        as-demanded side (v .table) (v .order) (start false) (bs ++ (b ∷ [])) (rs ++ (s ∷ [])) (left (start false) (rs ++ (s ∷ [])))
+        as-demanded side (v .table) (v .order) (start false) (bs ++ (b ∷ [])) (rs ++ (s ∷ [])) (lastValue (start false) (rs ++ (s ∷ [])))
         (c .demand ok bs rs q e) refl
 
-    pub call-omits : RunCall side v b s → CallsEither side (start true) bs rs → left (start true) rs ≡ v
-        → AsOmitting side (v .table) (v .order) (bs ++ (b ∷ [])) (rs ++ (s ∷ [])) (left (start true) (rs ++ (s ∷ [])))
+    pub call-omits : RunCall side v b s → CallsEither side (start true) bs rs → lastValue (start true) rs ≡ v
+        → AsOmitting side (v .table) (v .order) (bs ++ (b ∷ [])) (rs ++ (s ∷ [])) (lastValue (start true) (rs ++ (s ∷ [])))
     call-omits c q e =
-        as-omitting side (v .table) (v .order) (start true) (bs ++ (b ∷ [])) (rs ++ (s ∷ [])) (left (start true) (rs ++ (s ∷ [])))
+        as-omitting side (v .table) (v .order) (start true) (bs ++ (b ∷ [])) (rs ++ (s ∷ [])) (lastValue (start true) (rs ++ (s ∷ [])))
         (c .omits ok bs rs q e) refl
 
 -- ---- a call on the words w, of which x is seen

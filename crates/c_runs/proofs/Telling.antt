@@ -17,10 +17,10 @@ use Rattle.table.specs.Tables.{chainRows}
 use Rattle.rules.specs.Calls.{Reply, refused, spent, handed, end}
 use Rattle.lists.specs.Lists.{Side}
 use Rattle.runs.specs.Paused.{Value}
-use Rattle.runs.specs.Calling.{Step, refusal, kept}
+use Rattle.runs.specs.Calling.{Step, refusalStep, keptValue}
 use Rattle.runs.specs.private.Either.{CalledOf}
 use Rattle.words.specs.Layouts.{wordAt, numbersAt, chainAt}
-use Rattle.words.specs.Serving.{left as leftIn}
+use Rattle.words.specs.Serving.{wordsAfter as leftIn}
 use Rattle.words.proofs.Serving.{left-refused}
 use Rattle.run_words.specs.Values.{valueAt, valueWords, outcomeNumber, refusalNumber, stepWords}
 use Rattle.words.proofs.Back.{rows-size}
@@ -74,18 +74,18 @@ module _ (side : Table → Side) (all : Startable side) (n : ℕ) where
         ∙ value-back n (s .next) (called-held side all (valueAt n w) (rows-size 3 w) (numbers-read 67 w) b s c) w l
 
     abbrev Cases : Type 0
-    Cases = ((k : ℕ) × ¬ (k ≡ 0) × (s ≡ refusal k)) ⊎ (((k : ℕ) → ¬ (s .answer ≡ refused k)) × Readable s)
+    Cases = ((k : ℕ) × ¬ (k ≡ 0) × (s ≡ refusalStep k)) ⊎ (((k : ℕ) → ¬ (s .answer ≡ refused k)) × Readable s)
 
     cases : Cases
     cases = called-read side all (valueAt n w) (rows-size 3 w) (numbers-read 67 w) b s c
 
-    refused-is : (k : ℕ) → s ≡ refusal k → x .number ≡ k
+    refused-is : (k : ℕ) → s ≡ refusalStep k → x .number ≡ k
     refused-is k e = h .number ∙ ap (λ (y : Step). refusalNumber (y .answer)) e
 
     read-back : Cases → stepRead n x ≡ s
     read-back (inl (k, z, e)) =
         let d : x .number ≡ k = refused-is k e in
-        rw (ne-eqb (x .number) 0 (λ q. z (sym d ∙ q))) (ap refusal d ∙ sym e)
+        rw (ne-eqb (x .number) 0 (λ q. z (sym d ∙ q))) (ap refusalStep d ∙ sym e)
     read-back (inr (a, r)) =
         let z : x .number ≡ 0 = h .number ∙ accepted-number (s .answer) a in
         let o : ℕ = outcomeNumber (s .answer) in
@@ -102,14 +102,14 @@ module _ (side : Table → Side) (all : Startable side) (n : ℕ) where
         (ap (numbersAt 67) q ∙ picks-back o (s .moves) (s .chain) (s .picks) (r .rows) (r .picks) (x .lent) m)
         (next-back z))
 
-    stays-back : Cases → valueAt n (x .run) ≡ kept (s .answer) (valueAt n w) (s .next)
+    stays-back : Cases → valueAt n (x .run) ≡ keptValue (s .answer) (valueAt n w) (s .next)
     stays-back (inl (k, z, e)) =
         let d : x .number ≡ k = refused-is k e in
         ap (valueAt n) (h .run ∙ left-refused (x .number) (valueWords n (s .next)) w (λ q. z (sym d ∙ q)))
-        ∙ ap (λ (y : Step). kept (y .answer) (valueAt n w) (s .next)) (sym e)
+        ∙ ap (λ (y : Step). keptValue (y .answer) (valueAt n w) (s .next)) (sym e)
     stays-back (inr (a, r)) = next-back (h .number ∙ accepted-number (s .answer) a) ∙ kept-accepted (s .answer) a
       where
-        kept-accepted : (y : Reply) → ((k : ℕ) → ¬ (y ≡ refused k)) → s .next ≡ kept y (valueAt n w) (s .next)
+        kept-accepted : (y : Reply) → ((k : ℕ) → ¬ (y ≡ refused k)) → s .next ≡ keptValue y (valueAt n w) (s .next)
         kept-accepted (refused k) f = absurd (f k refl)
         kept-accepted spent f = refl
         kept-accepted (handed z) f = refl
@@ -118,5 +118,5 @@ module _ (side : Table → Side) (all : Startable side) (n : ℕ) where
     pub step-back : stepRead n x ≡ s
     step-back = read-back cases
 
-    pub kept-back : valueAt n (x .run) ≡ kept (s .answer) (valueAt n w) (s .next)
+    pub kept-back : valueAt n (x .run) ≡ keptValue (s .answer) (valueAt n w) (s .next)
     kept-back = stays-back cases

@@ -16,7 +16,7 @@ use Rattle.rules.specs.Machine.{fresh}
 use Rattle.lists.specs.Lists.{Side, gaugeSide, caseSide}
 use Rattle.preference.specs.Preferences.{preferredRefusal}
 use Rattle.runs.specs.Paused.{Value, paused}
-use Rattle.runs.specs.Calling.{Step, kept, Calls, left}
+use Rattle.runs.specs.Calling.{Step, keptValue, Calls, lastValue}
 use Rattle.runs.specs.Demand.{SharesSet, SharesAll, RunDemand}
 use Rattle.runs.specs.Omitting.{CalledEither, CallsEither, RunOmits}
 use Rattle.runs.proofs.Answered.{called-of-both}
@@ -41,15 +41,15 @@ module _ (side : Table → Side) (all : Startable side) (n : ℕ) where
       let s : Step = h .answer in
       let t : Tells n w s x = record { number = h .says; run = h .leaves-first; step = h .leaves-second } in
       let read : stepRead n x ≡ s = step-back side all n w l b s x (c .0) (called-of-both side (valueAt n w) b s (h .promised)) t in
-      let next : valueAt n (x .run) ≡ kept (stepRead n x .answer) (valueAt n w) (stepRead n x .next) =
+      let next : valueAt n (x .run) ≡ keptValue (stepRead n x .answer) (valueAt n w) (stepRead n x .next) =
       kept-back side all n w l b s x (c .0) (called-of-both side (valueAt n w) b s (h .promised)) t
-      ∙ ap (λ (y : Step). kept (y .answer) (valueAt n w) (y .next)) (sym read) in
+      ∙ ap (λ (y : Step). keptValue (y .answer) (valueAt n w) (y .next)) (sym read) in
       let i = word-calls (x .run) (omega (arith, l, ap length (t .run), left-length (x .number) (valueWords n (s .next)) w)) bs xs (c .1 .1) in record {
         holds = (
           subst (CalledEither side (valueAt n w) b) (sym read) (h .promised),
           subst (λ (v : Value). CallsEither side v bs (stepsRead n xs)) next (i .holds),
         );
-        last = i .last ∙ ap (λ (v : Value). left v (stepsRead n xs)) next;
+        last = i .last ∙ ap (λ (v : Value). lastValue v (stepsRead n xs)) next;
       }
 
   -- and one call more
@@ -62,12 +62,12 @@ module _ (side : Table → Side) (all : Startable side) (n : ℕ) where
 
   -- from the fresh run on
   module _ (t : Table) (k : List ℕ) (omit : Bool) (w : List ℕ) (f : FreshWords n t k omit w) where
-    pub fresh-calls : (bs : List ℕ) (xs : List Seen) → WordCalls side n w bs xs → (R : List Step → Type 0)
+    fresh-calls : (bs : List ℕ) (xs : List Seen) → WordCalls side n w bs xs → (R : List Step → Type 0)
         → ((rs : List Step) → CallsEither side (paused t k omit fresh) bs rs → R rs) → InWords n w (paused t k omit fresh) R xs
     fresh-calls bs xs c R h =
         let i = word-calls w (f .long) bs xs c in record {
           holds = h (stepsRead n xs) (subst (λ (v : Value). CallsEither side v bs (stepsRead n xs)) (f .reads) (i .holds));
-          last = i .last ∙ ap (λ (v : Value). left v (stepsRead n xs)) (f .reads);
+          last = i .last ∙ ap (λ (v : Value). lastValue v (stepsRead n xs)) (f .reads);
         }
 
   -- ---- the promises

@@ -21,8 +21,8 @@ use Rattle.lists.specs.Lists.{Side, gaugeSide, caseSide}
 use Rattle.lists.specs.Demand.{OneSet}
 use Rattle.preference.specs.Preferences.{preferredRefusal}
 use Rattle.runs.specs.Paused.{Value, paused}
-use Rattle.runs.specs.Calling.{Step, refusal, left, valueRefusal}
-use Rattle.runs.specs.Demand.{RunDemand, sets, Ends}
+use Rattle.runs.specs.Calling.{Step, refusalStep, lastValue, valueRefusal}
+use Rattle.runs.specs.Demand.{RunDemand, handedSets, Ends}
 use Rattle.runs.specs.Omitting.{CalledEither, RunOmits}
 use Rattle.words.specs.Layouts.{wordAt, numbersAt, chainAt}
 use Rattle.words.specs.Serving.{GivesTwo}
@@ -82,7 +82,7 @@ stepRead n x =
       picks = numbersAt 67 (x .step);
       next = valueAt n (x .run);
     })
-    (refusal (x .number))
+    (refusalStep (x .number))
 
 abbrev pub stepsRead : ℕ → List Seen → List Step
 stepsRead n xs = map (stepRead n) xs
@@ -91,7 +91,7 @@ stepsRead n xs = map (stepRead n) xs
 -- these answers leave
 pub record InWords (n : ℕ) (w : List ℕ) (v : Value) (R : List Step → Type 0) (xs : List Seen) : Type 0 where
   pub holds : R (stepsRead n xs)
-  pub last : valueAt n (leftWords w xs) ≡ left v (stepsRead n xs)
+  pub last : valueAt n (leftWords w xs) ≡ lastValue v (stepsRead n xs)
 
 -- the words w hold the fresh run of the table t with the preference in k
 pub record FreshWords (n : ℕ) (t : Table) (k : List ℕ) (omit : Bool) (w : List ℕ) : Type 0 where
@@ -136,7 +136,7 @@ abbrev pub SharesWords : (Table → Side) → (Table → Side) → ℕ → ℕ �
 SharesWords side other n m t k j w =
     preferredRefusal t (other t .count) j ≡ 0 → (u : List ℕ) → FreshWords m t j false u
     → (bs cs : List ℕ) (xs ys : List Seen) → WordCalls side n w bs xs → WordCalls other m u cs ys → Ends (stepsRead n xs) → Ends (stepsRead m ys)
-    → OneSet t (sets (stepsRead n xs)) (sets (stepsRead m ys))
+    → OneSet t (handedSets (stepsRead n xs)) (handedSets (stepsRead m ys))
 
 -- with every run of the table, of either side and with any preference
 pub record SharesAllWords (side : Table → Side) (n : ℕ) (t : Table) (k w : List ℕ) : Type 0 where

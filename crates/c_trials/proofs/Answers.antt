@@ -29,7 +29,7 @@ use Rattle.trials.specs.declared.Effect.the-variants.{StillMaximal, OnlyChain, 
 use Rattle.trials.proofs.Answers.{answer-same, tried-unique, tried-exists, tried-placed, tried-proposes}
 use Rattle.trials.proofs.Commits.{committed-unique, committed-exists, commits, fresh-commits}
 use Rattle.words.specs.Layouts.{wordAt, tableAt, chainAt, tableWords, chainWords}
-use Rattle.words.specs.Serving.{left, Served}
+use Rattle.words.specs.Serving.{wordsAfter, Served}
 use Rattle.words.proofs.Serving.{long-two, long-more}
 use Rattle.words.proofs.Answers.{short-dec, or-dec, gives-is, gives-exists, gives-unique, gives-zero, gives-long, gives-kept}
 use Rattle.words.proofs.Back.{rows-size, front-is, word-behind, table-behind, chain-behind, table-left}
@@ -49,7 +49,7 @@ module _ (t s : List ℕ) (g c : ℕ) (out : List ℕ) where
 
   -- 66, 65 and 134 words are enough: it is the number and the proposal of the library's answer
   pub tries-served : 66 ≤ length t → 65 ≤ length s → 134 ≤ length out → (a : Answer Proposal) → Tried (tableAt 0 t) (chainAt 0 s) g c a
-      → (out′ : List ℕ) (r : ℕ) → Tries t s g c out out′ r → (r ≡ a .refusal) × (out′ ≡ left (a .refusal) (proposalWords (a .value)) out)
+      → (out′ : List ℕ) (r : ℕ) → Tries t s g c out out′ r → (r ≡ a .refusal) × (out′ ≡ wordsAfter (a .refusal) (proposalWords (a .value)) out)
   tries-served lt ls lo =
       gives-is out (tried-unique (tableAt 0 t) (chainAt 0 s) g c (rows-size 2 t) (rows-size 1 s)) (long-more lt (long-two ls lo))
 
@@ -64,7 +64,7 @@ module _ (p t out : List ℕ) where
   commits-exists = let (a, h) = committed-exists (proposalAt p) (tableAt 0 t) (rows-size 2 t) (rows-size 67 p) in gives-exists out commit-dec a h
 
   pub commits-served : 134 ≤ length p → 66 ≤ length t → 66 ≤ length out → (a : Answer Table) → Committed (proposalAt p) (tableAt 0 t) a
-      → (out′ : List ℕ) (r : ℕ) → Commits p t out out′ r → (r ≡ a .refusal) × (out′ ≡ left (a .refusal) (tableWords (a .value)) out)
+      → (out′ : List ℕ) (r : ℕ) → Commits p t out out′ r → (r ≡ a .refusal) × (out′ ≡ wordsAfter (a .refusal) (tableWords (a .value)) out)
   commits-served lp lt lo =
       gives-is out (committed-unique (proposalAt p) (tableAt 0 t) (rows-size 2 t) (rows-size 67 p)) (long-more lp (long-two lt lo))
 

@@ -6,18 +6,14 @@ use trials;
 use trials::Effect;
 use trials::Proposal;
 use words;
+use words::CHAIN;
+use words::SHORT;
+use words::TABLE;
 ghost use mathlib.Core.Path.{_≡_};
 ghost use Rattle.words.specs.Layouts.{Put};
 ghost use Rattle.c_trials.specs.Serving.{effectOf, effectWord, placeWord, proposalAt, proposalWords, Tries, Commits};
 
-// What is returned where a lent slice is shorter than its layout.
-const SHORT: u64 = 100;
-
-// The words of a table, of a chain, and of a proposal.
-const TABLE: usize = 66;
-
-const CHAIN: usize = 65;
-
+// The words of a proposal.
 const PROPOSAL: usize = 134;
 
 // Where a proposal has its chain, its place and its effect.

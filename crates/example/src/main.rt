@@ -2,7 +2,9 @@
 // first, the first says why it lacks a pair, the fewest that hold every pair are found, a chain is judged, grown and wired pair by pair, the flip of
 // one entry is tried and committed, a table is made from rows and listed by cases, one without the ladders that calibration never needs, and one is
 // made that anybody can make again. Every answer is looked at before its values are used.
+use basics;
 use count::Count;
+use file_writer::Written;
 use judge::Judgement;
 use libc::STDOUT_FILENO;
 use mechanisms::CoverOutcome;
@@ -17,19 +19,18 @@ use table::Gauge;
 use table::Table;
 use trials::Effect;
 use wiring::Ordered;
-use writer::Written;
 
 fn main() {
     let file =
         b"%%MatrixMarket matrix coordinate pattern general\n% K3\n3 3 6\n1 1\n1 2\n2 1\n2 2\n3 2\n3 3\n";
-    let made = reader::read(file);
+    let made = file_reader::read(file);
     let verdict = made.verdict;
     let t = made.table;
     match verdict {
         Verdict::Refused(why) => refused(why),
         Verdict::Accepted => {
             // Comment line 1, as a part of the bytes read; empty where there is none.
-            say(reader::comment(file, 1));
+            say(file_reader::comment(file, 1));
             say(b"\n");
             count_them(t);
             list(t, GaugeOrder::plain(t.gauges), false);
@@ -113,7 +114,7 @@ fn left_out(t: Table) {
     let sequence = step.picks;
     let picks = sequence.0;
     say(b"picks from gauge ");
-    io::print_decimal(STDOUT_FILENO, wide(picks[0]));
+    io::print_decimal(STDOUT_FILENO, basics::wide(picks[0]));
     let reason = explain::explain_gauge(step.next, Gauge(3), Case(3));
     let verdict = reason.verdict;
     let pick = reason.pick;
@@ -125,10 +126,6 @@ fn left_out(t: Table) {
         }
         Verdict::Refused(why) => refused(why),
     }
-}
-
-fn wide(number: u8) -> u64 {
-    number as u64
 }
 
 // Says how few ladders hold every pair of a table of up to 8 by 8: the search tries at most 1,000 here. The ladders stand in `found.cover`.
@@ -181,9 +178,9 @@ fn wire(t: Table, chain: Chain, ladder: Chain) {
         Ordered::Pairs(n) => {
             io::print_decimal(STDOUT_FILENO, n as u64);
             say(b" pairs to wire, the first ");
-            io::print_decimal(STDOUT_FILENO, wide(order[0]));
+            io::print_decimal(STDOUT_FILENO, basics::wide(order[0]));
             say(b":");
-            io::print_decimal(STDOUT_FILENO, wide(order[1]));
+            io::print_decimal(STDOUT_FILENO, basics::wide(order[1]));
             say(b"\n");
         }
         Ordered::Refused(why) => refused(why),
@@ -298,7 +295,7 @@ fn show(ladder: Chain, cases: u64) {
         rows: rows,
     };
     let mut buffer = io::large_buffer();
-    let written = writer::write(t, &mut buffer);
+    let written = file_writer::write(t, &mut buffer);
     match written {
         Written::Length(n) => say_front(&buffer, n),
         Written::Refused(why) => refused(why),

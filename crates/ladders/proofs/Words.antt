@@ -11,8 +11,8 @@ use native.Mathlib.Omega.{arith}
 use lib.ListN.{length, getD, drop, replicate, drop-of-length-le}
 use lib.Seq.{drop-cons}
 use borrow.Author.Tests.{le-leb, lt-leb}
-use Rattle.text.specs.Fields.{isDigit, digitOf}
-use Rattle.text.proofs.Scanning.{digit-is, digit-not}
+use Rattle.file_text.specs.Fields.{isDigit, digitOf}
+use Rattle.file_text.proofs.Scanning.{digit-is, digit-not}
 use Rattle.ladders.specs.Cutoff.{numberFrom, upTo, cutoffOf}
 
 -- ---- one digit

@@ -7,7 +7,7 @@ use mathlib.Core.List.{List, [], _∷_}
 use mathlib.Core.Option.{Option, some, none}
 use Prim.Native.Nat.{ℕ, _+_, _-_, _*_}
 use lib.Dec.{leb}
-use Rattle.text.specs.Fields.{isDigit}
+use Rattle.file_text.specs.Fields.{isDigit}
 
 -- the number of what is left of a word, after digits whose number is v; `none` where a byte is no digit
 unfoldable pub numberFrom : ℕ → List ℕ → Option ℕ

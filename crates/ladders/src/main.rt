@@ -5,6 +5,7 @@
 // that went away ends the program quietly. A program of this kind has no exit status: with any argument it says on standard error how it
 // ended in every case, in one line (`say_end`), from which the script `ladders` makes one. A second argument is a cutoff (02, R-5): then a
 // file of either kind is taken, and the table is that of the test at the cutoff.
+use file_text;
 use libc::EPIPE;
 use libc::STDERR_FILENO;
 use libc::STDIN_FILENO;
@@ -12,7 +13,6 @@ use libc::STDOUT_FILENO;
 use preference::GaugeOrder;
 use refusals::Verdict;
 use table::Table;
-use text;
 ghost use mathlib.Core.Path.{_≡_};
 ghost use Prim.Native.Nat.{_+_, _*_, _≤_, min};
 ghost use Rattle.ladders.specs.Cutoff.{cutoffOf};
@@ -62,7 +62,7 @@ fn answer(file: &[u8], n: usize, measured: bool) -> End {
 
 // Answers a file of pairs.
 fn answer_pairs(file: &[u8]) -> End {
-    let made = reader::read(file);
+    let made = file_reader::read(file);
     let verdict = made.verdict;
     let t = made.table;
     match verdict {
@@ -73,7 +73,7 @@ fn answer_pairs(file: &[u8]) -> End {
 
 // Answers a file of either kind, at the cutoff of the second argument.
 fn answer_test(file: &[u8]) -> End {
-    let got = reader::read_test(file, cutoff());
+    let got = file_reader::read_test(file, cutoff());
     let verdict = got.verdict;
     let t = got.table;
     match verdict {
@@ -101,7 +101,7 @@ fn number(word: &[u8]) -> u64
     let mut n: u64 = 0;
     let mut i = 0;
     while i < word.len() {
-        let d = text::digit_of(word[i]);
+        let d = file_text::digit_of(word[i]);
         if 9 < d {
             return 0;
         }

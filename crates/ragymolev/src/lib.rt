@@ -10,8 +10,8 @@ use c_files;
 use c_orders;
 use c_parts;
 use c_reasons;
+use c_recorded;
 use c_runs;
-use c_tests;
 use c_trials;
 ghost use Rattle.lists.specs.Lists.{gaugeSide, caseSide};
 ghost use Rattle.explain.specs.Reasons.{gaugeQuestion, caseQuestion};
@@ -20,14 +20,14 @@ ghost use Rattle.table.specs.declared.Chain.{Chain};
 ghost use Rattle.table.specs.Chains.{IsChain, IsMaximal};
 ghost use Rattle.table.specs.Tables.{tableRows, chainRows};
 ghost use Rattle.samples.specs.Samples.{SampleClaims};
-ghost use Rattle.orders.specs.Adding.{OrderClaims};
+ghost use Rattle.pair_orders.specs.Adding.{OrderClaims};
 ghost use Rattle.c_runs.specs.Serving.{Starts, Runs};
 ghost use Rattle.c_batches.specs.Serving.{Lists};
 ghost use Rattle.c_files.specs.Serving.{Reads, Locates, ShowsComment, WritesTable};
 ghost use Rattle.c_chains.specs.Serving.{Judges, Grows, Conflicts, Decides, ClaimsConflicts};
 ghost use Rattle.c_counts.specs.Serving.{CountsWords, Samples};
 ghost use Rattle.c_reasons.specs.Serving.{Explains, ClaimsReasons};
-ghost use Rattle.c_tests.specs.Serving.{ReadsTest, WritesTest, Equals};
+ghost use Rattle.c_recorded.specs.Serving.{ReadsTest, WritesTest, Equals};
 ghost use Rattle.c_parts.specs.Serving.{GivesCandidates, GivesPart};
 ghost use Rattle.c_trials.specs.Serving.{Tries, Commits};
 ghost use Rattle.c_orders.specs.Serving.{OrdersWords};
@@ -257,7 +257,7 @@ pub extern "C" fn rg_read_test(
     ensures { λ r. ⌜ ReadsTest (now (file .entry)) cutoff (now (test .entry)) (now (readings .entry)) (now (table .entry)) (now (test .exit))
         (now (readings .exit)) (now (table .exit)) r ⌝ }
 {
-    c_tests::read_test(file, cutoff, test, readings, table)
+    c_recorded::read_test(file, cutoff, test, readings, table)
 }
 
 // The file of the test to the front of `bytes`, and its length into `length`.
@@ -271,7 +271,7 @@ pub extern "C" fn rg_write_test(
     ensures { λ r. ⌜ WritesTest (now (test .entry)) (now (readings .entry)) (now (bytes .entry)) (now (length .entry)) (now (bytes .exit))
         (now (length .exit)) r ⌝ }
 {
-    c_tests::write_test(test, readings, bytes, length)
+    c_recorded::write_test(test, readings, bytes, length)
 }
 
 // Whether two tests are equal, 1 or 0, into `answer`.
@@ -286,7 +286,7 @@ pub extern "C" fn rg_equal(
     ensures { λ r. ⌜ Equals (now (test .entry)) (now (readings .entry)) (now (other .entry)) (now (values .entry)) (now (answer .entry))
         (now (answer .exit)) r ⌝ }
 {
-    c_tests::equal(test, readings, other, values, answer)
+    c_recorded::equal(test, readings, other, values, answer)
 }
 
 // The gauges that the gauge run can pick next, each of which makes a part of its list, into `numbers`.

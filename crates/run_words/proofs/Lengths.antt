@@ -1,16 +1,12 @@
--- Where the parts of a value and of an answer begin: the lengths of what is before them. Then the words of a value whose phase was turned into its number.
+-- Where the parts of a value and of an answer begin: the lengths of what is before them.
 use mathlib.Core.Path.{_≡_}
-use mathlib.Core.Bool.{Bool}
 use mathlib.Core.List.{List, _∷_, _++_}
 use Prim.Native.Nat.{ℕ, _+_}
 use native.Mathlib.Omega.{arith}
 use lib.ListN.{length, length-append}
 use Rattle.table.specs.declared.Table.{Table}
 use Rattle.table.specs.declared.Chain.{Chain}
-use Rattle.words.specs.Layouts.{tableWords, chainWords, Put}
-use Rattle.run_words.specs.Values.{partWords, markOf}
-use Rattle.run_words.specs.declared.Mark.{Mark}
-use Rattle.rules.specs.Machine.{Phase}
+use Rattle.words.specs.Layouts.{tableWords, chainWords}
 
 module _ (k : ℕ) (t : Table) (e : length (t .rows) ≡ 64) where
   pub order-place : 67 ≡ 0 + length (k ∷ tableWords t)
@@ -25,8 +21,3 @@ module _ (k : ℕ) (t : Table) (e : length (t .rows) ≡ 64) where
 
 pub answer-picks-place : (o m : ℕ) (s : Chain) → length (s .rows) ≡ 64 → 67 ≡ 0 + length (o ∷ (m ∷ chainWords s))
 answer-picks-place o m s e = omega (arith, e)
-
-pub put-marked : (l m : List ℕ) (k : ℕ) (t : Table) (o p : List ℕ) (n : ℕ) (x : Mark) (f : Phase) (b : Bool) → x ≡ markOf f → Put l 0
-    (partWords k t o p n x b) m
-    → Put l 0 (partWords k t o p n (markOf f) b) m
-put-marked l m k t o p n x f b e h = rw e at h

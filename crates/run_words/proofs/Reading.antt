@@ -1,5 +1,5 @@
 -- The phase that words read as: a law for each return of the code, for either side.
-use mathlib.Core.Path.{_≡_, refl, ap, _∙_}
+use mathlib.Core.Path.{_≡_, ap, _∙_}
 use mathlib.Core.Bool.{Bool, true, false, not}
 use mathlib.Core.List.{List}
 use Prim.Native.Nat.{ℕ, _≤_, _<_}
@@ -9,7 +9,7 @@ use Rattle.rules.specs.Machine.{Phase, Down, Handed, Back, Ended}
 use Rattle.table.specs.declared.Table.{Table}
 use Rattle.runs.specs.Paused.{Value}
 use Rattle.words.specs.Layouts.{wordAt, numbersAt, tableAt}
-use Rattle.run_words.specs.Values.{phaseOf, isValue, markAt, valueAt}
+use Rattle.run_words.specs.Values.{sideWord, phaseOf, isValue, markAt, valueAt}
 use Rattle.run_words.specs.declared.Mark.{Mark}
 
 -- ---- a phase by its number
@@ -73,7 +73,7 @@ pub mark-is : (k : ℕ) (w : List ℕ) (t : Bool) → t ≡ isValue k w → t �
 mark-is k w t e h p f ep ef = let z : isValue k w ≡ true = cc in rw z (cc)
 
 -- ---- a value by its parts
-pub value-is : (k : ℕ) (w : List ℕ) (t : Table) (o p : List ℕ) (n x : ℕ) (m : Mark) (f : Phase) → t ≡ tableAt 1 w → o ≡ numbersAt 67 w → p ≡ numbersAt 131 w
-    → n ≡ wordAt w 195 → m ≡ markAt k w → f ≡ phaseOf (m .phase) (m .from) → x ≡ wordAt w 198
-    → _≡_ {A = Value} (record { table = t; order = o; picks = p; count = n; phase = f; omit = not (eqb x 0) }) (valueAt k w)
-value-is k w t o p n x m f et eo ep en em ef ex = rw (et, eo, ep, en, ef, em, ex)
+pub value-is : (b : Bool) (k : ℕ) (w : List ℕ) (t : Table) (o p : List ℕ) (n x : ℕ) (m : Mark) (f : Phase) → t ≡ tableAt 1 w → o ≡ numbersAt 67 w
+    → p ≡ numbersAt 131 w → n ≡ wordAt w 195 → k ≡ sideWord b → m ≡ markAt k w → f ≡ phaseOf (m .phase) (m .from) → x ≡ wordAt w 198
+    → _≡_ {A = Value} (record { table = t; order = o; picks = p; count = n; phase = f; omit = not (eqb x 0) }) (valueAt (sideWord b) w)
+value-is b k w t o p n x m f et eo ep en ek em ef ex = rw (et, eo, ep, en, ef, em, ek, ex)

@@ -46,7 +46,7 @@ numbers-read a w = record { size = numbers-size a w; small = λ i. go i (decLt i
     go i (no l) = omega (arith, List·getD-eq-default (numbersAt a w) 0 {n = i} (omega (arith, numbers-size a w)))
 
 -- ---- words over the front of a slice
-pub front-at : (w vs : List ℕ) → length vs ≤ length w → (i : ℕ) → i < length vs → wordAt (stored w 0 vs) i ≡ getD vs i 0
+front-at : (w vs : List ℕ) → length vs ≤ length w → (i : ℕ) → i < length vs → wordAt (stored w 0 vs) i ≡ getD vs i 0
 front-at w vs h i l =
     ap (λ (x : List ℕ). getD x i 0) (sets-eq vs w 0 (omega arith)) ∙ List·getD-append vs (drop (0 + length vs) w) 0 i l
 
@@ -126,7 +126,7 @@ module _ (n : ℕ) (v : Value) (h : Held v) where
   picks-long : length upTo ≡ 195
   picks-long = omega (arith, length-append (front ++ v .order) (v .picks), order-long, h .picks .size)
 
-  pub words-long : length (valueWords n v) ≡ 199
+  words-long : length (valueWords n v) ≡ 199
   words-long = omega (arith, length-append upTo rest, picks-long)
 
   module _ (w : List ℕ) (l : 199 ≤ length w) where

@@ -4,19 +4,26 @@
 -- moves, 2 to 66 the chain by gauge rows, 67 to 130 its pick sequence. Words that no value has read as one that no moves lead to, back from number 0:
 -- so it gets 15, after its table and its preference.
 --
--- In order: the value that words read as; the words of a value; the words and the number of an answer.
-use mathlib.Core.Bool.{Bool, _&&_, _||_, not, cond}
+-- In order: the number of a side; the value that words read as; the words of a value; the words and the number of an answer.
+use mathlib.Core.Bool.{Bool, true, false, _&&_, _||_, not, cond}
 use mathlib.Core.List.{List, [], _∷_, _++_}
 use Prim.Native.Nat.{ℕ}
 use lib.Dec.{eqb, leb}
-use Rattle.table.specs.declared.Table.{Table}
+use Rattle.refusals.specs.Answers.{number}
 use Rattle.table.specs.declared.Chain.{Chain}
 use Rattle.rules.specs.Machine.{Phase, Down, Handed, Back, Ended}
 use Rattle.rules.specs.Calls.{Reply, refused, spent, handed, end}
 use Rattle.runs.specs.Paused.{Value}
 use Rattle.runs.specs.Calling.{Step}
+use Rattle.runs.specs.declared.Outcome.{Outcome}
+use Rattle.runs.specs.declared.Outcome.the-variants.{HandedOut, Spent, End, Refused}
 use Rattle.words.specs.Layouts.{wordAt, numbersAt, tableAt, tableWords, chainWords}
 use Rattle.run_words.specs.declared.Mark.{Mark}
+
+-- ---- the number of a side by its mark, true for the cases (`sideOf`, runs/specs/Sides): the first word of its values
+abbrev pub sideWord : Bool → ℕ
+sideWord false = 1
+sideWord true = 2
 
 -- ---- reading
 -- the phase with the number n, back from x
@@ -53,13 +60,11 @@ markOf Ended = record { phase = 3; from = 0 }
 abbrev pub wordOf : Bool → ℕ
 wordOf b = cond b 1 0
 
--- the words of a value by its parts, of the side k
-abbrev pub partWords : ℕ → Table → List ℕ → List ℕ → ℕ → Mark → Bool → List ℕ
-partWords k t order picks count m omit =
-    k ∷ tableWords t ++ order ++ picks ++ (count ∷ (m .phase ∷ (m .from ∷ (wordOf omit ∷ []))))
-
+-- the words of a value of the side k
 abbrev pub valueWords : ℕ → Value → List ℕ
-valueWords k v = partWords k (v .table) (v .order) (v .picks) (v .count) (markOf (v .phase)) (v .omit)
+valueWords k v =
+    k ∷ tableWords (v .table) ++ v .order ++ v .picks
+    ++ (v .count ∷ (markOf (v .phase) .phase ∷ (markOf (v .phase) .from ∷ (wordOf (v .omit) ∷ []))))
 
 -- ---- answers
 abbrev pub answerWords : ℕ → ℕ → Chain → List ℕ → List ℕ
@@ -77,6 +82,19 @@ refusalNumber (refused n) = n
 refusalNumber (handed x) = 0
 refusalNumber spent = 0
 refusalNumber end = 0
+
+-- the same of an outcome as the code has it, before it reads as an answer
+abbrev pub outcomeOf : Outcome → ℕ
+outcomeOf (Refused why) = 0
+outcomeOf HandedOut = 1
+outcomeOf Spent = 2
+outcomeOf End = 3
+
+abbrev pub refusedOf : Outcome → ℕ
+refusedOf (Refused why) = number why
+refusedOf HandedOut = 0
+refusedOf Spent = 0
+refusedOf End = 0
 
 abbrev pub stepWords : Step → List ℕ
 stepWords s = answerWords (outcomeNumber (s .answer)) (s .moves) (s .chain) (s .picks)

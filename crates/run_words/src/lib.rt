@@ -1,26 +1,23 @@
 // Paused values and the answers of run calls in words: a value of either side read from a lent slice, put into one, and a call's answer put into one.
-// What the two sides have in common is below both. Any words are taken: those that no value has read as a value that no moves lead to. No function
-// has a `requires`.
-use preference::CaseOrder;
-use preference::GaugeOrder;
-use runs::CasePhase;
-use runs::CasePicks;
-use runs::CaseRun;
-use runs::GaugePicks;
-use runs::GaugeRun;
-use runs::Phase;
-use table::Case;
+// Either side's value is a `runs::SideRun`; the side's number, its first word, is by the mark that is handed over, and the one place where the sides part.
+// Any words are taken: those that no value of the side has read as a value that no moves lead to. No function has a `requires`.
+use refusals;
+use runs::Mode;
+use runs::Outcome;
+use runs::SideRun;
 use table::Chain;
-use table::Gauge;
-use table::Table;
 use words;
 ghost use mathlib.Core.Path.{_≡_};
-ghost use Rattle.runs.specs.Paused.{gaugePhase, casePhase, gaugeValue, caseValue};
+ghost use Rattle.runs.specs.Paused.{modePhase};
+ghost use Rattle.runs.specs.Sides.{sideValue};
 ghost use Rattle.words.specs.Layouts.{Put};
-ghost use Rattle.run_words.specs.Values.{valueAt, valueWords, phaseOf, markOf};
-ghost use Rattle.run_words.specs.Values.{answerWords, partWords, markAt, isValue as valueWordsOf, wordOf};
+ghost use Rattle.run_words.specs.Values.{sideWord, valueAt, valueWords, phaseOf, markOf};
+ghost use Rattle.run_words.specs.Values.{answerWords, refusedOf, outcomeOf, markAt, isValue as valueWordsOf, wordOf};
 
-// The number of each side, the first word of its paused values.
+// The words of a paused value.
+pub const RUN: usize = 199;
+
+// The number of each side.
 const GAUGES: u64 = 1;
 
 const CASES: u64 = 2;
@@ -60,68 +57,67 @@ pub struct Mark {
     pub from: u64,
 }
 
-// The gauge run in the words of a slice.
-pub fn gauge_run_at(w: &[u64]) -> GaugeRun
-    ensures { λ r. ⌜ gaugeValue r ≡ valueAt 1 (now (w .entry)) ⌝ }
+// The run in the words of a slice, a case run or not.
+pub fn side_run_at(w: &[u64], cases: bool) -> SideRun
+    ensures { λ r. ⌜ sideValue r ≡ valueAt (sideWord cases) (now (w .entry)) ⌝ }
+    ensures mark { λ r. ⌜ r .cases ≡ cases ⌝ }
 {
     let table = words::table_at(w, TABLE);
-    let order = GaugeOrder(words::numbers_at(w, ORDER));
-    let picks = GaugePicks(words::numbers_at(w, PICKS));
-    let mark = mark_at(w, GAUGES);
-    GaugeRun {
+    let order = words::numbers_at(w, ORDER);
+    let picks = words::numbers_at(w, PICKS);
+    let mark = mark_at(w, side_number(cases));
+    SideRun {
+        cases: cases,
         table: table,
         order: order,
         picks: picks,
         count: words::word_at(w, COUNT),
-        phase: gauge_phase(mark),
+        mode: mode_of(mark),
         omit: words::word_at(w, OMIT) != 0,
     }
 }
 
-// The case run in the words of a slice.
-pub fn case_run_at(w: &[u64]) -> CaseRun
-    ensures { λ r. ⌜ caseValue r ≡ valueAt 2 (now (w .entry)) ⌝ }
+// Puts a run over the front of a slice, as a case run or not.
+pub fn put_side_run(out: &mut [u64], p: SideRun, cases: bool)
+    ensures { λ r. ⌜ Put (now (out .entry)) 0 (valueWords (sideWord cases) (sideValue p)) (now (out .exit)) ⌝ }
 {
-    let table = words::table_at(w, TABLE);
-    let order = CaseOrder(words::numbers_at(w, ORDER));
-    let picks = CasePicks(words::numbers_at(w, PICKS));
-    let mark = mark_at(w, CASES);
-    CaseRun {
-        table: table,
-        order: order,
-        picks: picks,
-        count: words::word_at(w, COUNT),
-        phase: case_phase(mark),
-        omit: words::word_at(w, OMIT) != 0,
+    let table = p.table;
+    let order = p.order;
+    let picks = p.picks;
+    let mode = p.mode;
+    let mark = mark_of(mode);
+    words::put_word(out, 0, side_number(cases));
+    words::put_table(out, TABLE, table);
+    words::put_numbers(out, ORDER, order);
+    words::put_numbers(out, PICKS, picks);
+    words::put_word(out, COUNT, p.count);
+    words::put_word(out, PHASE, mark.phase);
+    words::put_word(out, FROM, mark.from);
+    words::put_word(out, OMIT, flag(p.omit));
+}
+
+// The number of the refusal that an outcome is, else 0.
+pub fn refused_number(outcome: Outcome) -> u64
+    ensures { λ r. ⌜ r ≡ refusedOf outcome ⌝ }
+{
+    match outcome {
+        Outcome::Refused(why) => refusals::refusal_number(why),
+        Outcome::HandedOut => 0,
+        Outcome::Spent => 0,
+        Outcome::End => 0,
     }
 }
 
-// Puts a gauge run over the front of a slice.
-pub fn put_gauge_run(out: &mut [u64], p: GaugeRun)
-    ensures { λ r. ⌜ Put (now (out .entry)) 0 (valueWords 1 (gaugeValue p)) (now (out .exit)) ⌝ }
+// The number of an outcome in an answer, 0 where it is a refusal.
+pub fn outcome_number(outcome: Outcome) -> u64
+    ensures { λ r. ⌜ r ≡ outcomeOf outcome ⌝ }
 {
-    let kept = p.order;
-    let order = kept.0;
-    let held = p.picks;
-    let picks = held.0;
-    let phase = p.phase;
-    let table = p.table;
-    let mark = gauge_mark(phase);
-    put_value(out, GAUGES, table, order, picks, p.count, mark, p.omit);
-}
-
-// Puts a case run over the front of a slice.
-pub fn put_case_run(out: &mut [u64], p: CaseRun)
-    ensures { λ r. ⌜ Put (now (out .entry)) 0 (valueWords 2 (caseValue p)) (now (out .exit)) ⌝ }
-{
-    let kept = p.order;
-    let order = kept.0;
-    let held = p.picks;
-    let picks = held.0;
-    let phase = p.phase;
-    let table = p.table;
-    let mark = case_mark(phase);
-    put_value(out, CASES, table, order, picks, p.count, mark, p.omit);
+    match outcome {
+        Outcome::Refused(why) => 0,
+        Outcome::HandedOut => 1,
+        Outcome::Spent => 2,
+        Outcome::End => 3,
+    }
 }
 
 // Puts the answer of a call over the front of a slice.
@@ -134,27 +130,14 @@ pub fn put_answer(out: &mut [u64], outcome: u64, moves: u64, chain: Chain, picks
     words::put_numbers(out, ANSWER_PICKS, picks);
 }
 
-// Puts the parts of a value of either side over the front of a slice.
-fn put_value(
-    out: &mut [u64],
-    side: u64,
-    table: Table,
-    order: [u8; 64],
-    picks: [u8; 64],
-    count: u64,
-    mark: Mark,
-    omit: bool,
-)
-    ensures { λ r. ⌜ Put (now (out .entry)) 0 (partWords side table order picks count mark omit) (now (out .exit)) ⌝ }
+// The number of a side, the first word of its paused values.
+fn side_number(cases: bool) -> u64
+    ensures { λ r. ⌜ r ≡ sideWord cases ⌝ }
 {
-    words::put_word(out, 0, side);
-    words::put_table(out, TABLE, table);
-    words::put_numbers(out, ORDER, order);
-    words::put_numbers(out, PICKS, picks);
-    words::put_word(out, COUNT, count);
-    words::put_word(out, PHASE, mark.phase);
-    words::put_word(out, FROM, mark.from);
-    words::put_word(out, OMIT, flag(omit));
+    if cases {
+        return CASES;
+    }
+    GAUGES
 }
 
 // 1 for true and 0 for false.
@@ -203,76 +186,40 @@ fn is_value(w: &[u64], side: u64) -> bool
     words::word_at(w, FROM) == 0
 }
 
-fn gauge_phase(mark: Mark) -> Phase
-    ensures { λ r. ⌜ gaugePhase r ≡ phaseOf (mark .phase) (mark .from) ⌝ }
+// The phase that a mark stands for.
+fn mode_of(mark: Mark) -> Mode
+    ensures { λ r. ⌜ modePhase r ≡ phaseOf (mark .phase) (mark .from) ⌝ }
 {
     if mark.phase == DOWN {
-        return Phase::Down;
+        return Mode::Down;
     }
     if mark.phase == HANDED {
-        return Phase::Handed;
+        return Mode::Handed;
     }
     if mark.phase == ENDED {
-        return Phase::Ended;
+        return Mode::Ended;
     }
-    Phase::Back(Gauge(mark.from))
+    Mode::Back(mark.from as usize)
 }
 
-fn case_phase(mark: Mark) -> CasePhase
-    ensures { λ r. ⌜ casePhase r ≡ phaseOf (mark .phase) (mark .from) ⌝ }
+// The mark of a phase.
+fn mark_of(mode: Mode) -> Mark
+    ensures { λ r. ⌜ r ≡ markOf (modePhase mode) ⌝ }
 {
-    if mark.phase == DOWN {
-        return CasePhase::Down;
-    }
-    if mark.phase == HANDED {
-        return CasePhase::Handed;
-    }
-    if mark.phase == ENDED {
-        return CasePhase::Ended;
-    }
-    CasePhase::Back(Case(mark.from))
-}
-
-fn gauge_mark(phase: Phase) -> Mark
-    ensures { λ r. ⌜ r ≡ markOf (gaugePhase phase) ⌝ }
-{
-    match phase {
-        Phase::Down => Mark {
+    match mode {
+        Mode::Down => Mark {
             phase: DOWN,
             from: 0,
         },
-        Phase::Handed => Mark {
+        Mode::Handed => Mark {
             phase: HANDED,
             from: 0,
         },
-        Phase::Back(g) => Mark {
+        Mode::Back(k) => Mark {
             phase: BACK,
-            from: g.0,
+            from: k as u64,
         },
-        Phase::Ended => Mark {
-            phase: ENDED,
-            from: 0,
-        },
-    }
-}
-
-fn case_mark(phase: CasePhase) -> Mark
-    ensures { λ r. ⌜ r ≡ markOf (casePhase phase) ⌝ }
-{
-    match phase {
-        CasePhase::Down => Mark {
-            phase: DOWN,
-            from: 0,
-        },
-        CasePhase::Handed => Mark {
-            phase: HANDED,
-            from: 0,
-        },
-        CasePhase::Back(c) => Mark {
-            phase: BACK,
-            from: c.0,
-        },
-        CasePhase::Ended => Mark {
+        Mode::Ended => Mark {
             phase: ENDED,
             from: 0,
         },

@@ -20,11 +20,11 @@ pub fn table(t: Tally) -> Tally {
 
 // The table with gauges and cases exchanged.
 fn turned(t: Tally) -> Tally {
-    let made = transpose::transpose_table(boards::table_of(t.gauges, t.cases, t.pairs));
-    let table = made.table;
-    let rows = table.rows;
+    let table = boards::table_of(t.gauges, t.cases, t.pairs);
+    let given = table.rows;
+    let rows = transpose::transposed(&given, t.gauges as usize, t.cases as usize);
     tally::same(
-        tally::same(t, t.cases, table.gauges),
+        t,
         0,
         boards::rows_off(&rows, plain::turned(plain::CASES, t.pairs)),
     )

@@ -14,15 +14,6 @@ returns c = (gives-short _ (inl (c .if1 .taken)), λ e. conflict-claims _)
 returns-2 : tie.Need-returns-2
 returns-2 c = (gives-short _ (inr (c .if2 .taken)), λ e. conflict-claims _)
 
-table-at-requires : tie.Need-table-at-requires
-table-at-requires c κs = search needs
-
-is-essential-requires : tie.Need-is-essential-requires
-is-essential-requires c κs = search needs
-
-judged-number-requires : tie.Need-judged-number-requires
-judged-number-requires c κs = search needs
-
 returns-3 : tie.Need-returns-3
 returns-3 c =
     let n = c .before in
@@ -34,15 +25,6 @@ returns-3 c =
           (c .if3 .taken),
       λ e. conflict-claims _,
     )
-
-judged-word-requires : tie.Need-judged-word-requires
-judged-word-requires c κs = search needs
-
-put-word-requires : tie.Need-put-word-requires
-put-word-requires c κs = search needs
-
-same-length : tie.Need-same-length
-same-length c = search needs
 
 returns-4 : tie.Need-returns-4
 returns-4 c =
@@ -65,11 +47,11 @@ decides-spec =
     (tie.spec
     returns
     returns-2
-    table-at-requires
-    is-essential-requires
-    judged-number-requires
+    (λ c κs. search needs)
+    (λ c κs. search needs)
+    (λ c κs. search needs)
     returns-3
-    judged-word-requires
-    put-word-requires
-    same-length
+    (λ c κs. search needs)
+    (λ c κs. search needs)
+    (λ c. search needs)
     returns-4)

@@ -19,21 +19,6 @@ returns-3 c = gives-short _ (inr (inr (inl (c .if3 .taken))))
 returns-4 : tie.Need-returns-4
 returns-4 c = gives-short _ (inr (inr (inr (c .if4 .taken))))
 
-table-at-requires : tie.Need-table-at-requires
-table-at-requires c κs = search needs
-
-numbers-at-requires : tie.Need-numbers-at-requires
-numbers-at-requires c κs = search needs
-
-chain-at-requires : tie.Need-chain-at-requires
-chain-at-requires c κs = search needs
-
-extend-chain-requires : tie.Need-extend-chain-requires
-extend-chain-requires c κs = search needs
-
-verdict-number-requires : tie.Need-verdict-number-requires
-verdict-number-requires c κs = search needs
-
 returns-5 : tie.Need-returns-5
 returns-5 c =
     let n = c .before in
@@ -45,12 +30,6 @@ returns-5 c =
     (grown-at (a .table .now) _ (x .before .before .before .table-at .ensures) (a .order .now) (a .chain .now) _ _ _
     (x .before .before .numbers-at .ensures) (x .before .chain-at .ensures) (x .extend-chain .ensures)) _
     (n .verdict-number .ensures) (c .if5 .taken)
-
-put-chain-requires : tie.Need-put-chain-requires
-put-chain-requires c κs = search needs
-
-same-length : tie.Need-same-length
-same-length c = search needs
 
 returns-6 : tie.Need-returns-6
 returns-6 c =
@@ -73,12 +52,12 @@ grow-spec =
     returns-2
     returns-3
     returns-4
-    table-at-requires
-    numbers-at-requires
-    chain-at-requires
-    extend-chain-requires
-    verdict-number-requires
+    (λ c κs. search needs)
+    (λ c κs. search needs)
+    (λ c κs. search needs)
+    (λ c κs. search needs)
+    (λ c κs. search needs)
     returns-5
-    put-chain-requires
-    same-length
+    (λ c κs. search needs)
+    (λ c. search needs)
     returns-6)

@@ -20,18 +20,6 @@ returns-2 c = gives-short _ (inr (inl (c .if2 .taken)))
 returns-3 : tie.Need-returns-3
 returns-3 c = gives-short _ (inr (inr (c .if3 .taken)))
 
-table-at-requires : tie.Need-table-at-requires
-table-at-requires c κs = search needs
-
-chain-at-requires : tie.Need-chain-at-requires
-chain-at-requires c κs = search needs
-
-judge-maximal-requires : tie.Need-judge-maximal-requires
-judge-maximal-requires c κs = search needs
-
-judged-number-requires : tie.Need-judged-number-requires
-judged-number-requires c κs = search needs
-
 returns-4 : tie.Need-returns-4
 returns-4 c =
     let n = c .before in
@@ -42,15 +30,6 @@ returns-4 c =
     (judged-at (a .table .now) _ (j .before .before .table-at .ensures) (a .chain .now) _
     (λ (t : Table) (s : Chain). IsMaximal (tableRows t) (chainRows s)) _ (j .before .chain-at .ensures) (j .judge-maximal .ensures)) _
     (n .judged-number .ensures) (c .if4 .taken)
-
-judged-word-requires : tie.Need-judged-word-requires
-judged-word-requires c κs = search needs
-
-put-word-requires : tie.Need-put-word-requires
-put-word-requires c κs = search needs
-
-same-length : tie.Need-same-length
-same-length c = search needs
 
 returns-5 : tie.Need-returns-5
 returns-5 c =
@@ -72,12 +51,12 @@ judge-ladder-spec =
     returns
     returns-2
     returns-3
-    table-at-requires
-    chain-at-requires
-    judge-maximal-requires
-    judged-number-requires
+    (λ c κs. search needs)
+    (λ c κs. search needs)
+    (λ c κs. search needs)
+    (λ c κs. search needs)
     returns-4
-    judged-word-requires
-    put-word-requires
-    same-length
+    (λ c κs. search needs)
+    (λ c κs. search needs)
+    (λ c. search needs)
     returns-5)

@@ -14,15 +14,6 @@ returns c = (gives-short _ (inl (c .if1 .taken)), λ e. conflict-claims _)
 returns-2 : tie.Need-returns-2
 returns-2 c = (gives-short _ (inr (c .if2 .taken)), λ e. conflict-claims _)
 
-table-at-requires : tie.Need-table-at-requires
-table-at-requires c κs = search needs
-
-conflicts-of-requires : tie.Need-conflicts-of-requires
-conflicts-of-requires c κs = search needs
-
-verdict-number-requires : tie.Need-verdict-number-requires
-verdict-number-requires c κs = search needs
-
 returns-3 : tie.Need-returns-3
 returns-3 c =
     let n = c .before in
@@ -34,12 +25,6 @@ returns-3 c =
           (n .verdict-number .ensures) (c .if3 .taken),
       λ e. conflict-claims _,
     )
-
-put-rows-requires : tie.Need-put-rows-requires
-put-rows-requires c κs = search needs
-
-same-length : tie.Need-same-length
-same-length c = search needs
 
 returns-4 : tie.Need-returns-4
 returns-4 c =
@@ -61,10 +46,10 @@ rivals-spec =
     (tie.spec
     returns
     returns-2
-    table-at-requires
-    conflicts-of-requires
-    verdict-number-requires
+    (λ c κs. search needs)
+    (λ c κs. search needs)
+    (λ c κs. search needs)
     returns-3
-    put-rows-requires
-    same-length
+    (λ c κs. search needs)
+    (λ c. search needs)
     returns-4)

@@ -17,18 +17,6 @@ returns-2 c = gives-short _ (inr (inl (c .if2 .taken)))
 returns-3 : tie.Need-returns-3
 returns-3 c = gives-short _ (inr (inr (c .if3 .taken)))
 
-table-at-requires : tie.Need-table-at-requires
-table-at-requires c κs = search needs
-
-numbers-at-requires : tie.Need-numbers-at-requires
-numbers-at-requires c κs = search needs
-
-count-ladders-requires : tie.Need-count-ladders-requires
-count-ladders-requires c κs = search needs
-
-count-number-requires : tie.Need-count-number-requires
-count-number-requires c κs = search needs
-
 returns-4 : tie.Need-returns-4
 returns-4 c =
     let n = c .before in
@@ -39,27 +27,6 @@ returns-4 c =
     (counts-at (a .table .now) (a .order .now) _ _ (a .budget) _ (x .before .before .table-at .ensures) (x .before .numbers-at .ensures)
     (x .count-ladders .ensures)) _
     (n .count-number .ensures) (c .if4 .taken)
-
-count-kind-requires : tie.Need-count-kind-requires
-count-kind-requires c κs = search needs
-
-put-word-requires : tie.Need-put-word-requires
-put-word-requires c κs = search needs
-
-count-of-ladders-requires : tie.Need-count-of-ladders-requires
-count-of-ladders-requires c κs = search needs
-
-put-word-requires-2 : tie.Need-put-word-requires-2
-put-word-requires-2 c κs = search needs
-
-count-of-calls-requires : tie.Need-count-of-calls-requires
-count-of-calls-requires c κs = search needs
-
-put-word-requires-3 : tie.Need-put-word-requires-3
-put-word-requires-3 c κs = search needs
-
-same-length : tie.Need-same-length
-same-length c = search needs
 
 returns-5 : tie.Need-returns-5
 returns-5 c =
@@ -86,16 +53,16 @@ count-ladders-spec =
     returns
     returns-2
     returns-3
-    table-at-requires
-    numbers-at-requires
-    count-ladders-requires
-    count-number-requires
+    (λ c κs. search needs)
+    (λ c κs. search needs)
+    (λ c κs. search needs)
+    (λ c κs. search needs)
     returns-4
-    count-kind-requires
-    put-word-requires
-    count-of-ladders-requires
-    put-word-requires-2
-    count-of-calls-requires
-    put-word-requires-3
-    same-length
+    (λ c κs. search needs)
+    (λ c κs. search needs)
+    (λ c κs. search needs)
+    (λ c κs. search needs)
+    (λ c κs. search needs)
+    (λ c κs. search needs)
+    (λ c. search needs)
     returns-5)

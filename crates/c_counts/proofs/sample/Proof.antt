@@ -9,24 +9,12 @@ use Rattle.c_counts.proofs.sample.Tie as tie
 returns : tie.Need-returns
 returns c = (gives-short _ (c .if1 .taken), sample-claims _ _ _ _)
 
-sample-table-requires : tie.Need-sample-table-requires
-sample-table-requires c κs = search needs
-
-verdict-number-requires : tie.Need-verdict-number-requires
-verdict-number-requires c κs = search needs
-
 returns-2 : tie.Need-returns-2
 returns-2 c = (
   gives-refused _ (long (c .before .before .before .if1 .left)) (made (c .before .before .sample-table .result))
       (c .before .before .sample-table .ensures .0) _ (c .before .verdict-number .ensures) (c .if2 .taken),
   sample-claims _ _ _ _,
 )
-
-put-table-requires : tie.Need-put-table-requires
-put-table-requires c κs = search needs
-
-same-length : tie.Need-same-length
-same-length c = search needs
 
 returns-3 : tie.Need-returns-3
 returns-3 c =
@@ -43,9 +31,9 @@ sample-spec =
     tie.close
     (tie.spec
     returns
-    sample-table-requires
-    verdict-number-requires
+    (λ c κs. search needs)
+    (λ c κs. search needs)
     returns-2
-    put-table-requires
-    same-length
+    (λ c κs. search needs)
+    (λ c. search needs)
     returns-3)

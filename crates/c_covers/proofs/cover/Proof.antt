@@ -1,7 +1,7 @@
 -- `c_covers::cover` meets its contract: the promise of the table that the words read as.
 use mathlib.Core.Path.{refl}
 use mathlib.Core.Logic.{inl, inr}
-use Rattle.mechanisms.specs.Covering.{reading}
+use Rattle.mechanisms.specs.Covering.{fewest}
 use Rattle.words.proofs.Storing.{put-two, put-as}
 use Rattle.words.proofs.Serving.{long-two}
 use Rattle.c_covers.proofs.Serving.{covers-short, covers-refused, covers-done}
@@ -15,15 +15,6 @@ returns c = covers-short _ _ _ (inl (c .if1 .taken))
 returns-2 : tie.Need-returns-2
 returns-2 c = covers-short _ _ _ (inr (c .if2 .taken))
 
-table-at-requires : tie.Need-table-at-requires
-table-at-requires c κs = search needs
-
-fewest-ladders-requires : tie.Need-fewest-ladders-requires
-fewest-ladders-requires c κs = search needs
-
-outcome-number-requires : tie.Need-outcome-number-requires
-outcome-number-requires c κs = search needs
-
 returns-3 : tie.Need-returns-3
 returns-3 c =
     let n = c .before in
@@ -31,25 +22,7 @@ returns-3 c =
     let e = x .before .before in
     let a = e .before .before .before .before .args in
     covers-refused (a .table .now) _ (x .before .table-at .ensures) (a .budget) (a .out .now) (long-two (e .before .if1 .left) (e .if2 .left))
-    (reading (x .fewest-ladders .result)) (x .fewest-ladders .ensures) _ (n .outcome-number .ensures) (c .if3 .taken)
-
-outcome-kind-requires : tie.Need-outcome-kind-requires
-outcome-kind-requires c κs = search needs
-
-put-word-requires : tie.Need-put-word-requires
-put-word-requires c κs = search needs
-
-put-word-requires-2 : tie.Need-put-word-requires-2
-put-word-requires-2 c κs = search needs
-
-put-word-requires-3 : tie.Need-put-word-requires-3
-put-word-requires-3 c κs = search needs
-
-put-chains-requires : tie.Need-put-chains-requires
-put-chains-requires c κs = search needs
-
-same-length : tie.Need-same-length
-same-length c = search needs
+    (fewest (x .fewest-ladders .result)) (x .fewest-ladders .ensures) _ (n .outcome-number .ensures) (c .if3 .taken)
 
 returns-4 : tie.Need-returns-4
 returns-4 c =
@@ -63,7 +36,7 @@ returns-4 c =
     let e = x .before .before in
     let a = e .before .before .before .before .args in
     covers-done (a .table .now) _ (x .before .table-at .ensures) (a .budget) (a .out .now) (long-two (e .before .if1 .left) (e .if2 .left))
-    (reading (x .fewest-ladders .result)) (x .fewest-ladders .ensures) _ (n .outcome-number .ensures) _ _ (z .if3 .left)
+    (fewest (x .fewest-ladders .result)) (x .fewest-ladders .ensures) _ (n .outcome-number .ensures) _ _ (z .if3 .left)
     (put-two (put-two (put-as _ (w1 .before .outcome-kind .ensures) (w1 .put-word .ensures)) (w2 .put-word2 .ensures) refl) (w3 .put-word3 .ensures) refl)
     (q .put-chains .ensures)
 
@@ -73,14 +46,14 @@ cover-spec =
     (tie.spec
     returns
     returns-2
-    table-at-requires
-    fewest-ladders-requires
-    outcome-number-requires
+    (λ c κs. search needs)
+    (λ c κs. search needs)
+    (λ c κs. search needs)
     returns-3
-    outcome-kind-requires
-    put-word-requires
-    put-word-requires-2
-    put-word-requires-3
-    put-chains-requires
-    same-length
+    (λ c κs. search needs)
+    (λ c κs. search needs)
+    (λ c κs. search needs)
+    (λ c κs. search needs)
+    (λ c κs. search needs)
+    (λ c. search needs)
     returns-4)

@@ -1,40 +1,22 @@
 -- `c_covers::outcome_number` meets its contract.
 use mathlib.Core.Path.{ap, sym, _∙_}
-use Rattle.mechanisms.specs.Covering.{replies}
+use Rattle.mechanisms.specs.Covering.{coverOutcomeSays}
 use Rattle.c_covers.specs.Serving.{replyNumber}
 use borrow.Author.Needs.{needs}
 use Rattle.c_covers.proofs.outcome_number.Statement.{statement}
 use Rattle.c_covers.proofs.outcome_number.Tie as tie
 
-enum-known-outcome : tie.Need-enum-known-outcome
-enum-known-outcome c = search needs
-
-refusal-number-requires : tie.Need-refusal-number-requires
-refusal-number-requires c κs = search needs
-
-enum-told : tie.Need-enum-told
-enum-told c = search needs
-
-enum-told-2 : tie.Need-enum-told-2
-enum-told-2 c = search needs
-
 returns : tie.Need-returns
-returns c = c .refusal-number .ensures ∙ sym (ap (λ p. replyNumber (replies p)) (c .before .before .outcome .given .1))
-
-returns-2 : tie.Need-returns-2
-returns-2 c = search needs
-
-returns-3 : tie.Need-returns-3
-returns-3 c = search needs
+returns c = c .refusal-number .ensures ∙ sym (ap (λ p. replyNumber (coverOutcomeSays p)) (c .before .before .outcome .given .1))
 
 pub outcome-number-spec : {M : Type 1} → statement M
 outcome-number-spec =
     tie.close
     (tie.spec
-    enum-known-outcome
-    refusal-number-requires
-    enum-told
-    enum-told-2
+    (λ c. search needs)
+    (λ c κs. search needs)
+    (λ c. search needs)
+    (λ c. search needs)
     returns
-    returns-2
-    returns-3)
+    (λ c. search needs)
+    (λ c. search needs))

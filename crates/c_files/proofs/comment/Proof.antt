@@ -1,6 +1,6 @@
 -- `c_files::comment` meets its contract.
 use mathlib.Core.Path.{refl}
-use Rattle.reader.specs.Comments.{found}
+use Rattle.file_reader.specs.Comments.{found}
 use Rattle.words.proofs.Storing.{put-two, put-as}
 use Rattle.words.proofs.Serving.{gives-short, gives-refused, gives-accepted, long}
 use borrow.Author.Needs.{needs}
@@ -10,30 +10,9 @@ use Rattle.c_files.proofs.comment.Tie as tie
 returns : tie.Need-returns
 returns c = gives-short _ (c .if1 .taken)
 
-comment-at-requires : tie.Need-comment-at-requires
-comment-at-requires c κs = search needs
-
-found-number-requires : tie.Need-found-number-requires
-found-number-requires c κs = search needs
-
 returns-2 : tie.Need-returns-2
 returns-2 c = gives-refused _ (long (c .before .before .before .if1 .left)) (found (c .before .before .comment-at .result))
     (c .before .before .comment-at .ensures) _ (c .before .found-number .ensures) (c .if2 .taken)
-
-found-start-requires : tie.Need-found-start-requires
-found-start-requires c κs = search needs
-
-put-word-requires : tie.Need-put-word-requires
-put-word-requires c κs = search needs
-
-found-length-requires : tie.Need-found-length-requires
-found-length-requires c κs = search needs
-
-put-word-requires-2 : tie.Need-put-word-requires-2
-put-word-requires-2 c κs = search needs
-
-same-length : tie.Need-same-length
-same-length c = search needs
 
 returns-3 : tie.Need-returns-3
 returns-3 c =
@@ -51,12 +30,12 @@ comment-spec =
     tie.close
     (tie.spec
     returns
-    comment-at-requires
-    found-number-requires
+    (λ c κs. search needs)
+    (λ c κs. search needs)
     returns-2
-    found-start-requires
-    put-word-requires
-    found-length-requires
-    put-word-requires-2
-    same-length
+    (λ c κs. search needs)
+    (λ c κs. search needs)
+    (λ c κs. search needs)
+    (λ c κs. search needs)
+    (λ c. search needs)
     returns-3)

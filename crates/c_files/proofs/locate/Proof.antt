@@ -8,15 +8,6 @@ use Rattle.c_files.proofs.locate.Tie as tie
 returns : tie.Need-returns
 returns c = gives-short _ (c .if1 .taken)
 
-locate-requires : tie.Need-locate-requires
-locate-requires c κs = search needs
-
-put-word-requires : tie.Need-put-word-requires
-put-word-requires c κs = search needs
-
-same-length : tie.Need-same-length
-same-length c = search needs
-
 returns-2 : tie.Need-returns-2
 returns-2 c =
     let w = c .before .before in
@@ -24,4 +15,4 @@ returns-2 c =
     gives-accepted _ _ (long (x .before .if1 .left)) (x .locate .result) (x .locate .ensures) 0 refl refl (w .put-word .ensures)
 
 pub locate-spec : {M : Type 1} → statement M
-locate-spec = tie.close (tie.spec returns locate-requires put-word-requires same-length returns-2)
+locate-spec = tie.close (tie.spec returns (λ c κs. search needs) (λ c κs. search needs) (λ c. search needs) returns-2)

@@ -8,21 +8,9 @@ use Rattle.c_files.proofs.read.Tie as tie
 returns : tie.Need-returns
 returns c = gives-short _ (c .if1 .taken)
 
-read-requires : tie.Need-read-requires
-read-requires c κs = search needs
-
-verdict-number-requires : tie.Need-verdict-number-requires
-verdict-number-requires c κs = search needs
-
 returns-2 : tie.Need-returns-2
 returns-2 c = gives-refused _ (long (c .before .before .before .if1 .left)) (made (c .before .before .read .result))
     (c .before .before .read .ensures) _ (c .before .verdict-number .ensures) (c .if2 .taken)
-
-put-table-requires : tie.Need-put-table-requires
-put-table-requires c κs = search needs
-
-same-length : tie.Need-same-length
-same-length c = search needs
 
 returns-3 : tie.Need-returns-3
 returns-3 c =
@@ -36,9 +24,9 @@ read-spec =
     tie.close
     (tie.spec
     returns
-    read-requires
-    verdict-number-requires
+    (λ c κs. search needs)
+    (λ c κs. search needs)
     returns-2
-    put-table-requires
-    same-length
+    (λ c κs. search needs)
+    (λ c. search needs)
     returns-3)

@@ -1,6 +1,6 @@
 -- `c_files::write` meets its contract: the writer's promise of the table that the words read as.
 use mathlib.Core.Logic.{inl, inr}
-use Rattle.writer.specs.Writing.{written}
+use Rattle.file_writer.specs.Writing.{written}
 use Rattle.words.proofs.Serving.{long-two}
 use Rattle.c_files.proofs.Serving.{writes-short, writes-refused, writes-done}
 use borrow.Author.Needs.{needs}
@@ -13,18 +13,6 @@ returns c = writes-short _ _ _ (inl (c .if1 .taken))
 returns-2 : tie.Need-returns-2
 returns-2 c = writes-short _ _ _ (inr (c .if2 .taken))
 
-table-at-requires : tie.Need-table-at-requires
-table-at-requires c κs = search needs
-
-write-requires : tie.Need-write-requires
-write-requires c κs = search needs
-
-written-number-requires : tie.Need-written-number-requires
-written-number-requires c κs = search needs
-
-same-length : tie.Need-same-length
-same-length c = search needs
-
 returns-3 : tie.Need-returns-3
 returns-3 c =
     let n = c .before in
@@ -34,18 +22,6 @@ returns-3 c =
     writes-refused (a .table .now) _ (x .before .before .table-at .ensures) (a .bytes .now) _ (a .length .now)
     (long-two (e .before .if1 .left) (e .if2 .left)) (written (x .write .result)) (x .write .ensures .0) (x .write .ensures .1) _
     (n .written-number .ensures) (c .if3 .taken)
-
-written-length-requires : tie.Need-written-length-requires
-written-length-requires c κs = search needs
-
-put-word-requires : tie.Need-put-word-requires
-put-word-requires c κs = search needs
-
-same-length-2 : tie.Need-same-length-2
-same-length-2 c = search needs
-
-same-length-3 : tie.Need-same-length-3
-same-length-3 c = search needs
 
 returns-4 : tie.Need-returns-4
 returns-4 c =
@@ -65,13 +41,13 @@ write-spec =
     (tie.spec
     returns
     returns-2
-    table-at-requires
-    write-requires
-    written-number-requires
-    same-length
+    (λ c κs. search needs)
+    (λ c κs. search needs)
+    (λ c κs. search needs)
+    (λ c. search needs)
     returns-3
-    written-length-requires
-    put-word-requires
-    same-length-2
-    same-length-3
+    (λ c κs. search needs)
+    (λ c κs. search needs)
+    (λ c. search needs)
+    (λ c. search needs)
     returns-4)

@@ -1,18 +1,9 @@
 -- `c_files::written_number` meets its contract.
 use mathlib.Core.Path.{ap, sym, _∙_}
-use Rattle.writer.specs.Writing.{written}
+use Rattle.file_writer.specs.Writing.{written}
 use borrow.Author.Needs.{needs}
 use Rattle.c_files.proofs.written_number.Statement.{statement}
 use Rattle.c_files.proofs.written_number.Tie as tie
-
-enum-known-written : tie.Need-enum-known-written
-enum-known-written c = search needs
-
-refusal-number-requires : tie.Need-refusal-number-requires
-refusal-number-requires c κs = search needs
-
-enum-known-written-2 : tie.Need-enum-known-written-2
-enum-known-written-2 c = search needs
 
 returns : tie.Need-returns
 returns c = c .refusal-number .ensures ∙ sym (ap (λ p. written p .refusal) (c .before .before .written .given .1))
@@ -23,4 +14,4 @@ returns-2 c = sym (ap (λ p. written p .refusal) (c .before .written2 .given .1)
 pub written-number-spec : {M : Type 1} → statement M
 written-number-spec =
     tie.close
-    (tie.spec enum-known-written refusal-number-requires enum-known-written-2 returns returns-2)
+    (tie.spec (λ c. search needs) (λ c κs. search needs) (λ c. search needs) returns returns-2)

@@ -5,12 +5,6 @@ use borrow.Author.Needs.{needs}
 use Rattle.c_orders.proofs.ordered_pairs.Statement.{statement}
 use Rattle.c_orders.proofs.ordered_pairs.Tie as tie
 
-enum-known-ordered : tie.Need-enum-known-ordered
-enum-known-ordered c = search needs
-
-enum-known-ordered-2 : tie.Need-enum-known-ordered-2
-enum-known-ordered-2 c = search needs
-
 returns : tie.Need-returns
 returns c = sym (ap (λ p. ordered p .value) (c .before .ordered .given .1))
 
@@ -18,4 +12,4 @@ returns-2 : tie.Need-returns-2
 returns-2 c = sym (ap (λ p. ordered p .value) (c .before .ordered2 .given .1))
 
 pub ordered-pairs-spec : {M : Type 1} → statement M
-ordered-pairs-spec = tie.close (tie.spec enum-known-ordered enum-known-ordered-2 returns returns-2)
+ordered-pairs-spec = tie.close (tie.spec (λ c. search needs) (λ c. search needs) returns returns-2)

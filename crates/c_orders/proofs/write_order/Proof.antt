@@ -3,7 +3,7 @@ use mathlib.Core.Logic.{inl, inr}
 use Rattle.wiring.specs.Wiring.{ordered}
 use Rattle.words.proofs.Serving.{long-two, long-more}
 use Rattle.c_orders.proofs.Serving.{orders-short, orders-refused, orders-done}
-use Rattle.orders.proofs.Orders.{order-claims}
+use Rattle.pair_orders.proofs.Orders.{order-claims}
 use borrow.Author.Needs.{needs}
 use Rattle.c_orders.proofs.write_order.Statement.{statement}
 use Rattle.c_orders.proofs.write_order.Tie as tie
@@ -20,24 +20,6 @@ returns-3 c = (orders-short _ _ _ _ _ (inr (inr (inl (c .if3 .taken)))), order-c
 returns-4 : tie.Need-returns-4
 returns-4 c = (orders-short _ _ _ _ _ (inr (inr (inr (c .if4 .taken)))), order-claims)
 
-table-at-requires : tie.Need-table-at-requires
-table-at-requires c κs = search needs
-
-chain-at-requires : tie.Need-chain-at-requires
-chain-at-requires c κs = search needs
-
-chain-at-requires-2 : tie.Need-chain-at-requires-2
-chain-at-requires-2 c κs = search needs
-
-write-order-requires : tie.Need-write-order-requires
-write-order-requires c κs = search needs
-
-ordered-number-requires : tie.Need-ordered-number-requires
-ordered-number-requires c κs = search needs
-
-same-length : tie.Need-same-length
-same-length c = search needs
-
 returns-5 : tie.Need-returns-5
 returns-5 c =
     let n = c .before in
@@ -51,18 +33,6 @@ returns-5 c =
           (x .write-order .ensures .0) _ (n .ordered-number .ensures) (c .if5 .taken),
       order-claims,
     )
-
-ordered-pairs-requires : tie.Need-ordered-pairs-requires
-ordered-pairs-requires c κs = search needs
-
-put-word-requires : tie.Need-put-word-requires
-put-word-requires c κs = search needs
-
-same-length-2 : tie.Need-same-length-2
-same-length-2 c = search needs
-
-same-length-3 : tie.Need-same-length-3
-same-length-3 c = search needs
 
 returns-6 : tie.Need-returns-6
 returns-6 c =
@@ -88,15 +58,15 @@ write-order-spec =
     returns-2
     returns-3
     returns-4
-    table-at-requires
-    chain-at-requires
-    chain-at-requires-2
-    write-order-requires
-    ordered-number-requires
-    same-length
+    (λ c κs. search needs)
+    (λ c κs. search needs)
+    (λ c κs. search needs)
+    (λ c κs. search needs)
+    (λ c κs. search needs)
+    (λ c. search needs)
     returns-5
-    ordered-pairs-requires
-    put-word-requires
-    same-length-2
-    same-length-3
+    (λ c κs. search needs)
+    (λ c κs. search needs)
+    (λ c. search needs)
+    (λ c. search needs)
     returns-6)

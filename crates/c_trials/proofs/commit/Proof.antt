@@ -16,18 +16,6 @@ returns-2 c = gives-short _ (inr (inl (c .if2 .taken)))
 returns-3 : tie.Need-returns-3
 returns-3 c = gives-short _ (inr (inr (c .if3 .taken)))
 
-proposal-at-requires : tie.Need-proposal-at-requires
-proposal-at-requires c κs = search needs
-
-table-at-requires : tie.Need-table-at-requires
-table-at-requires c κs = search needs
-
-commit-requires : tie.Need-commit-requires
-commit-requires c κs = search needs
-
-verdict-number-requires : tie.Need-verdict-number-requires
-verdict-number-requires c κs = search needs
-
 returns-4 : tie.Need-returns-4
 returns-4 c =
     let n = c .before in
@@ -37,12 +25,6 @@ returns-4 c =
     gives-refused _ (long-more (e .before .before .if1 .left) (long-two (e .before .if2 .left) (e .if3 .left))) (made (x .commit .result))
     (committed-at (a .table .now) (a .proposal .now) _ _ _ (x .before .table-at .ensures) (x .before .before .proposal-at .ensures) (x .commit .ensures)) _
     (n .verdict-number .ensures) (c .if4 .taken)
-
-put-table-requires : tie.Need-put-table-requires
-put-table-requires c κs = search needs
-
-same-length : tie.Need-same-length
-same-length c = search needs
 
 returns-5 : tie.Need-returns-5
 returns-5 c =
@@ -62,11 +44,11 @@ commit-spec =
     returns
     returns-2
     returns-3
-    proposal-at-requires
-    table-at-requires
-    commit-requires
-    verdict-number-requires
+    (λ c κs. search needs)
+    (λ c κs. search needs)
+    (λ c κs. search needs)
+    (λ c κs. search needs)
     returns-4
-    put-table-requires
-    same-length
+    (λ c κs. search needs)
+    (λ c. search needs)
     returns-5)

@@ -14,27 +14,6 @@ table-size s = search needs
 chain-size : (s : tie.Start) → length (s .args .p .chain .rows) ≡ 64
 chain-size s = search needs
 
-put-table-requires : tie.Need-put-table-requires
-put-table-requires c κs = search needs
-
-put-chain-requires : tie.Need-put-chain-requires
-put-chain-requires c κs = search needs
-
-put-word-requires : tie.Need-put-word-requires
-put-word-requires c κs = search needs
-
-put-word-requires-2 : tie.Need-put-word-requires-2
-put-word-requires-2 c κs = search needs
-
-effect-word-requires : tie.Need-effect-word-requires
-effect-word-requires c κs = search needs
-
-put-word-requires-3 : tie.Need-put-word-requires-3
-put-word-requires-3 c κs = search needs
-
-same-length : tie.Need-same-length
-same-length c = search needs
-
 returns : tie.Need-returns
 returns c =
     let w3 = c .before .before in
@@ -53,11 +32,11 @@ pub put-proposal-spec : {M : Type 1} → statement M
 put-proposal-spec =
     tie.close
     (tie.spec
-    put-table-requires
-    put-chain-requires
-    put-word-requires
-    put-word-requires-2
-    effect-word-requires
-    put-word-requires-3
-    same-length
+    (λ c κs. search needs)
+    (λ c κs. search needs)
+    (λ c κs. search needs)
+    (λ c κs. search needs)
+    (λ c κs. search needs)
+    (λ c κs. search needs)
+    (λ c. search needs)
     returns)

@@ -16,18 +16,6 @@ returns-2 c = gives-short _ (inr (inl (c .if2 .taken)))
 returns-3 : tie.Need-returns-3
 returns-3 c = gives-short _ (inr (inr (c .if3 .taken)))
 
-table-at-requires : tie.Need-table-at-requires
-table-at-requires c κs = search needs
-
-chain-at-requires : tie.Need-chain-at-requires
-chain-at-requires c κs = search needs
-
-trial-requires : tie.Need-trial-requires
-trial-requires c κs = search needs
-
-verdict-number-requires : tie.Need-verdict-number-requires
-verdict-number-requires c κs = search needs
-
 returns-4 : tie.Need-returns-4
 returns-4 c =
     let n = c .before in
@@ -38,12 +26,6 @@ returns-4 c =
     (tried-at (a .table .now) (a .chain .now) _ _ (a .gauge) (a .case) _ (x .before .before .table-at .ensures) (x .before .chain-at .ensures)
     (x .trial .ensures)) _
     (n .verdict-number .ensures) (c .if4 .taken)
-
-put-proposal-requires : tie.Need-put-proposal-requires
-put-proposal-requires c κs = search needs
-
-same-length : tie.Need-same-length
-same-length c = search needs
 
 returns-5 : tie.Need-returns-5
 returns-5 c =
@@ -64,11 +46,11 @@ trial-spec =
     returns
     returns-2
     returns-3
-    table-at-requires
-    chain-at-requires
-    trial-requires
-    verdict-number-requires
+    (λ c κs. search needs)
+    (λ c κs. search needs)
+    (λ c κs. search needs)
+    (λ c κs. search needs)
     returns-4
-    put-proposal-requires
-    same-length
+    (λ c κs. search needs)
+    (λ c. search needs)
     returns-5)

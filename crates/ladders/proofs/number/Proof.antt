@@ -16,12 +16,6 @@ abbrev μ-loop : tie.MeasureT-loop
 loop-holds : tie.Need-loop-holds Inv-loop μ-loop
 loop-holds c = taken-none _
 
-shared-slice-read-digit-of : tie.Need-shared-slice-read-digit-of Inv-loop μ-loop
-shared-slice-read-digit-of c = omega arith
-
-digit-of-requires : tie.Need-digit-of-requires Inv-loop μ-loop
-digit-of-requires c κs = search needs
-
 returns : tie.Need-returns Inv-loop μ-loop
 returns c =
     let d = c .before in
@@ -29,12 +23,6 @@ returns c =
 
 more-requires : tie.Need-more-requires Inv-loop μ-loop
 more-requires c κs = (taken-small _ _ _ (c .before .before .before .before .loop .inv), omega arith)
-
-add-i : tie.Need-add-i Inv-loop μ-loop
-add-i c = omega arith
-
-loop-less : tie.Need-loop-less Inv-loop μ-loop
-loop-less c = omega arith
 
 loop-again : tie.Need-loop-again Inv-loop μ-loop
 loop-again c =
@@ -55,12 +43,12 @@ number-spec =
     Inv-loop
     μ-loop
     loop-holds
-    shared-slice-read-digit-of
-    digit-of-requires
+    (λ c. omega arith)
+    (λ c κs. search needs)
     returns
     more-requires
-    add-i
-    loop-less
+    (λ c. omega arith)
+    (λ c. omega arith)
     loop-again
     returns-2
     returns-3)

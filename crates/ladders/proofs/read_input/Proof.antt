@@ -22,38 +22,17 @@ round c = c .before .before .before
 loop-holds : tie.Need-loop-holds Inv-loop μ-loop
 loop-holds c = refl
 
-read-more-requires : tie.Need-read-more-requires Inv-loop μ-loop
-read-more-requires c κs = search needs
-
 same-length : tie.Need-same-length Inv-loop μ-loop
 same-length c = read (c .before) .read-more .kept .0 ∙ round (read (c .before)) .loop .inv
 
-returns : tie.Need-returns Inv-loop μ-loop
-returns c = search needs
-
-loop-less : tie.Need-loop-less Inv-loop μ-loop
-loop-less c = omega arith
-
 loop-again : tie.Need-loop-again Inv-loop μ-loop
 loop-again c = read (c .before .before .before) .read-more .kept .0 ∙ round (read (c .before .before .before)) .loop .inv
-
-sum-requires : tie.Need-sum-requires Inv-loop μ-loop
-sum-requires c κs = search needs
-
-sub-turns : tie.Need-sub-turns Inv-loop μ-loop
-sub-turns c = omega arith
-
-loop-less-2 : tie.Need-loop-less-2 Inv-loop μ-loop
-loop-less-2 c = omega arith
 
 loop-again-2 : tie.Need-loop-again-2 Inv-loop μ-loop
 loop-again-2 c = read (c .before .before .before .before) .read-more .kept .0 ∙ round (read (c .before .before .before .before)) .loop .inv
 
 same-length-2 : tie.Need-same-length-2 Inv-loop μ-loop
 same-length-2 c = c .before .loop .inv
-
-returns-2 : tie.Need-returns-2 Inv-loop μ-loop
-returns-2 c = search needs
 
 pub read-input-spec : {M : Type 1} → statement M
 read-input-spec =
@@ -62,14 +41,14 @@ read-input-spec =
     Inv-loop
     μ-loop
     loop-holds
-    read-more-requires
+    (λ c κs. search needs)
     same-length
-    returns
-    loop-less
+    (λ c. search needs)
+    (λ c. omega arith)
     loop-again
-    sum-requires
-    sub-turns
-    loop-less-2
+    (λ c κs. search needs)
+    (λ c. omega arith)
+    (λ c. omega arith)
     loop-again-2
     same-length-2
-    returns-2)
+    (λ c. search needs))

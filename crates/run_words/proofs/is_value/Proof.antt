@@ -1,26 +1,16 @@
 -- `run_words::is_value` meets its contract: a law for each return.
 use Rattle.run_words.proofs.Reading.{other-side, other-phase, other-omit, is-back, is-other}
-use native.Mathlib.Omega.{arith}
 use borrow.Author.Needs.{needs}
 use Rattle.run_words.proofs.is_value.Statement.{statement}
 use Rattle.run_words.proofs.is_value.Tie as tie
 
-word-at-requires : tie.Need-word-at-requires
-word-at-requires c κs = search needs
-
 returns : tie.Need-returns
 returns c = other-side _ _ _ (c .before .word-at .ensures) (c .if1 .taken)
-
-word-at-requires-2 : tie.Need-word-at-requires-2
-word-at-requires-2 c κs = search needs
 
 returns-2 : tie.Need-returns-2
 returns-2 c =
     let s = c .before .before in
     other-phase _ _ _ (s .before .word-at .ensures) (s .if1 .left) _ (c .before .word-at2 .ensures) (c .if2 .taken)
-
-word-at-requires-3 : tie.Need-word-at-requires-3
-word-at-requires-3 c κs = search needs
 
 returns-3 : tie.Need-returns-3
 returns-3 c =
@@ -37,9 +27,6 @@ returns-4 c =
     is-back _ _ _ (s .before .word-at .ensures) (s .if1 .left) _ (p .before .word-at2 .ensures) (p .if2 .left) _ (o .before .word-at3 .ensures) (o .if3 .left)
     (c .if4 .taken)
 
-word-at-requires-4 : tie.Need-word-at-requires-4
-word-at-requires-4 c κs = search needs
-
 returns-5 : tie.Need-returns-5
 returns-5 c =
     let o = c .before .before in
@@ -52,12 +39,12 @@ pub is-value-spec : {M : Type 1} → statement M
 is-value-spec =
     tie.close
     (tie.spec
-    word-at-requires
+    (λ c κs. search needs)
     returns
-    word-at-requires-2
+    (λ c κs. search needs)
     returns-2
-    word-at-requires-3
+    (λ c κs. search needs)
     returns-3
     returns-4
-    word-at-requires-4
+    (λ c κs. search needs)
     returns-5)

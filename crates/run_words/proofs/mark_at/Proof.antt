@@ -5,17 +5,8 @@ use borrow.Author.Needs.{needs}
 use Rattle.run_words.proofs.mark_at.Statement.{statement}
 use Rattle.run_words.proofs.mark_at.Tie as tie
 
-is-value-requires : tie.Need-is-value-requires
-is-value-requires c κs = search needs
-
 returns : tie.Need-returns
 returns c = mark-other _ _ _ (c .before .is-value .ensures) (not-true _ (c .if1 .taken))
-
-word-at-requires : tie.Need-word-at-requires
-word-at-requires c κs = search needs
-
-word-at-requires-2 : tie.Need-word-at-requires-2
-word-at-requires-2 c κs = search needs
 
 returns-2 : tie.Need-returns-2
 returns-2 c =
@@ -24,4 +15,4 @@ returns-2 c =
 
 pub mark-at-spec : {M : Type 1} → statement M
 mark-at-spec =
-    tie.close (tie.spec is-value-requires returns word-at-requires word-at-requires-2 returns-2)
+    tie.close (tie.spec (λ c κs. search needs) returns (λ c κs. search needs) (λ c κs. search needs) returns-2)
