@@ -43,6 +43,8 @@ ENTRY(list_gauges, W(0), N(0), W(1))
 ENTRY(list_cases, W(0), N(0), W(1))
 ENTRY(explain_gauge, W(0), N(0), N(1), W(1))
 ENTRY(explain_case, W(0), N(0), N(1), W(1))
+ENTRY(sequence_gauges, W(0), W(1), W(2), W(3))
+ENTRY(sequence_cases, W(0), W(1), W(2), W(3))
 ENTRY(candidates_gauges, W(0), W(1))
 ENTRY(candidates_cases, W(0), W(1))
 ENTRY(part_gauges, W(0), N(0), W(1))
@@ -76,6 +78,8 @@ ENTRY(equal, W(0), R(1), W(2), R(3), W(4))
     X(list_cases, 10, 11, 15, 18, 27) \
     X(explain_gauge, 10, 11, 15, 19, 22, 27) \
     X(explain_case, 10, 11, 15, 19, 22, 27) \
+    X(sequence_gauges, 10, 11, 12, 13, 25, 27) \
+    X(sequence_cases, 10, 11, 12, 13, 25, 27) \
     X(candidates_gauges, 10, 11, 15, 27) \
     X(candidates_cases, 10, 11, 15, 27) \
     X(part_gauges, 10, 11, 15, 27) \

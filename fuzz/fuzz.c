@@ -197,6 +197,21 @@ static void for_explain_gauge(Input *in) { for_explain(in, RG_SIDE_GAUGES); }
 
 static void for_explain_case(Input *in) { for_explain(in, RG_SIDE_CASES); }
 
+/* Mostly a ladder. */
+static void for_sequence(Input *in, int which) {
+    make_table(table);
+    make_ladder(table, ladder);
+    if (chance(6)) make_chain(table, ladder);
+    lend_table(in);
+    lend_order(in, table[which == RG_SIDE_GAUGES ? RG_TABLE_GAUGES : RG_TABLE_CASES]);
+    lend_chain(in, ladder);
+    lend_out(in, RG_NUMBERS_WORDS);
+}
+
+static void for_sequence_gauges(Input *in) { for_sequence(in, RG_SIDE_GAUGES); }
+
+static void for_sequence_cases(Input *in) { for_sequence(in, RG_SIDE_CASES); }
+
 /* Mostly a run that is Down: as it was started, or gone on with by a few moves that hand nothing out. */
 static void make_part(int which) {
     make_run(run, chance(20) ? 3 - which : which, false);

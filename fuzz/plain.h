@@ -27,6 +27,8 @@
 #define rg_list_cases plain_list_cases
 #define rg_explain_gauge plain_explain_gauge
 #define rg_explain_case plain_explain_case
+#define rg_sequence_gauges plain_sequence_gauges
+#define rg_sequence_cases plain_sequence_cases
 #define rg_candidates_gauges plain_candidates_gauges
 #define rg_candidates_cases plain_candidates_cases
 #define rg_part_gauges plain_part_gauges
@@ -59,6 +61,8 @@
 #undef rg_list_cases
 #undef rg_explain_gauge
 #undef rg_explain_case
+#undef rg_sequence_gauges
+#undef rg_sequence_cases
 #undef rg_candidates_gauges
 #undef rg_candidates_cases
 #undef rg_part_gauges

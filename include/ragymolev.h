@@ -249,7 +249,7 @@ uint64_t rg_run_cases(uint64_t *run, size_t run_length, uint64_t budget, uint64_
 
 /* Makes up to budget moves of a gauge run, and stops after as many hand-outs as the batch has room for, or the end. It is one call in place of so many of
  * rg_run_gauges, the first with the budget and each next with what is left of it: the ladders, the moves and the next RUN are the same, and calls of both
- * may follow one another on one RUN in any turn. Pick sequences are given by rg_run_gauges alone.
+ * may follow one another on one RUN in any turn. Pick sequences are given by rg_run_gauges, and by rg_sequence_gauges for each ladder.
  * Reads run: RUN; budget 0..1,000,000. Writes run: the next RUN in place of this one; batch: BATCH. Words behind its ladders stay as they were.
  * Refused: 100; 10 and 11 of its table; 27 of its order; 15; 18. */
 uint64_t rg_list_gauges(uint64_t *run, size_t run_length, uint64_t budget, uint64_t *batch, size_t batch_length);
@@ -266,6 +266,17 @@ uint64_t rg_explain_gauge(const uint64_t *run, size_t run_length, uint64_t gauge
 /* The same of a case run: by the first picked case that the pair's gauge does not respond under.
  * Writes pick: ONE, that case. */
 uint64_t rg_explain_case(const uint64_t *run, size_t run_length, uint64_t gauge, uint64_t gauge_case, uint64_t *pick, size_t pick_length);
+
+/* The pick sequence of a ladder by gauges, from the ladder alone and without a run: of those not yet taken the one with most cases there, the first in the
+ * order on a tie. It is what a gauge run under this order carries with the ladder (RG_STEP_PICKS), and the list of that run ascends by it, place by place.
+ * Reads table: TABLE; order: ORDER of the gauges; ladder: CHAIN. Writes numbers: NUMBERS, the gauges that have a case in the ladder.
+ * Refused: 100; 10; 11; 27; 12; 13; 25. */
+uint64_t rg_sequence_gauges(const uint64_t *table, size_t table_length, const uint64_t *order, size_t order_length,
+                            const uint64_t *ladder, size_t ladder_length, uint64_t *numbers, size_t numbers_length);
+
+/* The same by cases, with an ORDER of the cases. */
+uint64_t rg_sequence_cases(const uint64_t *table, size_t table_length, const uint64_t *order, size_t order_length,
+                           const uint64_t *ladder, size_t ladder_length, uint64_t *numbers, size_t numbers_length);
 
 /* PARTS OF A LIST: a RUN in phase RG_DOWN is a part, that of the ladders whose pick sequence begins with its picks; a fresh one is the whole list. Run
  * calls from it hand these ladders out; the first ladder whose sequence begins otherwise, or RG_END, closes the part and is not of it. The parts of its

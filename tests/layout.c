@@ -49,6 +49,8 @@ static uint64_t at_explain_gauge(const size_t *n) { return rg_explain_gauge(run,
 static uint64_t at_explain_case(const size_t *n) { return rg_explain_case(by_cases, n[0], 1, 1, one, n[1]); }
 static uint64_t at_count(const size_t *n) { return rg_count(table, n[0], order, n[1], 99, count, n[2]); }
 static uint64_t at_grow(const size_t *n) { return rg_grow(table, n[0], order, n[1], chain, n[2], grown, n[3]); }
+static uint64_t at_sequence_gauges(const size_t *n) { return rg_sequence_gauges(table, n[0], order, n[1], ladder, n[2], numbers, n[3]); }
+static uint64_t at_sequence_cases(const size_t *n) { return rg_sequence_cases(table, n[0], order, n[1], ladder, n[2], numbers, n[3]); }
 static uint64_t at_rivals(const size_t *n) { return rg_rivals(table, n[0], 1, 1, pairs, n[1]); }
 static uint64_t at_decides(const size_t *n) { return rg_decides(table, n[0], 1, 1, one, n[1]); }
 static uint64_t at_cover(const size_t *n) { return rg_cover(table, n[0], 99, cover, n[1]); }
@@ -86,6 +88,8 @@ static const Entry entries[] = {
     {"rg_list_cases", at_list_cases, {RG_RUN_WORDS, RG_BATCH_WORDS}},
     {"rg_count", at_count, {RG_TABLE_WORDS, RG_ORDER_WORDS, RG_COUNT_WORDS}},
     {"rg_grow", at_grow, {RG_TABLE_WORDS, RG_ORDER_WORDS, RG_CHAIN_WORDS, RG_CHAIN_WORDS}},
+    {"rg_sequence_gauges", at_sequence_gauges, {RG_TABLE_WORDS, RG_ORDER_WORDS, RG_CHAIN_WORDS, RG_NUMBERS_WORDS}},
+    {"rg_sequence_cases", at_sequence_cases, {RG_TABLE_WORDS, RG_ORDER_WORDS, RG_CHAIN_WORDS, RG_NUMBERS_WORDS}},
     {"rg_rivals", at_rivals, {RG_TABLE_WORDS, RG_PAIRS_WORDS}},
     {"rg_decides", at_decides, {RG_TABLE_WORDS, RG_ONE_WORDS}},
     {"rg_cover", at_cover, {RG_TABLE_WORDS, RG_COVER_WORDS}},
@@ -257,6 +261,18 @@ static void offsets_of_parts(void) {
     CHECK(rg_part_cases(fresh, RG_RUN_WORDS, 1, whole, RG_RUN_WORDS) == RG_PAUSED);
 }
 
+/* The second ladder of K3 has gauges 3, 1 and 2, most cases first, and with gauge 2 ahead of 1 in the order 3, 2 and 1; of its cases 2 has most, then 3. */
+static void offsets_of_sequences(void) {
+    static const uint64_t turned_order[RG_ORDER_WORDS] = {2, 3, 1};
+    uint64_t n[RG_NUMBERS_WORDS];
+    CHECK(rg_sequence_gauges(k3, RG_TABLE_WORDS, plain_of_3, RG_ORDER_WORDS, second_of_k3, RG_CHAIN_WORDS, n, RG_NUMBERS_WORDS) == RG_ACCEPTED);
+    CHECK(n[0] == 3 && n[1] == 1 && n[2] == 2 && n[3] == 0 && n[RG_NUMBERS_WORDS - 1] == 0);
+    CHECK(rg_sequence_gauges(k3, RG_TABLE_WORDS, turned_order, RG_ORDER_WORDS, second_of_k3, RG_CHAIN_WORDS, n, RG_NUMBERS_WORDS) == RG_ACCEPTED);
+    CHECK(n[0] == 3 && n[1] == 2 && n[2] == 1 && n[3] == 0);
+    CHECK(rg_sequence_cases(k3, RG_TABLE_WORDS, plain_of_3, RG_ORDER_WORDS, second_of_k3, RG_CHAIN_WORDS, n, RG_NUMBERS_WORDS) == RG_ACCEPTED);
+    CHECK(n[0] == 2 && n[1] == 3 && n[2] == 0 && n[RG_NUMBERS_WORDS - 1] == 0);
+}
+
 static void offsets_of_answers(void) {
     uint64_t n[RG_COUNT_WORDS], c[RG_COVER_WORDS], p[RG_PROPOSAL_WORDS], rival[RG_PAIRS_WORDS];
     CHECK(rg_count(k3, RG_TABLE_WORDS, plain_of_3, RG_ORDER_WORDS, 99, n, RG_COUNT_WORDS) == RG_ACCEPTED);
@@ -326,6 +342,7 @@ int main(void) {
     offsets_of_case_run();
     offsets_of_batch();
     offsets_of_parts();
+    offsets_of_sequences();
     offsets_of_answers();
     offsets_of_test();
     bytes_of_test();

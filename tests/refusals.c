@@ -100,6 +100,10 @@ static uint64_t started(const uint64_t *order) {
     return quiet(rg_start_gauges(k3, RG_TABLE_WORDS, order, RG_ORDER_WORDS, 0, out, RG_RUN_WORDS));
 }
 
+static uint64_t sequenced(const uint64_t *order, const uint64_t *chain) {
+    return quiet(rg_sequence_gauges(k3, RG_TABLE_WORDS, order, RG_ORDER_WORDS, chain, RG_CHAIN_WORDS, out, RG_NUMBERS_WORDS));
+}
+
 static void tables(void) {
     static const uint64_t none[RG_TABLE_WORDS] = {0}, stray[RG_TABLE_WORDS] = {1, 1, 2}, all[RG_CHAIN_WORDS] = {3, 3, 3, 6};
     static const uint64_t two[RG_CHAIN_WORDS] = {2}, foreign[RG_CHAIN_WORDS] = {3, 4}, twice[RG_ORDER_WORDS] = {1, 1, 2};
@@ -110,6 +114,7 @@ static void tables(void) {
     CHECK(judged(k3, foreign) == RG_NOT_IN_TABLE);
     CHECK(quiet(rg_grow(k3, RG_TABLE_WORDS, plain_of_3, RG_ORDER_WORDS, all, RG_CHAIN_WORDS, out, RG_CHAIN_WORDS)) == RG_NO_CHAIN);
     CHECK(started(twice) == RG_PREFERENCE);
+    CHECK(sequenced(plain_of_3, all) == RG_NO_LADDER && sequenced(twice, all) == RG_PREFERENCE && sequenced(plain_of_3, two) == RG_ROW_COUNT);
     CHECK(quiet(rg_decides(k3, RG_TABLE_WORDS, 1, 3, out, RG_ONE_WORDS)) == RG_NO_PAIR);
     CHECK(quiet(rg_cover(wide, RG_TABLE_WORDS, 1, out, RG_COVER_WORDS)) == RG_ABOVE_EIGHT);
     CHECK(quiet(rg_trial(k3, RG_TABLE_WORDS, all, RG_CHAIN_WORDS, 1, 1, out, RG_PROPOSAL_WORDS)) == RG_NO_LADDER);

@@ -191,6 +191,15 @@ uint64_t ask_explain(int which, const uint64_t *run, uint64_t g, uint64_t c) {
     return of_side(E_explain_gauge, which);
 }
 
+uint64_t ask_sequence(int which, const uint64_t *table, const uint64_t *order, const uint64_t *ladder) {
+    begin(0, 0, 0, 0);
+    words(table, RG_TABLE_WORDS);
+    words(order, RG_ORDER_WORDS);
+    words(ladder, RG_CHAIN_WORDS);
+    out(RG_NUMBERS_WORDS);
+    return of_side(E_sequence_gauges, which);
+}
+
 uint64_t ask_candidates(int which, const uint64_t *run) {
     begin(0, 0, 0, 0);
     words(run, RG_RUN_WORDS);

@@ -40,6 +40,7 @@ uint64_t ask_start(int which, const uint64_t *table, const uint64_t *order, uint
 uint64_t ask_run(int which, const uint64_t *run, uint64_t budget);
 uint64_t ask_list(int which, const uint64_t *run, uint64_t budget, size_t room);
 uint64_t ask_explain(int which, const uint64_t *run, uint64_t g, uint64_t c);
+uint64_t ask_sequence(int which, const uint64_t *table, const uint64_t *order, const uint64_t *ladder);
 uint64_t ask_candidates(int which, const uint64_t *run);
 uint64_t ask_part(int which, const uint64_t *run, uint64_t number);
 uint64_t ask_count(const uint64_t *table, const uint64_t *order, uint64_t budget);

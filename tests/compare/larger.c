@@ -1,6 +1,6 @@
 /* Tables up to 8 by 8 that the generator of R-13 draws, and the full ones of these shapes, each asked as the small ones are: runs of both sides under six
  * preferences with every value, reason and part; damaged values of some; rivals, deciding pairs, the claims of R-2 and counts; every set of its own pairs
- * to the judges, to growth, to orders and trials. Tables with at most 12 pairs are looked at whole, of 4 by 4 every set up to 16; with more, by the questions
+ * to the judges, to growth, to orders and trials; its ladders asked for their pick sequences. Tables with at most 12 pairs are looked at whole, of 4 by 4 every set up to 16; with more, by the questions
  * that need no list of all sets. */
 #include "both.h"
 #include "damage.h"
@@ -35,6 +35,11 @@ static void own_sets(const uint64_t *table, int pairs) {
         ask_trial(table, set, 1 + k % table[RG_TABLE_GAUGES], 1 + k / 8 % table[RG_TABLE_CASES]);
     }
     for (int i = 0; i < n; i++) ask_trial(table, ladders[i], table[RG_TABLE_GAUGES], table[RG_TABLE_CASES]);
+    for (int which = RG_SIDE_GAUGES; which <= RG_SIDE_CASES; which++) {
+        count = arrangements(orders, picks_of(table, which));
+        for (int i = 0; i < n; i++)
+            for (int k = 0; k < count; k++) ask_sequence(which, table, orders[k], ladders[i]);
+    }
 }
 
 static int pairs_in(const uint64_t *table) {

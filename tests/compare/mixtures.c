@@ -77,6 +77,10 @@ static void with_orders(const uint64_t *table) {
         for (int which = RG_SIDE_GAUGES; which <= RG_SIDE_CASES; which++) {
             odd_order(order, o, picks_of(table, which));
             ask_start(which, table, order, (uint64_t)(o % 3));
+            for (int c = 0; c < CHAINS; c++) {
+                odd_chain(chain, c);
+                ask_sequence(which, table, order, chain);
+            }
         }
         odd_order(order, o, table[RG_TABLE_GAUGES]);
         for (int b = 0; b < BUDGETS; b++) ask_count(table, order, budgets[b]);

@@ -122,6 +122,14 @@ void listed(int which, const uint64_t *table, const uint64_t *order, List *list)
     sort_ladders(list, &side);
 }
 
+/* the pick sequence that a call carries is that of its ladder. */
+static void carried(int which, const uint64_t *table, const uint64_t *order) {
+    uint64_t step[RG_STEP_WORDS];
+    memcpy(step, given(1), sizeof step);
+    must(ask_sequence(which, table, order, step + RG_STEP_CHAIN) == 0, "a ladder has a pick sequence");
+    must(!memcmp(given(3), step + RG_STEP_PICKS, RG_NUMBERS_WORDS * sizeof *step), "the pick sequence that the call carries");
+}
+
 void whole_list(int which, const uint64_t *table, const uint64_t *order, uint64_t omit, int pattern) {
     static List list;
     Going going = {.which = which};
@@ -135,6 +143,7 @@ void whole_list(int which, const uint64_t *table, const uint64_t *order, uint64_
         if (omit && !holds_deciding(&pairs, &due)) continue;
         must(next_ladder(&going, pattern, &call), "a ladder more");
         must(!memcmp(given(1) + RG_STEP_CHAIN + RG_CHAIN_ROWS, due.rows, sizeof due.rows), "the ladder that the list has there");
+        if (pattern == 6) carried(which, table, order);
     }
     must(!next_ladder(&going, pattern, &call), "no ladder more");
     must(!next_ladder(&going, pattern, &call), "no ladder behind the end");

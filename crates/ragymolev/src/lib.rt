@@ -12,6 +12,7 @@ use c_parts;
 use c_reasons;
 use c_recorded;
 use c_runs;
+use c_sequence;
 use c_trials;
 ghost use Rattle.lists.specs.Lists.{gaugeSide, caseSide};
 ghost use Rattle.explain.specs.Reasons.{gaugeQuestion, caseQuestion};
@@ -28,6 +29,7 @@ ghost use Rattle.c_chains.specs.Serving.{Judges, Grows, Conflicts, Decides, Cla
 ghost use Rattle.c_counts.specs.Serving.{CountsWords, Samples};
 ghost use Rattle.c_reasons.specs.Serving.{Explains, ClaimsReasons};
 ghost use Rattle.c_recorded.specs.Serving.{ReadsTest, WritesTest, Equals};
+ghost use Rattle.c_sequence.specs.Serving.{GivesSequence};
 ghost use Rattle.c_parts.specs.Serving.{GivesCandidates, GivesPart};
 ghost use Rattle.c_trials.specs.Serving.{Tries, Commits};
 ghost use Rattle.c_orders.specs.Serving.{OrdersWords};
@@ -197,6 +199,32 @@ pub extern "C" fn rg_explain_case(run: &[u64], gauge: u64, case: u64, pick: &mut
     ensures reasons { λ r. ⌜ ClaimsReasons caseSide caseQuestion 2 (now (run .entry)) ⌝ }
 {
     c_reasons::explain_case(run, gauge, case, pick)
+}
+
+// The gauges of the ladder in `chain` in the order of its pick sequence, under the order, into `numbers`.
+#[no_mangle]
+pub extern "C" fn rg_sequence_gauges(
+    table: &[u64],
+    order: &[u64],
+    chain: &[u64],
+    numbers: &mut [u64],
+) -> u64
+    ensures { λ r. ⌜ GivesSequence gaugeSide (now (table .entry)) (now (order .entry)) (now (chain .entry)) (now (numbers .entry)) (now (numbers .exit)) r ⌝ }
+{
+    c_sequence::sequence_gauges(table, order, chain, numbers)
+}
+
+// The cases of the ladder in `chain` in the order of its pick sequence, under the order, into `numbers`.
+#[no_mangle]
+pub extern "C" fn rg_sequence_cases(
+    table: &[u64],
+    order: &[u64],
+    chain: &[u64],
+    numbers: &mut [u64],
+) -> u64
+    ensures { λ r. ⌜ GivesSequence caseSide (now (table .entry)) (now (order .entry)) (now (chain .entry)) (now (numbers .entry)) (now (numbers .exit)) r ⌝ }
+{
+    c_sequence::sequence_cases(table, order, chain, numbers)
 }
 
 // The proposal of flipping one entry into `out`.

@@ -1,0 +1,4 @@
+-- Laws that belong to no one function.
+pub mod Serving
+pub mod Answers
+pub mod Sentences
