@@ -1,9 +1,11 @@
 """The command `planner` a second time, from its documents and the definitions alone: for small tables. It shares nothing with the library or the command.
 
-`answer(words, standard_input)` gives the exit status, what is written to standard output, and the number of the refusal, if any. In order: sets of pairs,
-ladders and lists; the file; words and options; the subcommands. A ladder's pick sequence comes from the ladder alone, and the sequences that a run can
-come to are the beginnings of these, so that no candidate and no move is looked at here."""
+`answer(words, standard_input)` gives the exit status, what is written to standard output, the number of the refusal, if any, and the line of the file that
+it is about. In order: sets of pairs, ladders and lists; the file; words and options; the subcommands; lists that are checked; files of other programs. A
+ladder's pick sequence comes from the ladder alone, and the sequences that a run can come to are the beginnings of these, so that no candidate and no move
+is looked at here."""
 
+import decimal
 import itertools
 import os
 import re
@@ -12,16 +14,32 @@ BUDGET = 1000000
 
 
 class Ends(Exception):
-    """The command ends without its answer: with a status, and where it is 3 with a number."""
+    """The command ends without its answer: with a status, where it is 3 with a number, of a file with a line, and with what was written before."""
 
-    def __init__(self, status, number=None):
+    def __init__(self, status, number=None, line=None, out=b""):
         super().__init__(status, number)
-        self.status, self.number = status, number
+        self.status, self.number, self.line, self.out = status, number, line, out
 
 
 def refuse_if(condition, number):
     if condition:
         raise Ends(3, number)
+
+
+class Refused(int):
+    """The number of a file's refusal, and the line that decides."""
+
+    def __new__(cls, number, line):
+        self = super().__new__(cls, number)
+        self.line = line
+        return self
+
+
+def accepted(got):
+    """What was read, unless it was refused."""
+    if isinstance(got, Refused):
+        raise Ends(3, int(got), got.line)
+    return got
 
 
 # --- sets of pairs; a table is G, L and a set of pairs (g, c)
@@ -84,19 +102,19 @@ def flipped(table, pair):
 
 
 def read(data, either):
-    """A refusal's number, or kind, G, L, entries with readings, comments."""
+    """A refusal, or kind, G, L, entries with readings, comments."""
     if len(data) > 65536:
-        return 1
+        return Refused(1, 0)
     lines = data.split(b"\n")
-    ended = [line[:-1] if line.endswith(b"\r") else line for line in lines[:-1]] + lines[-1:]
+    ended = [line[:-1] if line.endswith(b"\r") else line for line in lines[:-1]] + lines[-1:] * (lines[-1] != b"" or len(lines) == 1)
     banner = re.fullmatch(rb"%%MatrixMarket (?i:matrix coordinate (pattern|integer) general)", ended[0])
     if not banner or (banner[1].lower() == b"integer" and not either):
-        return 2
+        return Refused(2, 1)
     integer = banner[1].lower() == b"integer"
     size, entries, comments = None, {}, []
-    for line in ended[1:]:
+    for n, line in enumerate(ended[1:], 2):
         if len(line) > 1024:
-            return 3
+            return Refused(3, n)
         if size is None and line.startswith(b"%"):
             comments.append(line)
             continue
@@ -105,28 +123,28 @@ def read(data, either):
             continue
         if size is None:
             if len(fields) != 3 or not all(re.fullmatch(rb"[0-9]{1,9}", field) for field in fields):
-                return 4
+                return Refused(4, n)
             size = [int(field) for field in fields]
             if not (1 <= size[0] <= 64 and 1 <= size[1] <= 64):
-                return 5
+                return Refused(5, n)
             continue
         forms = [rb"[0-9]{1,9}"] * 2 + [rb"[+-]?[0-9]{1,9}"] * integer
         if len(fields) != len(forms) or not all(re.fullmatch(form, field) for form, field in zip(forms, fields)):
-            return 6
+            return Refused(6, n)
         g, c, v = int(fields[0]), int(fields[1]), int(fields[2]) if integer else 0
         if not (1 <= g <= size[0] and 1 <= c <= size[1]):
-            return 7
+            return Refused(7, n)
         if abs(v) > 1000000:
-            return 20
+            return Refused(20, n)
         if (g, c) in entries:
-            return 8
+            return Refused(8, n)
         if len(entries) == size[2]:
-            return 9
+            return Refused(9, n)
         entries[g, c] = v
     if size is None:
-        return 4
+        return Refused(4, len(ended) + 1)
     if len(entries) < size[2]:
-        return 9
+        return Refused(9, len(ended) + 1)
     return "integer" if integer else "pattern", size[0], size[1], entries, comments
 
 
@@ -144,7 +162,9 @@ def write(table):
 
 RUNS = {"--by-cases", "--needed", "--prefer", "--cutoff"}
 COMMANDS = {  # arguments with the file, how many more, whether the first is a file, options
-    "list": (1, 0, True, RUNS | {"--budget", "--part"}),
+    "list": (1, 0, True, RUNS | {"--budget", "--part", "--picks"}),
+    "check": (1, 1, True, RUNS | {"--part", "--picks"}),
+    "ladder": (1, 1, True, RUNS - {"--needed"}),
     "parts": (2, 0, True, RUNS),
     "count": (1, 0, True, {"--prefer", "--cutoff", "--budget", "--part"}),
     "judge": (2, 0, True, {"--cutoff"}),
@@ -158,8 +178,12 @@ COMMANDS = {  # arguments with the file, how many more, whether the first is a f
     "make": (4, 0, False, set()),
     "comments": (1, 1, True, set()),
     "convert": (1, 0, True, {"--cutoff"}),
+    "import": (1, 0, True, set()),
+    "equal": (2, 0, True, set()),
+    "show": (1, 1, True, RUNS),
 }
-FLAGS = {"--by-cases", "--needed"}
+FLAGS = {"--by-cases", "--needed", "--picks"}
+VALUED = {"--prefer", "--cutoff", "--budget", "--part"}
 
 
 def wanted(form, text):
@@ -180,13 +204,20 @@ def pair_of(text):
     return tuple(int(x) for x in wanted("[0-9]+:[0-9]+", text).split(":"))
 
 
+def is_option(word):
+    return word.startswith("-") and word != "-"
+
+
 class Request:
     def __init__(self, words, standard_input):
-        if not words or words[0] not in COMMANDS:
+        at = 0
+        while at < len(words) and is_option(words[at]) and words[at] != "--":
+            at += 2 if words[at] in VALUED else 1
+        if at >= len(words) or words[at] not in COMMANDS:
             raise Ends(2)
-        self.name, self.word, self.option, self.input = words[0], [], {}, standard_input
+        self.name, self.word, self.option, self.input = words[at], [], {}, standard_input
         least, more, reads, options = COMMANDS[self.name]
-        self.take(words[1:], options, least + more)
+        self.take(words[:at] + words[at + 1 :], options, least + more)
         if reads and len(self.word) == least - 1:
             self.word.insert(0, "-")
         if len(self.word) < least:
@@ -202,10 +233,11 @@ class Request:
             word = words.pop(0)
             if not ended and word == "--":
                 ended = True
-            elif not ended and word.startswith("-") and word != "-":
-                if word not in options or word in self.option or (word not in FLAGS and not words):
+            elif not ended and is_option(word):
+                name, equals, value = word.partition("=")
+                if name not in options or name in self.option or (equals and name in FLAGS) or (name not in FLAGS and not equals and not words):
                     raise Ends(2)
-                self.option[word] = "" if word in FLAGS else words.pop(0)
+                self.option[name] = "" if name in FLAGS else value if equals else words.pop(0)
             else:
                 self.word.append(word)
                 if len(self.word) > most:
@@ -225,15 +257,12 @@ class Request:
     def table(self):
         data = self.bytes_of(self.word[0])
         refuse_if(self.cutoff is not None and not 1 <= self.cutoff <= 1000000, 21)
-        got = read(data, self.cutoff is not None)
-        refuse_if(isinstance(got, int), got)
-        kind, gauges, cases, entries, _ = got
+        kind, gauges, cases, entries, _ = accepted(read(data, self.cutoff is not None))
         return gauges, cases, frozenset(p for p, v in entries.items() if kind == "pattern" or abs(v) >= self.cutoff)
 
     def chain(self, word):
         """The G of the file, and its pairs."""
-        got = read(self.bytes_of(word), False)
-        refuse_if(isinstance(got, int), got)
+        got = accepted(read(self.bytes_of(word), False))
         return got[1], frozenset(got[3])
 
     def order(self, count):
@@ -277,8 +306,8 @@ def part_of(line, table):
     return by_cases, order, fields[3] == "needed", picks
 
 
-def listed(r):
-    """The ladders of the list that is asked for, or of the part."""
+def asked(r):
+    """The list that is asked for, or the part: sequences and ladders; and the side, the order and the picks of the part."""
     if "--part" in r.option and (r.by_cases or r.needed or r.prefer):
         raise Ends(2)
     table = r.table()
@@ -286,15 +315,59 @@ def listed(r):
         by_cases, order, needed, picks = part_of(r.option["--part"], table)
     else:
         by_cases, order, needed, picks = r.by_cases, r.order(table[r.by_cases]), r.needed, ()
+    return table, [(p, s) for p, s in listing(table, by_cases, order, needed) if p[: len(picks)] == picks], by_cases, order, picks
+
+
+def listed(r):
+    """The same with a budget: sequences and ladders."""
+    table, entries = asked(r)[:2]
     refuse_if(r.budget > BUDGET, 18)
     if r.budget == 0:
         raise Ends(4)
-    return table, [s for p, s in listing(table, by_cases, order, needed) if p[: len(picks)] == picks]
+    return table, entries
+
+
+def picks_line(p):
+    return (",".join(map(str, p)) or "-") + "\n"
 
 
 def do_list(r):
-    table, ladders = listed(r)
-    return "".join(write((table[0], table[1], s)) for s in ladders)
+    table, entries = listed(r)
+    return "".join(picks_line(p) if "--picks" in r.option else write((table[0], table[1], s)) for p, s in entries)
+
+
+def picks_in(text):
+    """A pick sequence as it is typed; none for anything else."""
+    if text == "-":
+        return ()
+    return tuple(int(x) for x in text.split(",")) if re.fullmatch("[0-9]+(,[0-9]+)*", text) and text.count(",") < 64 else None
+
+
+def what_picks_are(entries, picks):
+    """The ladder of a sequence; or the refusal, and a pick that may follow."""
+    if not any(picks == p[: len(picks)] for p, _ in entries):
+        return 15, None
+    following = [p[len(picks)] for p, _ in entries if p[: len(picks)] == picks and len(p) > len(picks)]
+    return (105, following[0]) if following else (0, next(s for p, s in entries if p == picks))
+
+
+def do_ladder(r):
+    one = len(r.word) == 2 and r.word[1] != "-"
+    if one and picks_in(r.word[1]) is None:
+        raise Ends(2)
+    table = r.table()
+    entries = listing(table, r.by_cases, r.order(table[r.by_cases]), False)
+    lines = [r.word[1]] if one else [line.strip(b" \t\r").decode("latin-1") for line in r.bytes_of("-").split(b"\n") if not line.startswith(b"%")]
+    out = ""
+    for line in lines:
+        if not line:
+            continue
+        picks = picks_in(line)
+        why, ladder = what_picks_are(entries, picks) if picks is not None else (104, None)
+        if why:
+            raise Ends(3, why, None, out.encode())
+        out += write((table[0], table[1], ladder))
+    return out
 
 
 def do_parts(r):
@@ -355,20 +428,44 @@ def do_rivals(r):
     return "%s\n%% rivals of %d:%d, which %s\n%s" % (first, *pair, "decides" if decides(table, pair) else "does not decide", rest)
 
 
+def ladder_named(r, table, order, by_number, chain):
+    """The sequence and the ladder of a number in the list, or of a chain."""
+    entries = listing(table, r.by_cases, order, r.needed and by_number)
+    if by_number:
+        refuse_if(not 1 <= int(r.word[1]) <= len(entries), 103)
+        return entries[int(r.word[1]) - 1]
+    ladder = check_chain(table, chain)
+    found = [entry for entry in entries if entry[1] == ladder]
+    refuse_if(not found, 25)
+    return found[0]
+
+
+def do_show(r):
+    table, ladder = r.table(), frozenset()
+    gauges, cases = list(range(1, table[0] + 1)), list(range(1, table[1] + 1))
+    if len(r.word) == 2:
+        by_number = re.fullmatch("[0-9]+", r.word[1])
+        chain = None if by_number else r.chain(r.word[1])
+        order = r.order(table[r.by_cases])
+        ladder = ladder_named(r, table, order, by_number, chain)[1]
+        place = {x: i for i, x in enumerate(order)}
+        plain = {x: x for x in range(1, 65)}
+        first = [sequence(ladder, side, place if side == r.by_cases else plain) for side in (False, True)]
+        gauges = list(first[0]) + [g for g in gauges if g not in first[0]]
+        cases = list(first[1]) + [c for c in cases if c not in first[1]]
+    lines = ["    " + "".join(" %2d" % c for c in cases)]
+    lines += ["%3d " % g + "".join("  " + ("#" if (g, c) in ladder else "o" if (g, c) in table[2] else ".") for c in cases) for g in gauges]
+    lines += ["gauges down, cases across: " + ("# a pair of the ladder, o one that it leaves out, . no pair" if len(r.word) == 2 else "o a pair, . none")]
+    return "".join(line + "\n" for line in lines)
+
+
 def do_explain(r):
     pair, by_number = pair_of(r.word[2]), re.fullmatch("[0-9]+", r.word[1])
     table = r.table()
     chain = None if by_number else r.chain(r.word[1])
     order = r.order(table[r.by_cases])
-    entries = listing(table, r.by_cases, order, r.needed and by_number)
-    if by_number:
-        refuse_if(not 1 <= int(r.word[1]) <= len(entries), 103)
-        picks, ladder = entries[int(r.word[1]) - 1]
-    else:
-        ladder = check_chain(table, chain)
-        found = [p for p, s in entries if s == ladder]
-        refuse_if(not found, 25)
-        picks = found[0]
+    refuse_if(by_number and pair not in table[2], 19)
+    picks, ladder = ladder_named(r, table, order, by_number, chain)
     refuse_if(pair not in table[2], 19)
     refuse_if(pair in ladder, 22)
     lacks = lambda x: ((pair[0], x) if r.by_cases else (x, pair[1])) not in table[2]
@@ -458,8 +555,7 @@ def do_make(r):
 
 def do_comments(r):
     only = number(r.word[1]) if len(r.word) == 2 else None
-    got = read(r.bytes_of(r.word[0]), True)
-    refuse_if(isinstance(got, int), got)
+    got = accepted(read(r.bytes_of(r.word[0]), True))
     refuse_if(only is not None and not 1 <= only <= len(got[4]), 17)
     return b"".join(line + b"\n" for k, line in enumerate(got[4], 1) if only in (None, k))
 
@@ -467,16 +563,190 @@ def do_comments(r):
 def do_convert(r):
     if r.cutoff is not None:
         return write(r.table())
-    got = read(r.bytes_of(r.word[0]), True)
-    refuse_if(isinstance(got, int), got)
+    got = accepted(read(r.bytes_of(r.word[0]), True))
+    return written(got[1], got[2], got[3], got[0])
+
+
+def do_equal(r):
+    a, b = (accepted(read(r.bytes_of(word), True)) for word in r.word)
+    return (0, "equal\n") if a[:4] == b[:4] else (5, "not equal\n")
+
+
+# --- lists that are checked
+
+
+def entries_of(data, picks):
+    """Line and text of each entry."""
+    lines = data.split(b"\n")
+    if picks:
+        return [(n, line.strip(b" \t\r")) for n, line in enumerate(lines, 1) if line.strip(b" \t\r") and not line.startswith(b"%")]
+    starts = [n for n, line in enumerate(lines) if re.match(rb"(\xef\xbb\xbf)?%%matrixmarket", line, re.IGNORECASE)]
+    ahead = next((n for n, line in enumerate(lines) if line.strip(b" \t\r")), len(lines))
+    if ahead < (starts[0] if starts else len(lines)):
+        starts.insert(0, ahead)
+    ends = starts[1:] + [len(lines)]
+    return [(start + 1, b"\n".join(lines[start:end]) + b"\n" * (end < len(lines))) for start, end in zip(starts, ends)]
+
+
+def fault_of(table, chain, found):
+    """What is wrong with a set that is no ladder."""
+    gauges, pairs = chain
+    if gauges != table[0]:
+        return "not of this table: the file has %d gauges, the table %d" % (gauges, table[0])
+    if not pairs <= table[2]:
+        return "not of this table: %d:%d" % min(pairs - table[2])
+    row = lambda g: {c for (h, c) in pairs if h == g}
+    for g, h in itertools.combinations(range(1, gauges + 1), 2):
+        if row(g) - row(h) and row(h) - row(g):
+            return "no chain: %d:%d and %d:%d clash" % (g, min(row(g) - row(h)), h, min(row(h) - row(g)))
+    ladder = next(s for _, s in found if pairs <= s)
+    return "a chain and no ladder: %d:%d can be added" % next(p for p in sorted(ladder - pairs) if is_chain(pairs | {p}))
+
+
+def judged(table, everything, plainly, line, text, picks):
+    """The line and the fault of an entry, or its ladder."""
+    if not picks:
+        got = read(text, False)
+        if isinstance(got, Refused):
+            return line + max(got.line, 1) - 1, "unreadable: refused %d" % got, None
+        pairs = frozenset(got[3])
+        if got[1] == table[0] and any(pairs == s for _, s in everything):
+            return line, None, pairs
+        return line, fault_of(table, (got[1], pairs), plainly), None
+    sequence_typed = picks_in(text.decode("latin-1"))
+    if sequence_typed is None:
+        return line, "unreadable: refused 104", None
+    why, what = what_picks_are(everything, sequence_typed)
+    if why == 15:
+        return line, "not of this table: no ladder begins with these picks", None
+    return (line, "a chain and no ladder: pick %d can be added" % what, None) if why else (line, None, what)
+
+
+def do_check(r):
+    table, due, by_cases, order, part = asked(r)
+    everything, plainly = listing(table, by_cases, order, False), listing(table, False, range(1, table[0] + 1), False)
+    place_of = {s: i for i, (_, s) in enumerate(everything)}
+    picks = "--picks" in r.option
+    word = r.word[1] if len(r.word) == 2 else "-"
+    name = "standard input" if word == "-" else word
+    first, seen, faults, highest, descends = {}, [], [], -1, None
+    for number_of_entry, (line, text) in enumerate(entries_of(r.bytes_of(word), picks), 1):
+        line, fault, ladder = judged(table, everything, plainly, line, text, picks)
+        seen.append(fault)
+        place = -1
+        if ladder is not None:
+            place = place_of[ladder]
+            if descends is None and place < highest:
+                descends = number_of_entry
+            highest = max(highest, place)
+            if ladder in first:
+                fault = "repeated: the same as entry %d, line %d" % first[ladder]
+            elif all(ladder != s for _, s in due):
+                inside = everything[place][0][: len(part)] == part
+                fault = "a ladder of another list: " + ("it holds no deciding pair" if inside else "it is not of this part")
+            first.setdefault(ladder, (number_of_entry, line))
+            seen[-1] = fault
+        if fault:
+            faults.append((number_of_entry, place, "%s:%d: entry %d: %s\n" % (name, line, number_of_entry, fault)))
+    if descends:
+        faults.sort(key=lambda f: (0, f[0]) if f[0] < descends else (1, f[0]) if f[1] < 0 else (2, f[1], f[0]))
+    missing = [(p, s) for p, s in due if s not in first]
+    if not faults and not missing:
+        return 0, "complete: %s, each once\n" % of(len(due), "ladder")
+    return 5, "".join(f[2] for f in faults) + missing_text(table, missing, picks) + counted(len(due), len(missing), seen)
+
+
+def missing_text(table, missing, picks):
+    if not missing:
+        return ""
+    more = ", the first 10 here and %d more" % (len(missing) - 10) if len(missing) > 10 else ""
+    return "missing: %s%s\n" % (of(len(missing), "ladder"), more) + "".join(picks_line(p) if picks else write((table[0], table[1], s)) for p, s in missing[:10])
+
+
+def counted(ladders_due, missing, seen):
+    kinds = ["unreadable", "not of this table", "no chain", "a chain and no ladder", "repeated", "a ladder of another list"]
+    counts = [(sum(1 for fault in seen if fault and fault.startswith(kind)), kind) for kind in kinds]
+    entries = "1 entry" if len(seen) == 1 else "%d entries" % len(seen)
+    head = "not complete" if missing else "not each once"
+    return "%s: %s, %s: %d missing" % (head, of(ladders_due, "ladder"), entries, missing) + "".join(", %d %s" % c for c in counts if c[0]) + "\n"
+
+
+# --- files of other programs
+
+
+def reading_of(text):
+    """A decimal number cut towards zero; none for anything else."""
+    if not re.fullmatch(rb"[+-]?([0-9]+\.?[0-9]*|\.[0-9]+)([eEdD][+-]?[0-9]{1,9})?", text):
+        return None
+    with decimal.localcontext() as exactly:
+        exactly.prec, exactly.Emax, exactly.Emin = 400, 999999999, -999999999
+        number_read = decimal.Decimal(text.decode().lower().replace("d", "e"))
+        return 10**9 if number_read.adjusted() > 30 and number_read else int(number_read)
+
+
+def imported(data):
+    """A refusal, or kind, G, L and entries."""
+    lines = re.split(rb"\r\n|\r|\n", data[3:] if data.startswith(b"\xef\xbb\xbf") else data)
+    lines = lines[:-1] if lines[-1] == b"" else lines
+    words = [word.lower() for word in re.split(rb"[ \t]+", lines[0]) if word] if lines else []
+    if len(words) < 5 or words[:2] != [b"%%matrixmarket", b"matrix"] or words[2] not in (b"coordinate", b"array"):
+        return Refused(2, 1)
+    if words[3] not in (b"pattern", b"integer", b"real", b"double") or words[4] not in (b"general", b"symmetric", b"skew-symmetric"):
+        return Refused(2, 1)
+    array, readings, mirrored, skew = words[2] == b"array", words[3] != b"pattern", words[4] != b"general", words[4] == b"skew-symmetric"
+    if array and not readings:
+        return Refused(2, 1)
+    kept = [(n, [f for f in re.split(rb"[ \t]+", line) if f]) for n, line in enumerate(lines[1:], 2) if not line.startswith(b"%")]
+    kept = [(n, fields) for n, fields in kept if fields]
+    end = len(lines) + 1
+    if not kept or len(kept[0][1]) != (2 if array else 3) or not all(re.fullmatch(rb"[0-9]+", f) for f in kept[0][1][:2]):
+        return Refused(4, kept[0][0] if kept else end)
+    (at, size), rest = kept[0], kept[1:]
+    gauges, cases = int(size[0]), int(size[1])
+    if not (1 <= gauges <= 64 and 1 <= cases <= 64) or (mirrored and gauges != cases):
+        return Refused(5, at)
+    if not array and not re.fullmatch(rb"[0-9]+", size[2]):
+        return Refused(4, at)
+    places = [(g, c) for c in range(1, cases + 1) for g in range(1, gauges + 1) if not mirrored or g > c or (g == c and not skew)]
+    wanted_entries, entries, count = len(places) if array else int(size[2]), {}, 0
+    for n, fields in rest:
+        if len(fields) != (1 if array else 2 + readings):
+            return Refused(6, n)
+        if not array and not all(re.fullmatch(rb"[0-9]+", f) for f in fields[:2]):
+            return Refused(6, n)
+        value = reading_of(fields[-1]) if readings else 0
+        if value is None:
+            return Refused(6, n)
+        if abs(value) > 1000000:
+            return Refused(20, n)
+        if array and count == wanted_entries:
+            return Refused(9, n)
+        g, c = places[count] if array else (int(fields[0]), int(fields[1]))
+        if not (1 <= g <= gauges and 1 <= c <= cases) or (skew and g == c):
+            return Refused(7, n)
+        if count == wanted_entries:
+            return Refused(9, n)
+        count += 1
+        for place, sign in {(g, c): 1, **({(c, g): -1 if skew else 1} if mirrored and g != c else {})}.items():
+            if place in entries:
+                return Refused(8, n)
+            entries[place] = sign * value
+    if count != wanted_entries:
+        return Refused(9, end)
+    return "integer" if readings else "pattern", gauges, cases, entries
+
+
+def do_import(r):
+    got = accepted(imported(r.bytes_of(r.word[0])))
     return written(got[1], got[2], got[3], got[0])
 
 
 def answer(words, standard_input):
-    """Exit status, standard output, number of the refusal."""
+    """Exit status, standard output, number of the refusal, and its line."""
     try:
         request = Request(words, standard_input)
         out = globals()["do_" + request.name](request)
     except Ends as end:
-        return end.status, b"", end.number
-    return 0, out if isinstance(out, bytes) else out.encode(), None
+        return end.status, end.out, end.number, end.line or None
+    status, out = out if isinstance(out, tuple) else (0, out)
+    return status, out if isinstance(out, bytes) else out.encode(), None, None

@@ -1,4 +1,4 @@
-/* What is read: a file by name or from standard input, and what it holds, a table or a chain. */
+/* What is read: a file by name or from standard input, and what it holds, a table or a chain; and how it is refused. */
 #define _POSIX_C_SOURCE 200809L /* fileno, fstat, isatty */
 #include "planner.h"
 #include <errno.h>
@@ -36,12 +36,30 @@ static FILE *open_input(void) {
     return stdin;
 }
 
+FILE *open_word(const char *word) { return is_input(word) ? open_input() : open_named(word); }
+
 void read_file(const char *word, File *file) {
-    FILE *in = is_input(word) ? open_input() : open_named(word);
+    FILE *in = open_word(word);
     file->name = name_of(word);
     file->length = fread(file->bytes, 1, sizeof file->bytes, in);
     if (ferror(in)) fail(file->name, "reading failed");
     if (in != stdin) fclose(in);
+}
+
+/* A file that is refused is named with the line that decided, and with what stands there. */
+void accept_file(const File *file, uint64_t why, Use use) {
+    char reason[REASON];
+    if (!why) return;
+    uint64_t line = reason_of(file->bytes, file->length, why, use, reason);
+    refuse_because(place_in(file->name, line), why, words_of_file(file->bytes, file->length, why), reason);
+}
+
+/* A set of pairs that is refused is named with the pairs that show it. */
+void accept_set(const char *name, uint64_t why, const uint64_t *table, const uint64_t *chain) {
+    char reason[REASON];
+    if (!why) return;
+    reason_of_set(why, table, chain, reason);
+    refuse_because(name, why, words_of(why), reason);
 }
 
 /* The table of the first word: of a file of pairs, or with `--cutoff` of either kind. */
@@ -54,15 +72,15 @@ void read_table(const Request *request, uint64_t *table) {
     read_file(request->word[0], &file);
     uint64_t why = text ? rg_read_test(file.bytes, file.length, cutoff, test, RG_TEST_WORDS, readings, RG_READINGS, table, RG_TABLE_WORDS)
                         : rg_read(file.bytes, file.length, table, RG_TABLE_WORDS);
-    accept_file(subject_of(request, why, file.name), why, text);
+    if (why == RG_CUTOFF) refuse(option_text(request, CUTOFF), why);
+    accept_file(&file, why, text ? EITHER_KIND : TABLE_OF_PAIRS);
 }
 
-/* A chain is a file of pairs. Its row count is the file's G; the file's L says nothing, since a pair that the table lacks is refused by its case. */
+/* A chain is a file of pairs. */
 void read_chain(const char *word, uint64_t *chain) {
     static File file;
     uint64_t table[RG_TABLE_WORDS];
     read_file(word, &file);
-    accept(file.name, rg_read(file.bytes, file.length, table, RG_TABLE_WORDS));
-    chain[RG_CHAIN_COUNT] = table[RG_TABLE_GAUGES];
-    memcpy(chain + RG_CHAIN_ROWS, table + RG_TABLE_ROWS, RG_ROWS * sizeof *chain);
+    accept_file(&file, rg_read(file.bytes, file.length, table, RG_TABLE_WORDS), SET_OF_PAIRS);
+    chain_of_table(table, chain);
 }

@@ -6,7 +6,7 @@
 #define MOST_PARTS 1000000
 
 /* The options of a run stand in the line of a part, and are not given twice. */
-static void check_part_options(const Request *request) {
+void check_part_options(const Request *request) {
     if (request->option[BY_CASES]) wrong_usage("the part's line says %s", "whether it goes by cases");
     if (request->option[NEEDED]) wrong_usage("the part's line says %s", "which ladders are needed");
     if (request->option[PREFER]) wrong_usage("the part's line says %s", "what is preferred");
@@ -30,10 +30,10 @@ static bool all_of(const Part *part, const Run *run, const uint64_t *batch) {
            (run->words[RG_RUN_PHASE] == RG_HANDED && starts_with(run->words + RG_RUN_PICKS, part));
 }
 
-/* A listing: of which part of the run's list, whether its ladders are written or counted alone, and how many there were. */
+/* A listing: of which part of the run's list, whether its ladders are written, as files or by their picks, or counted alone, and how many there were. */
 typedef struct {
     const Request *request;
-    bool writes, single;
+    bool writes, picks, single;
     Part part;
     Run run;
     uint64_t table[RG_TABLE_WORDS];
@@ -47,7 +47,8 @@ static bool list_one(Listing *list) {
     if (outcome == RG_END) return false;
     if (outcome != RG_HANDED_OUT) return true;
     if (!starts_with(run->step + RG_STEP_PICKS, &list->part)) return false;
-    if (list->writes) put_chain(run->step + RG_STEP_CHAIN, list->table[RG_TABLE_CASES]);
+    if (list->picks) put_picks(run->step + RG_STEP_PICKS);
+    else if (list->writes) put_chain(run->step + RG_STEP_CHAIN, list->table[RG_TABLE_CASES]);
     list->ladders++;
     return true;
 }
@@ -59,7 +60,6 @@ static bool list_many(Listing *list) {
     uint64_t before[RG_RUN_WORDS];
     memcpy(before, run->words, sizeof before);
     uint64_t outcome = call_batch(list->request, run, batch, RG_BATCH_WORDS + LADDERS * (size_t)list->table[RG_TABLE_GAUGES]);
-    if (outcome == RG_SPENT && run->budget == 0) spent(option_text(list->request, BUDGET), "calls without a move list nothing");
     list->single = !all_of(&list->part, run, batch);
     if (list->single) {
         memcpy(run->words, before, sizeof before);
@@ -70,13 +70,14 @@ static bool list_many(Listing *list) {
     return outcome != RG_END;
 }
 
-/* The ladders of the part, from its value on: in batches, and its last ones singly. The whole list is the part of no picks. */
+/* The ladders of the part, from its value on: in batches, and its last ones singly; their picks singly, since no batch has them. The whole list is the part
+ * of no picks. */
 static void list_part(Listing *list, bool whole) {
     Progress progress;
     bool more = true;
     begin_progress(&progress);
     while (more) {
-        more = list->single ? list_one(list) : list_many(list);
+        more = list->single || list->picks ? list_one(list) : list_many(list);
         progress.ladders = list->ladders;
         show_progress(&progress, list->table, whole);
     }
@@ -91,12 +92,14 @@ static void start_listing(Listing *list) {
     if (request->option[PART]) start_part(request->option[PART], list->table, &list->part, &list->run);
     else start_run(request, list->table, &list->run);
     list->run.budget = budget_of(request);
+    if (list->run.budget == 0) spent(option_text(request, BUDGET), "calls without a move list nothing");
 }
 
-void answer_list(const Request *request) {
-    Listing list = {.request = request, .writes = true};
+int answer_list(const Request *request) {
+    Listing list = {.request = request, .writes = true, .picks = request->option[PICKS]};
     start_listing(&list);
     list_part(&list, !request->option[PART] && !request->option[NEEDED]);
+    return STATUS_DONE;
 }
 
 /* count of a part: how many ladders `list` of it writes. */
@@ -161,7 +164,7 @@ static bool split_round(Parts *parts, const Run *fresh, uint64_t enough, uint8_t
     return some;
 }
 
-void answer_parts(const Request *request) {
+int answer_parts(const Request *request) {
     uint64_t table[RG_TABLE_WORDS], enough = number_of("parts wants a number of parts, not '%s'", request->word[1]);
     Parts parts = {.count = 1};
     Run fresh;
@@ -173,4 +176,5 @@ void answer_parts(const Request *request) {
         ;
     for (size_t at = 0; at != LAST; at = parts.nodes[at].next) put_part(request, &fresh, &parts.nodes[at].part);
     free(parts.nodes);
+    return STATUS_DONE;
 }

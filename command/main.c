@@ -6,7 +6,9 @@
 #define OF_RUNS (SET(BY_CASES) | SET(NEEDED) | SET(PREFER) | SET(CUTOFF))
 
 static const Command commands[] = {
-    {"list", "[FILE]", 1, 0, true, OF_RUNS | SET(BUDGET) | SET(PART), answer_list},
+    {"list", "[FILE]", 1, 0, true, OF_RUNS | SET(BUDGET) | SET(PART) | SET(PICKS), answer_list},
+    {"ladder", "FILE [PICKS]", 1, 1, true, SET(BY_CASES) | SET(PREFER) | SET(CUTOFF), answer_ladder},
+    {"check", "FILE [LIST]", 1, 1, true, OF_RUNS | SET(PART) | SET(PICKS), answer_check},
     {"parts", "[FILE] N", 2, 0, true, OF_RUNS, answer_parts},
     {"count", "[FILE]", 1, 0, true, SET(PREFER) | SET(CUTOFF) | SET(BUDGET) | SET(PART), answer_count},
     {"judge", "[FILE] CHAIN", 2, 0, true, SET(CUTOFF), answer_judge},
@@ -20,6 +22,9 @@ static const Command commands[] = {
     {"make", "G L START DENSITY", 4, 0, false, 0, answer_make},
     {"comments", "[FILE [K]]", 1, 1, true, 0, answer_comments},
     {"convert", "[FILE]", 1, 0, true, SET(CUTOFF), answer_convert},
+    {"import", "[FILE]", 1, 0, true, 0, answer_import},
+    {"equal", "[FILE] FILE", 2, 0, true, 0, answer_equal},
+    {"show", "FILE [LADDER]", 1, 1, true, OF_RUNS, answer_show},
 };
 #define COMMANDS (sizeof commands / sizeof commands[0])
 
@@ -34,12 +39,15 @@ int main(int argc, char **argv) {
     /* A reader that goes away is seen as a write that fails, so that the exit status is the command's own. */
     signal(SIGPIPE, SIG_IGN);
     start_output();
-    if (argc < 2) wrong_usage("a subcommand is wanted%s", "");
-    const Command *command = command_named(argv[1]);
-    if (!command) wrong_usage("no subcommand %s", argv[1]);
+    int at = subcommand_at(argc, argv);
+    if (at == argc) wrong_usage("a subcommand is wanted%s", "");
+    const Command *command = command_named(argv[at]);
+    if (!command) wrong_usage("no subcommand %s", argv[at]);
     usage_of(command);
+    /* Options may stand ahead of it. */
+    memmove(argv + 1 + 1, argv + 1, (size_t)(at - 1) * sizeof *argv);
     read_request(&request, command, argc - 2, argv + 2);
-    command->answer(&request);
+    int status = command->answer(&request);
     finish_output();
-    return STATUS_DONE;
+    return status;
 }

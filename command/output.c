@@ -51,6 +51,12 @@ void table_of_chain(const uint64_t *chain, uint64_t cases, uint64_t *table) {
     memcpy(table + RG_TABLE_ROWS, chain + RG_CHAIN_ROWS, RG_ROWS * sizeof *table);
 }
 
+/* The other way round; the file's L says nothing, since a pair that the table lacks is refused by its case. */
+void chain_of_table(const uint64_t *table, uint64_t *chain) {
+    chain[RG_CHAIN_COUNT] = table[RG_TABLE_GAUGES];
+    memcpy(chain + RG_CHAIN_ROWS, table + RG_TABLE_ROWS, RG_ROWS * sizeof *chain);
+}
+
 void put_chain(const uint64_t *chain, uint64_t cases) {
     uint64_t table[RG_TABLE_WORDS];
     table_of_chain(chain, cases, table);

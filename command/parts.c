@@ -19,15 +19,19 @@ static uint64_t checksum(const uint64_t *table) {
     return sum;
 }
 
-void part_value(const char *subject, const Run *fresh, const Part *part, Run *run) {
+/* The value of a part, from the fresh one pick by pick; the refusal where some pick is no candidate. */
+uint64_t try_part(const Run *fresh, const Part *part, Run *run) {
     Run next = *fresh;
+    uint64_t why = RG_ACCEPTED;
     *run = *fresh;
-    for (int i = 0; i < part->count; i++) {
-        uint64_t why = (run->by_cases ? rg_part_cases : rg_part_gauges)(run->words, RG_RUN_WORDS, part->picks[i], next.words, RG_RUN_WORDS);
-        accept(subject, why);
-        *run = next;
+    for (int i = 0; i < part->count && !why; i++) {
+        why = (run->by_cases ? rg_part_cases : rg_part_gauges)(run->words, RG_RUN_WORDS, part->picks[i], next.words, RG_RUN_WORDS);
+        if (!why) *run = next;
     }
+    return why;
 }
+
+void part_value(const char *subject, const Run *fresh, const Part *part, Run *run) { accept_picks(subject, try_part(fresh, part, run)); }
 
 void candidates_of(const Run *run, uint64_t *numbers) {
     accept("planner", (run->by_cases ? rg_candidates_cases : rg_candidates_gauges)(run->words, RG_RUN_WORDS, numbers, RG_NUMBERS_WORDS));
@@ -45,8 +49,9 @@ void put_part(const Request *request, const Run *fresh, const Part *part) {
     put_text("%016" PRIx64 "/%s/%s/", checksum(table), fresh->by_cases ? "cases" : "gauges", request->option[NEEDED] ? "needed" : "all");
     for (uint64_t i = 0; i < n; i++) put_text("%s%" PRIu64, i ? "," : "", order[i]);
     put_text("%s/", n ? "" : "plain");
-    for (int i = 0; i < part->count; i++) put_text("%s%d", i ? "," : "", part->picks[i]);
-    put_text("%s\n", part->count ? "" : "-");
+    uint64_t picks[RG_NUMBERS_WORDS] = {0};
+    for (int i = 0; i < part->count; i++) picks[i] = part->picks[i];
+    put_picks(picks);
 }
 
 /* A field of a line. */
@@ -83,15 +88,11 @@ static bool hexadecimal(Field field, uint64_t *number) {
     return field.length == 16;
 }
 
+/* The picks of a line, each a number that a table can have. */
 static bool picks_of(Field field, Part *part) {
-    uint64_t numbers[RG_ORDER_WORDS];
-    size_t count = 0;
-    if (!is(field, "-") && (!read_numbers(field.text, field.length, numbers, &count) || count > RG_MOST)) return false;
-    part->count = (uint8_t)count;
-    for (size_t i = 0; i < count; i++) {
-        if (numbers[i] > RG_MOST) return false;
-        part->picks[i] = (uint8_t)numbers[i];
-    }
+    if (!read_picks(field.text, field.length, part)) return false;
+    for (int i = 0; i < part->count; i++)
+        if (part->picks[i] > RG_MOST) return false;
     return true;
 }
 

@@ -2,9 +2,11 @@
  * writes what that answers.
  *
  * Here: what the files share, file by file. words.c has how the command ends and says so; request.c its words and options; numbers.c numbers, pairs and
- * preferences as they are typed; files.c what is read, output.c what is written; runs.c runs of either side; parts.c parts of a list and their lines;
- * progress.c the line on a terminal; proposal.c the file of a trial. The subcommands are in list.c (list, parts), ask.c (count, judge, grow, rivals,
- * explain, cover, order), trial.c (trial, commit) and tables.c (make, comments, convert); main.c has their table. */
+ * preferences as they are typed; files.c what is read, output.c what is written; reasons.c and banner.c why a file was refused, witness.c why a set of
+ * pairs; runs.c runs of either side; parts.c parts of a list and their lines; progress.c the line on a terminal; proposal.c the file of a trial; decimal.c
+ * readings with a point. Of a list that is checked entries.c has the entries, entry.c what one is, course.c the run beside them, sorting.c their order.
+ * The subcommands are in list.c (list, parts), picks.c (ladder), check.c, ask.c (count, judge, grow, rivals, cover, order), explain.c, show.c, trial.c
+ * (trial, commit), tables.c (make, comments, convert, equal) and import.c; main.c has their table. */
 #ifndef PLANNER_H
 #define PLANNER_H
 
@@ -12,12 +14,13 @@
 #include <stdbool.h>
 #include <stddef.h>
 #include <stdint.h>
+#include <stdio.h>
 
-/* Exit statuses: those of ./ladders, and one for a budget that was used up before the answer. */
-enum { STATUS_DONE = 0, STATUS_FAILED = 1, STATUS_USAGE = 2, STATUS_REFUSED = 3, STATUS_SPENT = 4 };
+/* Exit statuses: those of ./ladders, one for a budget that was used up before the answer, and one for an answer that is no. */
+enum { STATUS_DONE = 0, STATUS_FAILED = 1, STATUS_USAGE = 2, STATUS_REFUSED = 3, STATUS_SPENT = 4, STATUS_NO = 5 };
 
 /* The command's own refusals, above those of the library. */
-enum { NO_PART_LINE = 101, OTHER_TABLE = 102, NO_SUCH_LADDER = 103 };
+enum { NO_PART_LINE = 101, OTHER_TABLE = 102, NO_SUCH_LADDER = 103, NO_PICKS_LINE = 104, NO_WHOLE_PICKS = 105 };
 
 /* A file is read into one byte more than the longest, so that a longer one is seen to be longer. */
 typedef struct {
@@ -27,7 +30,7 @@ typedef struct {
 } File;
 
 /* Options; a subcommand takes a set of them. */
-typedef enum { BY_CASES, NEEDED, PREFER, CUTOFF, BUDGET, PART, OPTIONS } Option;
+typedef enum { BY_CASES, NEEDED, PREFER, CUTOFF, BUDGET, PART, PICKS, OPTIONS } Option;
 #define SET(option) (1u << (option))
 
 typedef struct Request Request;
@@ -39,7 +42,7 @@ typedef struct {
     int words, more;
     bool reads;
     unsigned options;
-    void (*answer)(const Request *);
+    int (*answer)(const Request *); /* its exit status */
 } Command;
 
 #define MOST_WORDS 4
@@ -58,14 +61,34 @@ _Noreturn void wrong_usage(const char *format, const char *what);
 _Noreturn void refuse(const char *subject, uint64_t why);
 _Noreturn void spent(const char *subject, const char *what);
 void accept(const char *subject, uint64_t why);
-void accept_file(const char *subject, uint64_t why, bool either_kind);
+_Noreturn void refuse_because(const char *subject, uint64_t why, const char *words, const char *reason);
 void usage_of(const Command *command);
+const char *words_of(uint64_t why);
+const char *place_in(const char *name, uint64_t line);
 
 /* request.c */
+int subcommand_at(int argc, char **argv);
 void read_request(Request *request, const Command *command, int argc, char **argv);
 void print_options(unsigned options);
 const char *option_text(const Request *request, Option option);
 const char *subject_of(const Request *request, uint64_t why, const char *otherwise);
+
+/* reasons.c, banner.c: why a file was refused, and in which line; what the file is read for. */
+typedef enum { TABLE_OF_PAIRS, EITHER_KIND, SET_OF_PAIRS } Use;
+typedef struct {
+    const char *text;
+    size_t length;
+} Text;
+#define REASON 256    /* bytes for a reason */
+#define QUOTED 24     /* bytes of a file's word that are shown */
+#define MOST_FIELDS 6 /* fields of a line that are looked at */
+const char *words_of_file(const uint8_t *file, size_t length, uint64_t why);
+uint64_t reason_of(const uint8_t *file, size_t length, uint64_t why, Use use, char *reason);
+void say_banner(char *reason, const uint8_t *file, size_t length, Use use);
+bool cut_line(Text *rest, Text *line);
+size_t fields_in(Text line, Text *fields, size_t most);
+const char *quoted(Text text, char *room);
+bool is_integer(const uint8_t *file, size_t length);
 
 /* numbers.c */
 bool read_number(const char *text, size_t length, uint64_t *number);
@@ -77,8 +100,11 @@ void order_of(const Request *request, uint64_t n, uint64_t *order);
 void plain_order(uint64_t n, uint64_t *order);
 
 /* files.c */
+FILE *open_word(const char *word);
 void read_file(const char *word, File *file);
 void read_table(const Request *request, uint64_t *table);
+void accept_file(const File *file, uint64_t why, Use use);
+void accept_set(const char *name, uint64_t why, const uint64_t *table, const uint64_t *chain);
 void read_chain(const char *word, uint64_t *chain);
 const char *name_of(const char *word);
 
@@ -90,6 +116,7 @@ void put_table(const uint64_t *table);
 void put_chain(const uint64_t *chain, uint64_t cases);
 size_t file_of_table(const uint64_t *table, uint8_t *bytes);
 void table_of_chain(const uint64_t *chain, uint64_t cases, uint64_t *table);
+void chain_of_table(const uint64_t *table, uint64_t *chain);
 void finish_output(void);
 
 /* runs.c: a run of either side, the budget of its calls, and what the last call came to. */
@@ -105,17 +132,53 @@ uint64_t call_run(const Request *request, Run *run);
 uint64_t call_batch(const Request *request, Run *run, uint64_t *batch, size_t words);
 bool next_ladder(const Request *request, Run *run);
 uint64_t side_count(const uint64_t *table, bool by_cases);
+uint64_t sequence_of(const Run *run, const uint64_t *ladder, uint64_t *picks);
 
 /* parts.c: a part by the numbers of its picks. */
 typedef struct {
     uint8_t count;
     uint8_t picks[RG_MOST];
 } Part;
+uint64_t try_part(const Run *fresh, const Part *part, Run *run);
 void part_value(const char *subject, const Run *fresh, const Part *part, Run *run);
 void candidates_of(const Run *run, uint64_t *numbers);
 bool starts_with(const uint64_t *picks, const Part *part);
 void put_part(const Request *request, const Run *fresh, const Part *part);
 void start_part(const char *line, const uint64_t *table, Part *part, Run *run);
+
+/* entries.c: a list that some lister wrote. */
+typedef struct {
+    const char *name;
+    FILE *in;
+    bool picks;              /* lines of picks, else files one after another */
+    bool again;              /* whether it can be read again, from its start or from what is held */
+    int64_t start;           /* of a file, else negative */
+    uint64_t size;           /* of a file, from there */
+    uint8_t *held;
+    size_t held_length, held_at;
+    uint8_t buffer[1 << 16];
+    size_t at, end;
+    bool over, within, comment; /* nothing is left to read; within a line; within a comment */
+    uint64_t passed, line, number; /* bytes, lines and entries */
+} List;
+
+/* An entry: its number and its first line, from 1. */
+typedef struct {
+    uint64_t number, line;
+    size_t length;
+    uint8_t bytes[RG_FILE_BYTES + 1];
+} Entry;
+void open_list(List *list, const char *word, bool picks);
+bool next_entry(List *list, Entry *entry);
+bool rewind_list(List *list);
+void close_list(List *list);
+
+/* picks.c: pick sequences as they are typed and written, and the ladder of one. */
+bool read_picks(const char *text, size_t length, Part *part);
+void accept_picks(const char *subject, uint64_t why);
+void put_picks(const uint64_t *picks);
+bool picks_of_entry(const Entry *entry, Part *part);
+uint64_t ladder_of_picks(const Run *fresh, const Part *part, Run *run);
 
 /* progress.c */
 typedef struct {
@@ -127,25 +190,99 @@ void begin_progress(Progress *progress);
 void show_progress(Progress *progress, const uint64_t *table, bool whole);
 void end_progress(const Progress *progress);
 
+/* witness.c */
+typedef struct {
+    uint64_t gauge, gauge_case;
+} Pair;
+bool foreign_pair(const uint64_t *table, const uint64_t *chain, Pair *pair);
+bool clashing_pairs(const uint64_t *chain, Pair *two);
+bool pair_to_add(const uint64_t *table, const uint64_t *chain, Pair *pair);
+void reason_of_set(uint64_t why, const uint64_t *table, const uint64_t *chain, char *reason);
+
+/* entry.c: what is wrong with an entry of a list. The last two are said of ladders. That one comes behind a later one, or that the run stopped, is no fault. */
+typedef enum { NO_FAULT, UNREADABLE, NOT_OF_TABLE, NO_CHAIN, ONLY_CHAIN, REPEATED, NOT_LISTED, FAULTS, DESCENDS, STOPPED } Fault;
+
+/* What an entry holds: the set of a file, or the picks of a line; its refusal; a pick that may follow; of a ladder its pick sequence. */
+typedef struct {
+    uint64_t chain[RG_CHAIN_WORDS];
+    Part part;
+    uint64_t why, next;
+    uint64_t picks[RG_NUMBERS_WORDS];
+} Found;
+Fault read_entry(const Entry *entry, bool picks, Found *found);
+Fault judge_entry(const Run *fresh, bool picks, Found *found);
+void put_fault(const char *name, const uint64_t *table, bool picks, const Entry *entry, const Found *found, Fault fault);
+const char *fault_words(Fault fault);
+
+/* course.c: a run beside the ladders of a list. */
+#define FIRST_MISSING 10
+typedef struct {
+    const Request *request;
+    bool picks, whole;                /* the list has picks in place of files; the list of all ladders is asked for */
+    Part part;
+    Run fresh, from, run;             /* a run of all ladders, which judges; from where the list begins; where the run stands */
+    uint8_t place[RG_MOST + 1];
+    bool over, stopped;               /* the run has come to its end; too many ladders were missing to go on to it */
+    uint64_t handed, matched, missing;
+    uint64_t first[FIRST_MISSING][RG_STEP_WORDS];
+    struct {
+        uint64_t number, line, picks[RG_NUMBERS_WORDS];
+    } last;                           /* the last ladder that was taken */
+    Progress progress;
+} Course;
+void prepare_course(Course *course);
+void start_course(const Request *request, Course *course);
+void begin_course(Course *course);
+bool take_next(Course *course, const Found *found, uint64_t number, uint64_t line);
+Fault take_ladder(Course *course, const uint64_t *picks, uint64_t number, uint64_t line);
+void end_course(Course *course);
+
+/* check.c */
+int check_list(Course *course, List *list);
+
+/* sorting.c */
+typedef struct {
+    uint8_t *bytes;
+    size_t count, room, width, numbers;
+} Records;
+void begin_records(Records *records, uint64_t numbers);
+bool records_fit(const Records *records, uint64_t count);
+bool add_record(Records *records, const Course *course, const uint64_t *picks, const Entry *entry);
+void sort_records(Records *records);
+void record_at(const Records *records, size_t at, const uint64_t *order, uint64_t *picks, uint64_t *number, uint64_t *line);
+void end_records(Records *records);
+
 /* proposal.c */
 void put_proposal(const uint64_t *proposal);
 bool read_proposal(const File *file, uint64_t *proposal);
 
+/* decimal.c */
+bool cut_decimal(Text text, int64_t *value);
+
+/* explain.c */
+void start_at_ladder(const Request *request, const char *word, const uint64_t *table, const char *pair, Run *run);
+
 /* The subcommands. */
-void answer_list(const Request *request);
+int answer_list(const Request *request);
 uint64_t count_part(const Request *request);
-void answer_parts(const Request *request);
-void answer_count(const Request *request);
-void answer_judge(const Request *request);
-void answer_grow(const Request *request);
-void answer_rivals(const Request *request);
-void answer_explain(const Request *request);
-void answer_cover(const Request *request);
-void answer_order(const Request *request);
-void answer_trial(const Request *request);
-void answer_commit(const Request *request);
-void answer_make(const Request *request);
-void answer_comments(const Request *request);
-void answer_convert(const Request *request);
+void check_part_options(const Request *request);
+int answer_parts(const Request *request);
+int answer_ladder(const Request *request);
+int answer_check(const Request *request);
+int answer_count(const Request *request);
+int answer_judge(const Request *request);
+int answer_grow(const Request *request);
+int answer_rivals(const Request *request);
+int answer_explain(const Request *request);
+int answer_cover(const Request *request);
+int answer_order(const Request *request);
+int answer_trial(const Request *request);
+int answer_commit(const Request *request);
+int answer_make(const Request *request);
+int answer_comments(const Request *request);
+int answer_convert(const Request *request);
+int answer_import(const Request *request);
+int answer_equal(const Request *request);
+int answer_show(const Request *request);
 
 #endif

@@ -1,5 +1,4 @@
-/* The words behind a subcommand: options, which may stand anywhere ahead of `--`, and arguments. What stands in
- * arguments is looked at where it is used. */
+/* The words of a subcommand: options, which may stand anywhere ahead of `--`, and arguments. What stands in arguments is looked at where it is used. */
 #include "planner.h"
 #include <stdio.h>
 #include <stdlib.h>
@@ -11,6 +10,7 @@ static const struct {
 } options[OPTIONS] = {
     [BY_CASES] = {"--by-cases", NULL}, [NEEDED] = {"--needed", NULL},  [PREFER] = {"--prefer", "ORDER"},
     [CUTOFF] = {"--cutoff", "N"},      [BUDGET] = {"--budget", "N"},   [PART] = {"--part", "LINE"},
+    [PICKS] = {"--picks", NULL},
 };
 
 void print_options(unsigned taken) {
@@ -34,20 +34,39 @@ const char *subject_of(const Request *request, uint64_t why, const char *otherwi
     return option != OPTIONS && request->option[option] ? option_text(request, option) : otherwise;
 }
 
+/* An option as a word names it: its name alone, or with `=` and its value behind. */
 static int option_named(const char *word) {
+    size_t length = strcspn(word, "=");
     for (int i = 0; i < OPTIONS; i++)
-        if (!strcmp(options[i].name, word)) return i;
+        if (strlen(options[i].name) == length && !memcmp(options[i].name, word, length)) return i;
     return OPTIONS;
+}
+
+static bool is_option(const char *word) { return word[0] == '-' && word[1]; }
+
+/* How many words an option is: two where its value is the next one. */
+static int words_of_option(const char *word) {
+    int option = option_named(word);
+    return option != OPTIONS && options[option].value && !strchr(word, '=') ? 2 : 1;
+}
+
+/* The first word that is no option and no value of one. */
+int subcommand_at(int argc, char **argv) {
+    int at = 1;
+    while (at < argc && is_option(argv[at]) && strcmp(argv[at], "--")) at += words_of_option(argv[at]);
+    return at < argc ? at : argc;
 }
 
 /* Takes the option at argv[0], with its value; how many words that are. */
 static int take_option(Request *request, int argc, char **argv) {
-    int option = option_named(argv[0]);
+    int option = option_named(argv[0]), words = words_of_option(argv[0]);
+    const char *equals = strchr(argv[0], '=');
     if (option == OPTIONS || !(request->command->options & SET(option))) wrong_usage("no option %s", argv[0]);
-    if (request->option[option]) wrong_usage("%s twice", argv[0]);
-    if (options[option].value && argc < 2) wrong_usage("%s wants a value", argv[0]);
-    request->option[option] = options[option].value ? argv[1] : "";
-    return options[option].value ? 2 : 1;
+    if (request->option[option]) wrong_usage("%s twice", options[option].name);
+    if (equals && !options[option].value) wrong_usage("%s takes no value", options[option].name);
+    if (words > argc) wrong_usage("%s wants a value", argv[0]);
+    request->option[option] = !options[option].value ? "" : equals ? equals + 1 : argv[1];
+    return words;
 }
 
 static void take_word(Request *request, const char *word) {
@@ -77,7 +96,7 @@ void read_request(Request *request, const Command *command, int argc, char **arg
         if (more_options && !strcmp(argv[i], "--")) {
             more_options = false;
             i++;
-        } else if (more_options && argv[i][0] == '-' && argv[i][1]) {
+        } else if (more_options && is_option(argv[i])) {
             i += take_option(request, argc - i, argv + i);
         } else {
             take_word(request, argv[i++]);

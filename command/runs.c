@@ -1,4 +1,4 @@
-/* Runs of either side under one roof: a start, a call, a batch of calls, the next ladder. */
+/* Runs of either side under one roof: a start, a call, a batch of calls, the next ladder, a pick sequence. */
 #include "planner.h"
 
 uint64_t side_count(const uint64_t *table, bool by_cases) { return table[by_cases ? RG_TABLE_CASES : RG_TABLE_GAUGES]; }
@@ -39,4 +39,10 @@ bool next_ladder(const Request *request, Run *run) {
     do outcome = call_run(request, run);
     while (outcome == RG_SPENT);
     return outcome == RG_HANDED_OUT;
+}
+
+/* The pick sequence of a ladder on the side of a run and under its preference; the refusal where it is none. */
+uint64_t sequence_of(const Run *run, const uint64_t *ladder, uint64_t *picks) {
+    return (run->by_cases ? rg_sequence_cases : rg_sequence_gauges)(run->words + RG_RUN_TABLE, RG_TABLE_WORDS, run->words + RG_RUN_ORDER, RG_ORDER_WORDS,
+                                                                    ladder, RG_CHAIN_WORDS, picks, RG_NUMBERS_WORDS);
 }

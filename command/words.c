@@ -4,6 +4,7 @@
 #include <inttypes.h>
 #include <stdio.h>
 #include <stdlib.h>
+#include <string.h>
 
 /* The words of docs/MANUAL.md, section 7, by number. */
 static const char *const library_words[] = {
@@ -31,7 +32,7 @@ static const char *const library_words[] = {
     [RG_IN_LADDER] = "the pair is in the ladder",
     [RG_ABOVE_EIGHT] = "G or L above 8",
     [RG_MANY_LADDERS] = "more than 1,024 ladders",
-    [RG_NO_LADDER] = "not a ladder of the table; of an order, the second is none or lacks a pair of the first",
+    [RG_NO_LADDER] = "not a ladder of the table",
     [RG_PROPOSAL] = "the proposal is not what the trial on the current table gives",
     [RG_PREFERENCE] = "the preference is no arrangement",
     [RG_GENERATOR] = "the start is zero or the density above 256",
@@ -42,14 +43,25 @@ static const Command *asked;
 
 void usage_of(const Command *command) { asked = command; }
 
-static const char *words_of(uint64_t why) {
+const char *words_of(uint64_t why) {
     switch (why) {
     case RG_SHORT: return "lent memory is shorter than its layout";
     case NO_PART_LINE: return "not a line of planner parts";
     case OTHER_TABLE: return "the part is one of another table";
     case NO_SUCH_LADDER: return "the list has no ladder of that number";
+    case NO_PICKS_LINE: return "not a line of picks";
+    case NO_WHOLE_PICKS: return "the picks are only the beginning of a ladder's";
     default: return why < sizeof library_words / sizeof library_words[0] && library_words[why] ? library_words[why] : "a number without words";
     }
+}
+
+/* A line of a file, as a refusal names it; without a line the file alone. It is made for the words that end the command, and never freed. */
+const char *place_in(const char *name, uint64_t line) {
+    size_t room = strlen(name) + 24;
+    char *text = line ? malloc(room) : NULL;
+    if (!text) return name;
+    snprintf(text, room, "%s:%" PRIu64, name, line);
+    return text;
 }
 
 void fail(const char *subject, const char *what) {
@@ -70,10 +82,13 @@ void wrong_usage(const char *format, const char *what) {
     exit(STATUS_USAGE);
 }
 
-void refuse(const char *subject, uint64_t why) {
-    fprintf(stderr, "%s: refused %" PRIu64 ": %s\n", subject, why, words_of(why));
+/* In words that fit the place, and behind them what is the matter, where there is more to say. */
+void refuse_because(const char *subject, uint64_t why, const char *words, const char *reason) {
+    fprintf(stderr, "%s: refused %" PRIu64 ": %s%s%s\n", subject, why, words, reason[0] ? ": " : "", reason);
     exit(STATUS_REFUSED);
 }
+
+void refuse(const char *subject, uint64_t why) { refuse_because(subject, why, words_of(why), ""); }
 
 void spent(const char *subject, const char *what) {
     fprintf(stderr, "%s: spent: %s\n", subject, what);
@@ -82,14 +97,4 @@ void spent(const char *subject, const char *what) {
 
 void accept(const char *subject, uint64_t why) {
     if (why) refuse(subject, why);
-}
-
-/* Of a file that may be of either kind, 6 speaks of three fields, as ./ladders has it. */
-void accept_file(const char *subject, uint64_t why, bool either_kind) {
-    if (why != RG_ENTRY_LINE || !either_kind) {
-        accept(subject, why);
-        return;
-    }
-    fprintf(stderr, "%s: refused %d: entry line not three fields (in a file of pairs: not two)\n", subject, RG_ENTRY_LINE);
-    exit(STATUS_REFUSED);
 }
