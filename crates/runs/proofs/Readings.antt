@@ -2,9 +2,9 @@
 -- nothing, what `Called` says (`called-plain-unique`), and no two structs of the code
 -- read alike. For `Called` two steps that are not different are equal, since each field of a step is decided.
 --
--- Pins, which nothing else cites: `called-plain-unique`.
+-- Pins, which nothing else cites: `called-plain-unique`, `side-start-injective`, `side-step-injective`.
 use mathlib.Core.Path.{_≡_, refl, sym, ap, ap₂, _∙_}
-use mathlib.Core.Bool.{false}
+use mathlib.Core.Bool.{Bool, false}
 use mathlib.Core.List.{List, [], _∷_, List-discrete}
 use Prim.Native.Nat.{ℕ}
 use native.Mathlib.Decide.{ℕ-discrete}
@@ -31,7 +31,13 @@ use Rattle.runs.specs.declared.gauges.GaugeStep.{GaugeStep}
 use Rattle.runs.specs.declared.cases.CaseStep.{CaseStep}
 use Rattle.runs.specs.declared.Outcome.{Outcome}
 use Rattle.runs.specs.declared.Outcome.the-variants.{HandedOut, Spent, End, Refused}
-use Rattle.runs.specs.Paused.{Value, gaugePhase, casePhase, gaugeValue, caseValue, gaugeStart, caseStart}
+use Rattle.runs.specs.declared.engine.Mode.{Mode}
+use Rattle.runs.specs.declared.engine.Mode.the-variants.{Down as modeDown, Handed as modeHanded, Back as modeBack, Ended as modeEnded}
+use Rattle.runs.specs.declared.side.SideRun.{SideRun}
+use Rattle.runs.specs.declared.side.SideStart.{SideStart}
+use Rattle.runs.specs.declared.side.SideStep.{SideStep}
+use Rattle.runs.specs.Sides.{sideValue, sideStart, sideStep}
+use Rattle.runs.specs.Paused.{Value, modePhase, gaugePhase, casePhase, gaugeValue, caseValue, gaugeStart, caseStart}
 use Rattle.runs.specs.Calling.{Step, outcome, gaugeStep, caseStep, valueRefusal, PausedAt, Called}
 use Rattle.runs.specs.Omitting.{CalledEither}
 use Rattle.runs.specs.private.Either.{CalledOf}
@@ -202,6 +208,49 @@ case-step-injective = injective caseStep
     (λ s. record { outcome = outcomeOf (s .answer); moves = s .moves; chain = s .chain; picks = record { 0 = s .picks }; next = caseRunOf (s .next) })
     (λ r. ap₂ (λ (o : Outcome) (p : CaseRun). record { outcome = o; moves = r .moves; chain = r .chain; picks = r .picks; next = p })
     (outcome-of (r .outcome) (chainRows (r .chain))) (case-run-of (r .next)))
+
+-- ---- either side, where the marks are the same: with its clause `mark` a contract determines the whole struct
+modeOf : Phase → Mode
+modeOf Down = modeDown
+modeOf Handed = modeHanded
+modeOf (Back k) = modeBack k
+modeOf Ended = modeEnded
+
+mode-of : (m : Mode) → modeOf (modePhase m) ≡ m
+unfolding modeOf
+mode-of modeDown = refl
+mode-of modeHanded = refl
+mode-of (modeBack k) = refl
+mode-of modeEnded = refl
+
+abbrev sideRunOf : Bool → Value → SideRun
+sideRunOf b v =
+    record { cases = b; table = v .table; order = v .order; picks = v .picks; count = v .count; mode = modeOf (v .phase); omit = v .omit }
+
+side-run-of : (p : SideRun) → sideRunOf (p .cases) (sideValue p) ≡ p
+side-run-of p =
+    ap (λ (m : Mode). record { cases = p .cases; table = p .table; order = p .order; picks = p .picks; count = p .count; mode = m; omit = p .omit })
+    (mode-of (p .mode))
+
+pub side-value-injective : (p q : SideRun) → p .cases ≡ q .cases → sideValue p ≡ sideValue q → p ≡ q
+side-value-injective p q d e = sym (side-run-of p) ∙ ap₂ sideRunOf d e ∙ side-run-of q
+
+pub side-start-injective : (s z : SideStart) → s .run .cases ≡ z .run .cases → sideStart s ≡ sideStart z → s ≡ z
+side-start-injective s z d e =
+    ap₂ (λ (v : Verdict) (p : SideRun). record { verdict = v; run = p })
+    (verdict-injective (s .verdict) (z .verdict) (ap (λ (a : Reading Value). a .refusal) e))
+    (side-value-injective (s .run) (z .run) d (ap (λ (a : Reading Value). a .value) e))
+
+abbrev sideStepOf : Bool → Step → SideStep
+sideStepOf b s = record { outcome = outcomeOf (s .answer); moves = s .moves; chain = s .chain; picks = s .picks; next = sideRunOf b (s .next) }
+
+side-step-of : (r : SideStep) → sideStepOf (r .next .cases) (sideStep r) ≡ r
+side-step-of r =
+    ap₂ (λ (o : Outcome) (p : SideRun). record { outcome = o; moves = r .moves; chain = r .chain; picks = r .picks; next = p })
+    (outcome-of (r .outcome) (chainRows (r .chain))) (side-run-of (r .next))
+
+pub side-step-injective : (r q : SideStep) → r .next .cases ≡ q .next .cases → sideStep r ≡ sideStep q → r ≡ q
+side-step-injective r q d e = sym (side-step-of r) ∙ ap₂ sideStepOf d e ∙ side-step-of q
 
 -- ---- so a run call has one answer
 pub gauge-call-unique : (v : Value) (b : ℕ) (r q : GaugeStep) → CalledEither gaugeSide v b (gaugeStep r) → CalledEither gaugeSide v b (gaugeStep q) → r ≡ q

@@ -16,7 +16,7 @@ right k x = bitXor x (x / 2 ^ k)
 unfoldable pub step : ℕ → ℕ
 step x = shiftedLeft 17 (right 7 (shiftedLeft 13 x))
 
--- the inverse: `left k` is undone by itself and by `shiftedLeft` at twice k, four times k, and so on up to 64 bits; `right` likewise
+-- the inverse: `shiftedLeft k` is undone by itself and by `shiftedLeft` at twice k, four times k, and so on up to 64 bits; `right` likewise
 unfoldable pub unstep : ℕ → ℕ
 unstep x = shiftedLeft 13 (shiftedLeft 26 (shiftedLeft 52 (right 7 (right 14 (right 28 (right 56 (shiftedLeft 17 (shiftedLeft 34 x))))))))
 

@@ -55,10 +55,11 @@ pub fn candidates(p: SideRun) -> SideCandidates
 pub fn part(p: SideRun, g: u64) -> SidePart
     ensures { λ r. ⌜ PartAt (sideOf (p .cases)) (sideValue p) g (sidePart r) ⌝ }
     ensures lists { λ r. ⌜ ListsPart (sideOf (p .cases)) (sideValue (r .run)) ⌝ }
+    ensures mark { λ r. ⌜ r .run .cases ≡ p .cases ⌝ }
 {
     let checked = runs::check_down(p);
     if let Verdict::Refused(why) = checked {
-        return no_part(why);
+        return no_part(p.cases, why);
     }
     try_pick(p, g)
 }
@@ -112,8 +113,9 @@ fn takes_pick(p: SideRun, g: u8) -> bool
 // The value with one pick more, where the checks let it pass.
 fn try_pick(p: SideRun, g: u64) -> SidePart
     ensures { λ r. ⌜ TriedAt (sideOf (p .cases)) (sideValue p) g (sidePart r) ⌝ }
+    ensures mark { λ r. ⌜ r .run .cases ≡ p .cases ⌝ }
 {
-    let none = no_part(Refusal::NotReached);
+    let none = no_part(p.cases, Refusal::NotReached);
     let count = p.count;
     if PLACES <= count {
         return none;
@@ -154,12 +156,13 @@ fn one_more(p: SideRun, g: u64) -> SideRun
     }
 }
 
-// A refusal, with the blank value beside it.
-fn no_part(why: Refusal) -> SidePart
+// A refusal, with the blank value of the side beside it.
+fn no_part(cases: bool, why: Refusal) -> SidePart
     ensures { λ r. ⌜ sidePart r ≡ noPart (number why) ⌝ }
+    ensures mark { λ r. ⌜ r .run .cases ≡ cases ⌝ }
 {
     SidePart {
         verdict: Verdict::Refused(why),
-        run: runs::blank_side(false),
+        run: runs::blank_side(cases),
     }
 }

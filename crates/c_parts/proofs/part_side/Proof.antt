@@ -23,7 +23,7 @@ promised : (x : tie.After-part)
     → (let a = start x .args in Part (sideOf (a .cases)) (valueAt (sideWord (a .cases)) (a .run .now)) (a .number) (sidePart (x .part .result)))
 promised x =
     part-at (start x .args .run .now) (x .before .side-run-at .ensures .1) (x .before .side-run-at .ensures .0) (x .part .ensures .0)
-    (x .part .ensures .1)
+    (x .part .ensures .1 .0)
 
 returns : tie.Need-returns
 returns c = part-of _ (side-start (c .before .before .before .args .cases)) (gives-short _ (inl (c .if1 .taken)))

@@ -9,7 +9,7 @@ returns : tie.Need-returns
 returns c =
     let k = c .before .before in
     let f = k .before .of-gauges .ensures in
-    part-at-side (f .0) (f .1) (sym (c .to-gauges .ensures)) (k .part .ensures)
+    part-at-side (f .0) (f .1) (sym (c .to-gauges .ensures)) (k .part .ensures .0, k .part .ensures .1 .0)
 
 pub gauge-part-spec : {M : Type 1} → statement M
 gauge-part-spec = tie.close (tie.spec (λ c κs. search needs) (λ c κs. search needs) (λ c κs. search needs) returns)

@@ -41,10 +41,10 @@ returns c =
     let s = k .before in
     let x = c .before .before .checked .given in
     let u = sideValue (c .no-part .result .run) in (
-      subst (PartAt (side s) (value s) (s .args .g)) (sym (c .no-part .ensures))
+      subst (PartAt (side s) (value s) (s .args .g)) (sym (c .no-part .ensures .0))
           (part-refused (side s) (value s) (s .args .g) _ (number-pos (x .0 .0))
           (subst (ChecksAt (side s) (value s) Down) (ap verdict (x .1)) (k .check-down .ensures))),
-      lists-part (side s) u (side-started (s .args .p .cases) u (blank-rows c) (blank-order c)),
+      (lists-part (side s) u (side-started (s .args .p .cases) u (blank-rows c) (blank-order c)), c .no-part .ensures .1),
     )
 
 enum-told : tie.Need-enum-told
@@ -58,8 +58,8 @@ returns-2 c =
     let u = sideValue (c .try-pick .result .run) in (
       part-given (side s) (value s) (s .args .g)
           (subst (ChecksAt (side s) (value s) Down) (ap verdict (e .enum-told .given .1)) (k .check-down .ensures))
-          (sidePart (c .try-pick .result)) (c .try-pick .ensures),
-      lists-part (side s) u (side-started (s .args .p .cases) u (rows-length c) (order-length c)),
+          (sidePart (c .try-pick .result)) (c .try-pick .ensures .0),
+      (lists-part (side s) u (side-started (s .args .p .cases) u (rows-length c) (order-length c)), c .try-pick .ensures .1),
     )
 
 pub part-spec : {M : Type 1} → statement M

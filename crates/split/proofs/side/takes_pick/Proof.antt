@@ -41,14 +41,14 @@ returns : tie.Need-returns
 returns c =
     let k = c .before .before in
     let s = k .before in
-    takes-yes (side s) (value s) (starts s) (few s) (s .args .g) (sidePart (k .try-pick .result)) (k .try-pick .ensures)
+    takes-yes (side s) (value s) (starts s) (few s) (s .args .g) (sidePart (k .try-pick .result)) (k .try-pick .ensures .0)
     (ap verdict (c .enum-told .given .1))
 
 returns-2 : tie.Need-returns-2
 returns-2 c =
     let k = c .before .before in
     let s = k .before in
-    takes-no (side s) (value s) (starts s) (few s) (s .args .g) (sidePart (k .try-pick .result)) (k .try-pick .ensures)
+    takes-no (side s) (value s) (starts s) (few s) (s .args .g) (sidePart (k .try-pick .result)) (k .try-pick .ensures .0)
     (refused-pos _ _ (c .enum-told2 .given .1))
 
 pub takes-pick-spec : {M : Type 1} → statement M

@@ -46,8 +46,8 @@ refusal c = c .before .before .before .before
 
 -- a refusal is the right answer
 refused : (c : tie.After-no-part) → (let s = start c in TriedAt (side s) (value s) (s .args .g) (noPart 15))
-    → (let s = start c in TriedAt (side s) (value s) (s .args .g) (sidePart (c .no-part .result)))
-refused c t = let s = start c in subst (TriedAt (side s) (value s) (s .args .g)) (sym (c .no-part .ensures)) t
+    → (let s = start c in TriedAt (side s) (value s) (s .args .g) (sidePart (c .no-part .result)) × (c .no-part .result .run .cases ≡ s .args .p .cases))
+refused c t = let s = start c in (subst (TriedAt (side s) (value s) (s .args .g)) (sym (c .no-part .ensures .0)) t, c .no-part .ensures .1)
 
 checks : (c : tie.After-check-down)
     → (let s = start (refusal c) in ChecksAt (side s) (oneMore (value s) (s .args .g)) Down (verdict (c .check-down .result)))
@@ -78,9 +78,11 @@ returns-3 c =
 returns-4 : tie.Need-returns-4
 returns-4 c =
     let k = c .before .before in
-    let s = start (refusal k) in
-    is-taken (side s) (value s) (starts s) (few s) (s .args .g) (k .before .before .before .if1 .left) _ (checks k) (ap verdict (c .enum-told2 .given .1))
-    (sideValue (k .before .one-more .result)) (k .before .one-more .ensures .0)
+    let s = start (refusal k) in (
+      is-taken (side s) (value s) (starts s) (few s) (s .args .g) (k .before .before .before .if1 .left) _ (checks k) (ap verdict (c .enum-told2 .given .1))
+          (sideValue (k .before .one-more .result)) (k .before .one-more .ensures .0),
+      k .before .one-more .ensures .1,
+    )
 
 pub try-pick-spec : {M : Type 1} → statement M
 try-pick-spec =
