@@ -279,8 +279,10 @@ uint64_t rg_sequence_cases(const uint64_t *table, size_t table_length, const uin
                            const uint64_t *ladder, size_t ladder_length, uint64_t *numbers, size_t numbers_length);
 
 /* PARTS OF A LIST: a RUN in phase RG_DOWN is a part, that of the ladders whose pick sequence begins with its picks; a fresh one is the whole list. Run
- * calls from it hand these ladders out; the first ladder whose sequence begins otherwise, or RG_END, closes the part and is not of it. The parts of its
- * candidates, one after the other, are the part. */
+ * calls from it hand these ladders out. The part is closed, and nothing of it comes later, by the first ladder whose sequence begins otherwise, which is not
+ * of it; by RG_END; and by RG_SPENT where the first RG_RUN_COUNT of the RUN's picks no longer begin with the part's, which a run that omits comes to long
+ * before its next ladder. As long as they do begin so, every ladder handed out so far is of the part, those of batches too. The parts of its candidates,
+ * one after the other, are the part. */
 
 /* The gauges that a gauge run can pick next, each of which makes a part of this one. Where there is none the part has one ladder.
  * Reads run: RUN. Writes numbers: NUMBERS, the candidates in the order of the run's preference.

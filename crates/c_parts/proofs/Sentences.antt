@@ -18,10 +18,11 @@ use Rattle.rules.specs.Machine.{Down, at}
 use Rattle.lists.specs.Lists.{Side}
 use Rattle.parts.specs.Parts.{PartList, PartLists, joined, splitAt}
 use Rattle.runs.specs.Paused.{Value, paused}
-use Rattle.runs.specs.Calling.{Step, held, valueRefusal, PausedAt}
+use Rattle.runs.specs.Calling.{Step, held, valueRefusal, PausedAt, lastValue}
+use Rattle.runs.specs.Demand.{handedSets}
 use Rattle.runs.specs.Omitting.{CallsEither}
 use Rattle.split.specs.Entries.{nextPicks, noPicks, noPart, Divides}
-use Rattle.split.specs.Listing.{partSets, isClosed, handedOver, PartRun}
+use Rattle.split.specs.Listing.{isInPart, partSets, isClosed, handedOver, PartRun}
 use Rattle.run_words.specs.Values.{valueAt}
 use Rattle.c_runs.specs.Calls.{Seen, WordCalls, stepsRead}
 use Rattle.c_parts.specs.Serving.{Candidates, GivesCandidates, Part, GivesPart}
@@ -33,9 +34,10 @@ HandsPart side v p rs =
     (list : List (List ℕ)) × PartList (v .table) (side (v .table)) (held side v) p list
     × ((rest : List (List ℕ)) × (partSets v rs ++ rest ≡ handedOver (v .table) (v .omit) list))
     × (isClosed v rs ≡ true → partSets v rs ≡ handedOver (v .table) (v .omit) list)
+    × (isInPart v (lastValue v rs) ≡ true → partSets v rs ≡ handedSets rs)
 
 hands-part : (side : Table → Side) (v : Value) (p : List ℕ) (rs : List Step) → PartRun side v p rs → HandsPart side v p rs
-hands-part side v p rs h = (h .list, h .listed, h .front, h .complete)
+hands-part side v p rs h = (h .list, h .listed, h .front, h .complete, h .inside)
 
 module _ (side : Table → Side) (v : Value) where
   abbrev t : Table

@@ -81,12 +81,21 @@ made bs = callsIn (gaugeSide k2) (plain 3) (0 ∷ []) bs
 abbrev mine : List ℕ → Bool
 mine = isOf (gaugeSide k2) (plain 3) (0 ∷ [])
 
-pub k2-closed : (isOver mine (made (7 ∷ 7 ∷ 7 ∷ [])) ≡ true) × (ofPart mine (made (7 ∷ 7 ∷ 7 ∷ [])) ≡ first)
+abbrev inside : List ℕ → Bool
+inside = startsWith (0 ∷ [])
+
+pub k2-closed : (isOver mine inside (made (7 ∷ 7 ∷ 7 ∷ [])) ≡ true) × (ofPart mine (made (7 ∷ 7 ∷ 7 ∷ [])) ≡ first)
 unfolding callBy candidatesBy chosen candidateBy rulesOutBy common isIn isProperSubset isSubset meet allBelow tabulate placeOf chainOf chainRow startsWith
     pickSeqBy takeBy bestIn bestFrom score ones onesIn
 k2-closed = (refl, refl)
 
-pub k2-open : (isOver mine (made (7 ∷ 7 ∷ [])) ≡ false) × (ofPart mine (made (1 ∷ 7 ∷ [])) ≡ pairs ((2 ∷ 3 ∷ []) ∷ (3 ∷ []) ∷ [] ∷ []) ∷ [])
+pub k2-open : (isOver mine inside (made (7 ∷ 7 ∷ [])) ≡ false) × (ofPart mine (made (1 ∷ 7 ∷ [])) ≡ pairs ((2 ∷ 3 ∷ []) ∷ (3 ∷ []) ∷ [] ∷ []) ∷ [])
 unfolding callBy candidatesBy chosen candidateBy rulesOutBy common isIn isProperSubset isSubset meet allBelow tabulate placeOf chainOf chainRow startsWith
     pickSeqBy takeBy bestIn bestFrom score ones onesIn
 k2-open = (refl, refl)
+
+-- two moves after its last hand-out the run has left the part, and a spent call closes it; one move does not
+pub k2-left : (isOver mine inside (made (7 ∷ 7 ∷ 2 ∷ [])) ≡ true) × (isOver mine inside (made (7 ∷ 7 ∷ 1 ∷ [])) ≡ false)
+unfolding callBy candidatesBy chosen candidateBy rulesOutBy common isIn isProperSubset isSubset meet allBelow tabulate placeOf chainOf chainRow startsWith
+    pickSeqBy takeBy bestIn bestFrom score ones onesIn
+k2-left = (refl, refl)

@@ -2,6 +2,7 @@
 pub mod Prefixes
 pub mod Joining
 pub mod BelowLeaves
+pub mod Leaving
 pub mod Places
 pub mod Splitting
 pub mod Listing

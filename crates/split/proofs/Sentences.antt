@@ -1,19 +1,24 @@
 -- What a reader finds in the promises about parts, sentence by sentence. Of a part (`Divides`): it is a part by itself (`part-itself`); the parts of its
 -- candidates may stand in its place, and their lists, one after the other, are then still the list (`part-replaced`, `candidates-join`); what the runs of
 -- parts of the whole list hand over, one after the other, is what a run of the whole list does (`whole-joins`). Of the run calls from a part (`PartRun`): what
--- they hand out of it is a front of its list, and all of it once it is closed (`part-handed`).
-use mathlib.Core.Path.{_≡_, ap, _∙_}
-use mathlib.Core.Bool.{Bool, true}
+-- they hand out of it is a front of its list, and all of it once it is closed (`part-handed`); a call that is spent where the run's picks have left the
+-- part's closes it (`left-closes`), and nothing of the part comes later (`nothing-later`); until then every ladder is of the part (`inside-handed`).
+use mathlib.Core.Path.{_≡_, refl, sym, ap, _∙_}
+use mathlib.Core.Bool.{Bool, true, false, _||_}
 use mathlib.Core.List.{List, [], _∷_, _++_, map}
 use Prim.Native.Nat.{ℕ}
+use Rattle.basics.proofs.Clash.{clash}
 use Rattle.table.specs.declared.Table.{Table}
 use Rattle.lists.specs.Lists.{Side, PreferredList}
 use Rattle.lists.proofs.Listed.{list-unique}
 use Rattle.parts.specs.Parts.{PartList, Splits, PartLists, joined, splitAt}
+use Rattle.parts.specs.Calls.{closes}
 use Rattle.parts.proofs.Joining.{part-unique}
 use Rattle.runs.specs.Paused.{Value}
-use Rattle.runs.specs.Calling.{Step, held}
-use Rattle.split.specs.Listing.{partSets, isClosed, handedOver, PartRun}
+use Rattle.rules.specs.Calls.{spent}
+use Rattle.runs.specs.Calling.{Step, held, lastValue}
+use Rattle.runs.specs.Demand.{handedSets}
+use Rattle.split.specs.Listing.{isOfPart, isInPart, partSets, isClosed, handedOver, PartRun}
 use Rattle.split.specs.Entries.{Divides}
 
 -- ---- a part, and the parts of its candidates
@@ -48,3 +53,28 @@ part-handed side v p rs r xs l = ((r .front .0, r .front .1 ∙ over), λ c. r .
   where
     over : handedOver (v .table) (v .omit) (r .list) ≡ handedOver (v .table) (v .omit) xs
     over = ap (handedOver (v .table) (v .omit)) (part-unique (v .table) (side (v .table)) (held side v) p (r .list) xs (r .listed) l)
+
+-- while the run's picks start with the part's, every ladder that was handed out is of the part
+pub inside-handed : (side : Table → Side) (v : Value) (p : List ℕ) (rs : List Step) → PartRun side v p rs → isInPart v (lastValue v rs) ≡ true
+    → partSets v rs ≡ handedSets rs
+inside-handed side v p rs r i = r .inside i
+
+-- where they no longer do, the part is closed, also by a call that handed nothing over
+pub left-closes : (v : Value) (r : Step) (rs : List Step) → r .answer ≡ spent → isInPart v (r .next) ≡ false → isClosed v (r ∷ rs) ≡ true
+left-closes v r rs e d = rw (e, d)
+
+closed-more : (v : Value) (rs qs : List Step) → isClosed v rs ≡ true → isClosed v (rs ++ qs) ≡ true
+closed-more v [] qs e = clash cc
+closed-more v (r ∷ rs) qs e = go (closes (r .answer) (isOfPart v r) (isInPart v (r .next))) (closed-more v rs qs) e
+  where
+    go : (b : Bool) → (isClosed v rs ≡ true → isClosed v (rs ++ qs) ≡ true) → (b || isClosed v rs) ≡ true → (b || isClosed v (rs ++ qs)) ≡ true
+    go true on e = refl
+    go false on e = on e
+
+-- and what later calls hand out is not of it
+pub nothing-later : (side : Table → Side) (v : Value) (p : List ℕ) (rs qs : List Step) → PartRun side v p rs → PartRun side v p (rs ++ qs)
+    → isClosed v rs ≡ true → partSets v (rs ++ qs) ≡ partSets v rs
+nothing-later side v p rs qs a b e =
+    b .complete (closed-more v rs qs e)
+    ∙ ap (handedOver (v .table) (v .omit)) (part-unique (v .table) (side (v .table)) (held side v) p (b .list) (a .list) (b .listed) (a .listed))
+    ∙ sym (a .complete e)
