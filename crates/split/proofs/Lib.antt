@@ -1,5 +1,6 @@
 -- Laws that belong to no one function.
 pub mod PartRuns
+pub mod Batches
 pub mod Trying
 pub mod Finding
 pub mod Answers
