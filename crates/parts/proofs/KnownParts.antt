@@ -1,9 +1,9 @@
 -- A known example: K2 of 01, whose six ladders have the picks (1,2) (1,3) (2,1) (2,3) (3,1) (3,2), is split at its first picks into three parts of two
 -- ladders each, by indices 0, 1 and 2 (`k2-split`, `k2-parts`), and these lists, one after the other, are its gauge list (`k2-joined`). Split once more it
 -- has six parts of one ladder (`k2-split-again`), and then splitting changes nothing (`k2-split-whole`). Calls that list the first part: two leave it open,
--- the third closes it (`k2-open`, `k2-closed`).
+-- the third closes it (`k2-open`, `k2-closed`), and so does one that is spent two moves later (`k2-left`).
 --
--- Pins, which nothing else cites: `k2-split-again`, `k2-split-whole`, `k2-closed`, `k2-open`.
+-- Pins, which nothing else cites: `k2-split-again`, `k2-split-whole`, `k2-closed`, `k2-open`, `k2-left`.
 use mathlib.Core.Path.{_≡_, refl, subst}
 use mathlib.Core.Bool.{Bool, true, false}
 use mathlib.Core.List.{List, [], _∷_, _++_}

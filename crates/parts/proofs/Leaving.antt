@@ -14,7 +14,7 @@ use Rattle.basics.proofs.Clash.{clash}
 use Rattle.rules.specs.Sequences.{All}
 use Rattle.rules.specs.Machine.{Down, Handed, Back, Ended, Phase, State, at, Cut, empty, cut, cutLast, takeBack, down, back, Given, nothing, hands, ends, Move}
 use Rattle.rules.specs.ByNumber.{above, step, move}
-use Rattle.rules.specs.Calls.{Reply, refused, spent, handed, end, Call, result, mostBudget, proceedBy, carryBy, callBy}
+use Rattle.rules.specs.Calls.{Reply, refused, handed, Call, result, mostBudget, proceedBy, carryBy, callBy}
 use Rattle.rules.specs.Keeping.{taken, moveKeeping}
 use Rattle.rules.specs.private.Fitting.{Valid, Fits}
 use Rattle.rules.proofs.Sequences.{All-get}
