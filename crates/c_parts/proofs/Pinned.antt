@@ -25,6 +25,7 @@ use Rattle.split.specs.Listing.{isClosed, PartRun}
 use Rattle.split.proofs.Answers.{splits-value}
 use Rattle.split.proofs.Readings.{candidates-unique, part-unique}
 use Rattle.split.proofs.PartRuns.{part-closed, lists-part}
+use Rattle.split.proofs.Whole.{lists-whole}
 use Rattle.words.proofs.Serving.{long-two}
 use Rattle.words.proofs.Answers.{short-dec, or-dec, gives-is, gives-exists, gives-unique}
 use Rattle.run_words.specs.Values.{valueAt}
@@ -34,7 +35,8 @@ use Rattle.c_runs.proofs.WordCalls.{word-calls}
 use Rattle.c_runs.proofs.Pinned.{Lent, lents, word-calls-exist}
 use Rattle.c_parts.specs.Serving.{ListsPartWords, Candidates, GivesCandidates, Part, GivesPart}
 use Rattle.c_parts.proofs.Deciding.{Chosen, found, found-at, candidates-exist, more, more-reached, chosen-part, chosen-or-refused}
-use Rattle.c_parts.proofs.Contracts.{read-starts, Back, part-back, candidates-of, part-of}
+use Rattle.c_parts.proofs.Reading.{read-starts, Back, part-back}
+use Rattle.c_parts.proofs.Contracts.{candidates-of, part-of}
 
 module _ (side : Table → Side) (n : ℕ) (w : List ℕ) where
   abbrev v : Value
@@ -53,7 +55,8 @@ module _ (side : Table → Side) (n : ℕ) (w : List ℕ) where
     candidates-words-exist all =
         let starts = read-starts side all n w in
         let (a, c) = candidates-exist side v starts in
-        let promise : Candidates side v a = record { candidates = c; splits = splits-value side v starts; lists = lists-part side v starts } in
+        let promise : Candidates side v a =
+        record { candidates = c; splits = splits-value side v starts; lists = lists-part side v starts; whole = lists-whole side v starts } in
         let (out′, r, g) = gives-exists out shortNumbers a promise in
         (out′, r, candidates-of side all g)
 
@@ -139,6 +142,7 @@ module _ (side : Table → Side) (all : Startable side) (n : ℕ) (w : List ℕ)
           candidates = found-at side (valueAt n w) (h .passes) p (h .stands);
           splits = splits-value side (valueAt n w) starts;
           lists = lists-part side (valueAt n w) starts;
+          whole = lists-whole side (valueAt n w) starts;
         })
         out′ r (g .gives)
 

@@ -7,5 +7,6 @@ pub mod Places
 pub mod Splitting
 pub mod Listing
 pub mod Closing
+pub mod Ends
 pub mod PartCalls
 pub mod KnownParts

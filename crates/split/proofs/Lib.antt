@@ -4,5 +4,7 @@ pub mod Batches
 pub mod Trying
 pub mod Finding
 pub mod Answers
+pub mod Whole
+pub mod Choices
 pub mod Readings
 pub mod Sentences

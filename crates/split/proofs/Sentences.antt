@@ -1,25 +1,30 @@
 -- What a reader finds in the promises about parts, sentence by sentence. Of a part (`Divides`): it is a part by itself (`part-itself`); the parts of its
 -- candidates may stand in its place, and their lists, one after the other, are then still the list (`part-replaced`, `candidates-join`); what the runs of
 -- parts of the whole list hand over, one after the other, is what a run of the whole list does (`whole-joins`). Of the run calls from a part (`PartRun`): what
--- they hand out of it is a front of its list, and all of it once it is closed (`part-handed`); a call that is spent where the run's picks have left the
--- part's closes it (`left-closes`), and nothing of the part comes later (`nothing-later`); until then every ladder is of the part (`inside-handed`).
+-- they hand out of it is a front of its list, and all of it once it is closed (`part-handed`, `closed-handed`); a call that is spent where the run's picks
+-- have left the part's closes it (`left-closes`), and nothing of the part comes later (`nothing-later`); until then every ladder is of the part
+-- (`inside-handed`). Of any choice of parts in place of a part, each run to its close (`WholeRun`): what they hand out, one after the other, is what a run
+-- hands over of the part's list (`whole-handed`), which from a fresh start is the whole list (`whole-list`, `fresh-whole`).
 use mathlib.Core.Path.{_≡_, refl, sym, ap, _∙_}
 use mathlib.Core.Bool.{Bool, true, false, _||_}
 use mathlib.Core.List.{List, [], _∷_, _++_, map}
 use Prim.Native.Nat.{ℕ}
 use Rattle.basics.proofs.Clash.{clash}
 use Rattle.table.specs.declared.Table.{Table}
+use Rattle.rules.specs.Machine.{Down, at, fresh}
 use Rattle.lists.specs.Lists.{Side, PreferredList}
 use Rattle.lists.proofs.Listed.{list-unique}
+use Rattle.preference.specs.Preferences.{preferredRefusal}
 use Rattle.parts.specs.Parts.{PartList, Splits, PartLists, joined, splitAt}
 use Rattle.parts.specs.Calls.{closes}
 use Rattle.parts.proofs.Joining.{part-unique}
-use Rattle.runs.specs.Paused.{Value}
+use Rattle.runs.specs.Paused.{Value, paused}
 use Rattle.rules.specs.Calls.{spent}
-use Rattle.runs.specs.Calling.{Step, held, lastValue}
+use Rattle.runs.specs.Calling.{Step, arrangement, held, valueRefusal, PausedAt, lastValue}
 use Rattle.runs.specs.Demand.{handedSets}
-use Rattle.split.specs.Listing.{isOfPart, isInPart, partSets, isClosed, handedOver, PartRun}
+use Rattle.split.specs.Listing.{isOfPart, isInPart, partSets, isClosed, handedOver, PartRun, ListsPart}
 use Rattle.split.specs.Entries.{Divides}
+use Rattle.split.specs.Whole.{Choice, ClosedRun, EachClosed, setsOfAll, WholeRun, ListsWhole}
 
 -- ---- a part, and the parts of its candidates
 pub part-itself : (t : Table) (s : Side) (o p : List ℕ) → Divides t s o p → Splits t s o p (p ∷ [])
@@ -78,3 +83,30 @@ nothing-later side v p rs qs a b e =
     b .complete (closed-more v rs qs e)
     ∙ ap (handedOver (v .table) (v .omit)) (part-unique (v .table) (side (v .table)) (held side v) p (b .list) (a .list) (b .listed) (a .listed))
     ∙ sym (a .complete e)
+
+-- a run of it that is closed
+pub closed-handed : (side : Table → Side) (v : Value) → ListsPart side v → valueRefusal side v ≡ 0 → (p : List ℕ) → PausedAt side v (at p Down)
+    → (rs : List Step) → ClosedRun side v rs → (xs : List (List ℕ)) → PartList (v .table) (side (v .table)) (held side v) p xs
+    → partSets v rs ≡ handedOver (v .table) (v .omit) xs
+closed-handed side v lists ok p h rs c xs l = part-handed side v p rs (lists ok p h (c .budgets) rs (c .calls)) xs l .1 (c .closed)
+
+-- ---- any choice of parts, each run to its close, where the list is xs
+module _ (side : Table → Side) (v : Value) (vs : List Value) (rss : List (List Step)) where
+  pub whole-handed : (p : List ℕ) → WholeRun side v p vs rss → (xs : List (List ℕ)) → PartList (v .table) (side (v .table)) (held side v) p xs
+      → setsOfAll vs rss ≡ handedOver (v .table) (v .omit) xs
+  whole-handed p r xs l =
+      r .handed
+      ∙ ap (handedOver (v .table) (v .omit)) (part-unique (v .table) (side (v .table)) (held side v) p (r .list) xs (r .listed) l)
+
+  pub whole-list : WholeRun side v [] vs rss → (xs : List (List ℕ)) → PreferredList (v .table) (side (v .table)) (held side v) xs
+      → setsOfAll vs rss ≡ handedOver (v .table) (v .omit) xs
+  whole-list r xs l = r .handed ∙ ap (handedOver (v .table) (v .omit)) (list-unique (r .list) xs (r .whole refl) l)
+
+-- from the fresh start of a table t with the preference in k
+pub fresh-whole : (side : Table → Side) (t : Table) (k : List ℕ) (omit : Bool) → ListsWhole side (paused t k omit fresh)
+    → preferredRefusal t (side t .count) k ≡ 0 → (vs : List Value) → Choice side (paused t k omit fresh) vs
+    → (rss : List (List Step)) → EachClosed side vs rss
+    → (xs : List (List ℕ)) → PreferredList t (side t) (arrangement (side t) k) xs → setsOfAll vs rss ≡ handedOver t omit xs
+fresh-whole side t k omit whole ok vs c rss e xs l =
+    whole-list side (paused t k omit fresh) vs rss
+    (whole ok [] (record { reached = record { count = 0; leads = refl }; stands = refl }) vs c rss e) xs l

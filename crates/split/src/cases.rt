@@ -9,6 +9,7 @@ ghost use Rattle.lists.specs.Lists.{caseSide};
 ghost use Rattle.runs.specs.Paused.{caseValue};
 ghost use Rattle.split.specs.Entries.{CandidatesAt, PartAt, SplitsAt, caseCandidates, casePart};
 ghost use Rattle.split.specs.Listing.{ListsPart};
+ghost use Rattle.split.specs.Whole.{ListsWhole};
 
 // The cases that can be picked next, by number in the order of the value's preference, zeros behind them; or a refusal.
 pub struct CaseCandidates {
@@ -23,11 +24,13 @@ pub struct CasePart {
 }
 
 // The candidates after the picks of `p`, whose phase is Down: each names one of the parts that `p` is split into; where there is none, `p` has one ladder
-// and is not split. The lists of these parts are, one after the other, the list of `p`, and run calls from `p` hand that out.
+// and is not split. The lists of these parts are, one after the other, the list of `p`, and run calls from `p` hand that out. So they do where parts are split
+// on, as often as one likes: what run calls hand out of the parts that are left, each run to its close, is the list of `p`, one part after the other.
 pub fn case_candidates(p: CaseRun) -> CaseCandidates
     ensures { λ r. ⌜ CandidatesAt caseSide (caseValue p) (caseCandidates r) ⌝ }
     ensures splits { λ r. ⌜ SplitsAt caseSide (caseValue p) ⌝ }
     ensures lists { λ r. ⌜ ListsPart caseSide (caseValue p) ⌝ }
+    ensures whole { λ r. ⌜ ListsWhole caseSide (caseValue p) ⌝ }
 {
     let found = side::candidates(runs::of_cases(p));
     let verdict = found.verdict;

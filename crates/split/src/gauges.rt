@@ -9,6 +9,7 @@ ghost use Rattle.lists.specs.Lists.{gaugeSide};
 ghost use Rattle.runs.specs.Paused.{gaugeValue};
 ghost use Rattle.split.specs.Entries.{CandidatesAt, PartAt, SplitsAt, gaugeCandidates, gaugePart};
 ghost use Rattle.split.specs.Listing.{ListsPart};
+ghost use Rattle.split.specs.Whole.{ListsWhole};
 
 // The gauges that can be picked next, by number in the order of the value's preference, zeros behind them; or a refusal.
 pub struct GaugeCandidates {
@@ -23,11 +24,13 @@ pub struct GaugePart {
 }
 
 // The candidates after the picks of `p`, whose phase is Down: each names one of the parts that `p` is split into; where there is none, `p` has one ladder
-// and is not split. The lists of these parts are, one after the other, the list of `p`, and run calls from `p` hand that out.
+// and is not split. The lists of these parts are, one after the other, the list of `p`, and run calls from `p` hand that out. So they do where parts are split
+// on, as often as one likes: what run calls hand out of the parts that are left, each run to its close, is the list of `p`, one part after the other.
 pub fn gauge_candidates(p: GaugeRun) -> GaugeCandidates
     ensures { λ r. ⌜ CandidatesAt gaugeSide (gaugeValue p) (gaugeCandidates r) ⌝ }
     ensures splits { λ r. ⌜ SplitsAt gaugeSide (gaugeValue p) ⌝ }
     ensures lists { λ r. ⌜ ListsPart gaugeSide (gaugeValue p) ⌝ }
+    ensures whole { λ r. ⌜ ListsWhole gaugeSide (gaugeValue p) ⌝ }
 {
     let found = side::candidates(runs::of_gauges(p));
     let verdict = found.verdict;

@@ -12,6 +12,7 @@ ghost use Rattle.refusals.specs.Answers.{number};
 ghost use Rattle.runs.specs.Sides.{sideOf, sideValue};
 ghost use Rattle.split.specs.Entries.{CandidatesAt, PartAt, SplitsAt, noPart, sideCandidates, sidePart};
 ghost use Rattle.split.specs.Listing.{ListsPart};
+ghost use Rattle.split.specs.Whole.{ListsWhole};
 ghost use Rattle.split.specs.private.Trying.{oneMore, TriedAt, TakesAt, FoundAt};
 
 // How many picks a value has room for.
@@ -36,6 +37,7 @@ pub fn candidates(p: SideRun) -> SideCandidates
     ensures { λ r. ⌜ CandidatesAt (sideOf (p .cases)) (sideValue p) (sideCandidates r) ⌝ }
     ensures splits { λ r. ⌜ SplitsAt (sideOf (p .cases)) (sideValue p) ⌝ }
     ensures lists { λ r. ⌜ ListsPart (sideOf (p .cases)) (sideValue p) ⌝ }
+    ensures whole { λ r. ⌜ ListsWhole (sideOf (p .cases)) (sideValue p) ⌝ }
 {
     let checked = runs::check_down(p);
     if let Verdict::Refused(why) = checked {

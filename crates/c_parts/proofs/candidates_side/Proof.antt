@@ -23,7 +23,7 @@ promised : (x : tie.After-candidates)
     → (let a = start x .args in Candidates (sideOf (a .cases)) (valueAt (sideWord (a .cases)) (a .run .now)) (sideCandidates (x .candidates .result)))
 promised x =
     candidates-at (start x .args .run .now) (x .before .side-run-at .ensures .1) (x .before .side-run-at .ensures .0) (x .candidates .ensures .0)
-    (x .candidates .ensures .1 .0) (x .candidates .ensures .1 .1)
+    (x .candidates .ensures .1 .0) (x .candidates .ensures .1 .1 .0) (x .candidates .ensures .1 .1 .1)
 
 returns : tie.Need-returns
 returns c = candidates-of _ (side-start (c .before .before .before .args .cases)) (gives-short _ (inl (c .if1 .taken)))

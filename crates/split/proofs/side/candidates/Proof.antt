@@ -1,5 +1,6 @@
 -- `split::side::candidates` meets its contract: a refusal of the checks (`candidates-refused`), or the candidates found (`candidates-given`); with each
--- goes what splitting is good for (`splits-value`), and that run calls list the part (`lists-part`).
+-- goes what splitting is good for (`splits-value`), that run calls list the part (`lists-part`), and that they list it by any choice of parts
+-- (`lists-whole`).
 use mathlib.Core.Path.{_≡_, refl, ap, subst}
 use borrow.Author.Needs.{needs}
 use lib.ListN.{length}
@@ -13,8 +14,10 @@ use Rattle.runs.specs.Sides.{sideOf, sideValue, ChecksAt}
 use Rattle.runs.proofs.Marked.{side-started}
 use Rattle.split.specs.Entries.{SplitsAt}
 use Rattle.split.specs.Listing.{ListsPart}
+use Rattle.split.specs.Whole.{ListsWhole}
 use Rattle.split.proofs.Answers.{candidates-refused, candidates-given, splits-value}
 use Rattle.split.proofs.PartRuns.{lists-part}
+use Rattle.split.proofs.Whole.{lists-whole}
 use Rattle.split.proofs.side.candidates.Statement.{statement}
 use Rattle.split.proofs.side.candidates.Tie as tie
 
@@ -30,9 +33,9 @@ rows-length s = search needs
 order-length : (s : tie.Start) → length (s .args .p .order) ≡ 64
 order-length s = search needs
 
-promises : (s : tie.Start) → SplitsAt (side s) (value s) × ListsPart (side s) (value s)
+promises : (s : tie.Start) → SplitsAt (side s) (value s) × (ListsPart (side s) (value s) × ListsWhole (side s) (value s))
 promises s = let starts = side-started (s .args .p .cases) (value s) (rows-length s) (order-length s) in
-    (splits-value (side s) (value s) starts, lists-part (side s) (value s) starts)
+    (splits-value (side s) (value s) starts, (lists-part (side s) (value s) starts, lists-whole (side s) (value s) starts))
 
 returns : tie.Need-returns
 returns c =
