@@ -2,8 +2,9 @@
 
 `answer(words, standard_input)` gives the exit status, what is written to standard output, the number of the refusal, if any, and the line of the file that
 it is about. In order: sets of pairs, ladders and lists; the file; words and options; the subcommands; lists that are checked; files of other programs. A
-ladder's pick sequence comes from the ladder alone, and the sequences that a run can come to are the beginnings of these, so that no candidate and no move
-is looked at here."""
+ladder's pick sequence comes from the ladder alone, and the sequences that a run can come to are the beginnings of these, so that no candidate is looked at
+here; where a budget stops a list, moves are counted by walking through these beginnings. `SAVED` has the name of the file that the last answer saves a run
+in, and what it then has, or none where it is not there."""
 
 import decimal
 import itertools
@@ -162,7 +163,7 @@ def write(table):
 
 RUNS = {"--by-cases", "--needed", "--prefer", "--cutoff"}
 COMMANDS = {  # arguments with the file, how many more, whether the first is a file, options
-    "list": (1, 0, True, RUNS | {"--budget", "--part", "--picks"}),
+    "list": (1, 0, True, RUNS | {"--budget", "--part", "--picks", "--save", "--resume"}),
     "check": (1, 1, True, RUNS | {"--part", "--picks"}),
     "ladder": (1, 1, True, RUNS - {"--needed"}),
     "parts": (2, 0, True, RUNS),
@@ -183,7 +184,8 @@ COMMANDS = {  # arguments with the file, how many more, whether the first is a f
     "show": (1, 1, True, RUNS),
 }
 FLAGS = {"--by-cases", "--needed", "--picks"}
-VALUED = {"--prefer", "--cutoff", "--budget", "--part"}
+VALUED = {"--prefer", "--cutoff", "--budget", "--part", "--save", "--resume"}
+SAVED = {}
 
 
 def wanted(form, text):
@@ -280,12 +282,16 @@ def check_chain(table, chain):
 # --- the subcommands
 
 
-def checksum(table):
-    rows = [sum(1 << (c - 1) for (g, c) in table[2] if g == i) for i in range(1, 65)]
+def sum_of(data):
     total = 0xCBF29CE484222325
-    for byte in b"".join(word.to_bytes(8, "little") for word in [table[0], table[1]] + rows):
+    for byte in data:
         total = (total ^ byte) * 0x100000001B3 % 2**64
     return "%016x" % total
+
+
+def checksum(table):
+    rows = [sum(1 << (c - 1) for (g, c) in table[2] if g == i) for i in range(1, 65)]
+    return sum_of(b"".join(word.to_bytes(8, "little") for word in [table[0], table[1]] + rows))
 
 
 def part_of(line, table):
@@ -318,22 +324,116 @@ def asked(r):
     return table, [(p, s) for p, s in listing(table, by_cases, order, needed) if p[: len(picks)] == picks], by_cases, order, picks
 
 
-def listed(r):
-    """The same with a budget: sequences and ladders."""
-    table, entries = asked(r)[:2]
-    refuse_if(r.budget > BUDGET, 18)
-    if r.budget == 0:
-        raise Ends(4)
-    return table, entries
-
-
 def picks_line(p):
     return (",".join(map(str, p)) or "-") + "\n"
 
 
+class Listing:
+    """A list or part that is written: what its line says, where its run stands, and what was written so far."""
+
+    def __init__(self, r, line, table):
+        self.table, self.of_part, self.picks = table, "--part" in r.option, "--picks" in r.option
+        self.by_cases, self.order, self.needed, self.part = part_of(line, table)
+        self.line = "/".join([checksum(table), "cases" if self.by_cases else "gauges", "needed" if self.needed else "all",
+                              "plain" if line.split("/")[3] == "plain" else ",".join(map(str, self.order)), picks_line(self.part)[:-1]])
+        self.whole = listing(table, self.by_cases, self.order, False)
+        self.kept = dict(listing(table, self.by_cases, self.order, self.needed))
+        self.state, self.ladders, self.bytes, self.sum = ("down", self.part, 0), 0, 0, sum_of(b"")
+
+    def following(self, picks):
+        """The picks behind these, in the order of the run."""
+        return sorted({p[len(picks)] for p, _ in self.whole if p[: len(picks)] == picks and len(p) > len(picks)}, key=self.order.index)
+
+    def moved(self, state):
+        """The state after one more move: rules 1 to 5 of the manual."""
+        phase, picks, back = state
+        behind = self.following(picks)
+        if phase == "down":
+            return ("down", picks + (behind[0],), 0) if behind else ("handed", picks, 0)
+        later = behind[behind.index(back) + 1 :] if phase == "back" else []
+        if later:
+            return "down", picks + (later[0],), 0
+        return ("back", picks[:-1], picks[-1]) if picks and phase != "ended" else ("ended", (), 0)
+
+    def within(self):
+        return self.state[0] != "ended" and self.state[1][: len(self.part)] == self.part
+
+    def run(self, budget):
+        """What so many moves write; the moves that are left, none where the list is not at its end then."""
+        out = ""
+        while budget and self.within():
+            budget -= 1
+            self.state = self.moved(self.state)
+            if self.state[0] == "handed" and self.state[1] in self.kept:
+                ladder = self.kept[self.state[1]]
+                out += picks_line(self.state[1]) if self.picks else write((*self.table[:2], ladder))
+                self.ladders += 1
+        self.bytes += len(out)
+        return out, not self.within()
+
+    def text(self):
+        """What is saved of it."""
+        phase = self.state[0] + (" %d" % self.state[2] if self.state[0] == "back" else "")
+        head = "ragymolev run 1\npart %s\nof %s\nwrites %s\n" % (self.line, "part" if self.of_part else "list", "picks" if self.picks else "ladders")
+        text = head + "phase %s\npicks %sladders %d\nbytes %d\nsum %s\n" % (phase, picks_line(self.state[1]), self.ladders, self.bytes, self.sum)
+        return text + "check %s\n" % sum_of(text.encode())
+
+
+def add_sum(total, data):
+    total = int(total, 16)
+    for byte in data:
+        total = (total ^ byte) * 0x100000001B3 % 2**64
+    return "%016x" % total
+
+
+def resumed(r, table):
+    """The listing of a saved run; 15 for everything that is not as it was saved."""
+    data = r.bytes_of(r.option["--resume"])[:65537]
+    form = (rb"ragymolev run 1\npart ([^\n]*)\nof (part|list)\nwrites (ladders|picks)\nphase (down|handed|ended|back ([0-9]+))\npicks (-|[0-9,]+)\n"
+            rb"ladders ([0-9]+)\nbytes ([0-9]+)\nsum ([0-9a-f]{16})\ncheck ([0-9a-f]{16})\n")
+    fields = re.fullmatch(form, data)
+    refuse_if(not fields or fields[10].decode() != sum_of(data[: data.rindex(b"check ")]), 15)
+    picks = picks_in(fields[6].decode())
+    refuse_if(picks is None, 15)
+    try:
+        it = Listing(r, fields[1].decode("latin-1"), table)
+    except Ends as end:
+        raise Ends(3, 15 if end.number == 101 else end.number)
+    it.of_part, it.picks = fields[2] == b"part", fields[3] == b"picks"
+    it.state = fields[4].split()[0].decode(), picks, int(fields[5] or 0)
+    it.ladders, it.bytes, it.sum = int(fields[7]), int(fields[8]), fields[9].decode()
+    state, states = ("down", (), 0), []
+    while state not in states:
+        states.append(state)
+        state = it.moved(state)
+    refuse_if(it.text().encode() != data or it.ladders >= 2**64 or it.bytes >= 2**64 or it.state not in states or it.state[1][: len(it.part)] != it.part, 15)
+    return it
+
+
+def started(r):
+    """The listing that is asked for."""
+    given = {"--by-cases", "--needed", "--prefer", "--part", "--picks"} & set(r.option)
+    if r.option.get("--save") in ("", "-") or ("--resume" in r.option and given) or ("--part" in r.option and given - {"--part", "--picks"}):
+        raise Ends(2)
+    table = r.table()
+    if "--resume" in r.option:
+        return resumed(r, table)
+    order = ",".join(map(str, r.order(table[r.by_cases]))) if r.prefer else "plain"
+    whole = "/".join([checksum(table), "cases" if r.by_cases else "gauges", "needed" if r.needed else "all", order, "-"])
+    return Listing(r, r.option.get("--part", whole), table)
+
+
 def do_list(r):
-    table, entries = listed(r)
-    return "".join(picks_line(p) if "--picks" in r.option else write((table[0], table[1], s)) for p, s in entries)
+    it, save = started(r), r.option.get("--save")
+    if save and os.path.lexists(save) and not (os.path.isfile(r.option.get("--resume", "")) and os.path.samefile(save, r.option["--resume"])):
+        raise Ends(1)
+    out, complete = it.run(r.budget if "--budget" in r.option else 2**64)
+    it.sum = add_sum(it.sum, out.encode())
+    if save:
+        SAVED[save] = None if complete else it.text().encode()
+    if not complete:
+        raise Ends(4, None, None, out.encode())
+    return out + ("%% whole %s %s %d bytes %d sum %s\n" % (it.line, "picks" if it.picks else "ladders", it.ladders, it.bytes, it.sum) if it.of_part else "")
 
 
 def picks_in(text):
@@ -396,7 +496,10 @@ def of(n, what):
 
 def do_count(r):
     if "--part" in r.option:
-        return of(len(listed(r)[1]), "ladder") + "\n"
+        it = started(r)
+        if not it.run(r.budget if "--budget" in r.option else 2**64)[1]:
+            raise Ends(4)
+        return of(it.ladders, "ladder") + "\n"
     table = r.table()
     sequences = [p for p, _ in listing(table, False, r.order(table[0]), False)]
     refuse_if(r.budget > BUDGET, 18)
@@ -580,12 +683,18 @@ def entries_of(data, picks):
     lines = data.split(b"\n")
     if picks:
         return [(n, line.strip(b" \t\r")) for n, line in enumerate(lines, 1) if line.strip(b" \t\r") and not line.startswith(b"%")]
-    starts = [n for n, line in enumerate(lines) if re.match(rb"(\xef\xbb\xbf)?%%matrixmarket", line, re.IGNORECASE)]
-    ahead = next((n for n, line in enumerate(lines) if line.strip(b" \t\r")), len(lines))
-    if ahead < (starts[0] if starts else len(lines)):
-        starts.insert(0, ahead)
-    ends = starts[1:] + [len(lines)]
-    return [(start + 1, b"\n".join(lines[start:end]) + b"\n" * (end < len(lines))) for start, end in zip(starts, ends)]
+    whole = re.compile(rb"%[ \t]+whole[ \t]+[^ \t]+[ \t]+(ladders|picks)[ \t]+[0-9]+[ \t]+bytes[ \t]+[0-9]+[ \t]+sum[ \t]+[0-9a-f]{16}[ \t]*\r*")
+    entries, within = [], False
+    for n, line in enumerate(lines):
+        ended = line + b"\n" * (n + 1 < len(lines))
+        if whole.fullmatch(line):  # the last line of a part stands between entries
+            within = False
+        elif re.match(rb"(\xef\xbb\xbf)?%%matrixmarket", line, re.IGNORECASE) or (not within and line.strip(b" \t\r")):
+            entries.append([n + 1, ended])
+            within = True
+        elif within:
+            entries[-1][1] += ended
+    return [(n, text) for n, text in entries]
 
 
 def fault_of(table, chain, found):
@@ -743,6 +852,7 @@ def do_import(r):
 
 def answer(words, standard_input):
     """Exit status, standard output, number of the refusal, and its line."""
+    SAVED.clear()
     try:
         request = Request(words, standard_input)
         out = globals()["do_" + request.name](request)

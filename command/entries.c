@@ -125,9 +125,18 @@ static void take_piece(List *list, size_t length, Entry *entry) {
     pass(list, length);
 }
 
-/* Whether a piece stands between entries: a blank line ahead of the first file; among picks a blank line or a comment anywhere. */
+/* Whether a piece is the last line of a part's output. What it says of the part is not looked at here. A comment of a file is no such line, unless somebody
+ * made it one: then the file ends there, and is unreadable. */
+static bool is_whole(const List *list, size_t length) {
+    Text line = {(const char *)list->buffer + list->at, length};
+    Whole whole;
+    return !list->within && line.text[0] == '%' && read_whole(line, &whole);
+}
+
+/* Whether a piece stands between entries: the last line of a part, and a blank line ahead of the first file or behind such a line; among picks a blank line
+ * or a comment anywhere. */
 static bool is_between(const List *list, size_t length) {
-    if (!list->picks) return list->number == 0 && is_blank(list, length);
+    if (!list->picks) return is_blank(list, length) || is_whole(list, length);
     return is_blank(list, length) || (list->within ? list->comment : list->buffer[list->at] == '%');
 }
 
@@ -146,6 +155,6 @@ bool next_entry(List *list, Entry *entry) {
     do {
         take_piece(list, length, entry);
         length = piece(list);
-    } while (length && (list->within || (!list->picks && !begins_file(list, length))));
+    } while (length && (list->within || (!list->picks && !begins_file(list, length) && !is_whole(list, length))));
     return true;
 }

@@ -6,7 +6,7 @@
 #define OF_RUNS (SET(BY_CASES) | SET(NEEDED) | SET(PREFER) | SET(CUTOFF))
 
 static const Command commands[] = {
-    {"list", "[FILE]", 1, 0, true, OF_RUNS | SET(BUDGET) | SET(PART) | SET(PICKS), answer_list},
+    {"list", "[FILE]", 1, 0, true, OF_RUNS | SET(BUDGET) | SET(PART) | SET(PICKS) | SET(SAVE) | SET(RESUME), answer_list},
     {"ladder", "FILE [PICKS]", 1, 1, true, SET(BY_CASES) | SET(PREFER) | SET(CUTOFF), answer_ladder},
     {"check", "FILE [LIST]", 1, 1, true, OF_RUNS | SET(PART) | SET(PICKS), answer_check},
     {"parts", "[FILE] N", 2, 0, true, OF_RUNS, answer_parts},

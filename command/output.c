@@ -1,4 +1,4 @@
-/* What is written to standard output. A write that fails ends the command: nothing is left out silently. */
+/* What is written to standard output. A write that fails ends the command: nothing is left out silently. The output of a list is gathered in gather.c. */
 #define _POSIX_C_SOURCE 200809L /* isatty */
 #include "planner.h"
 #include <errno.h>
@@ -9,8 +9,8 @@
 #include <unistd.h>
 
 /* Nobody reads any more: what was asked for is given, and nothing is said. */
-_Noreturn static void write_failed(void) {
-    if (errno == EPIPE) _Exit(STATUS_FAILED);
+void write_failed(int error) {
+    if (error == EPIPE) _Exit(STATUS_FAILED);
     fputs("planner: writing failed, the output is not complete\n", stderr);
     _Exit(STATUS_FAILED);
 }
@@ -22,7 +22,7 @@ void start_output(void) {
 }
 
 void put(const void *bytes, size_t length) {
-    if (fwrite(bytes, 1, length, stdout) != length) write_failed();
+    if (!gather(bytes, length) && fwrite(bytes, 1, length, stdout) != length) write_failed(errno);
 }
 
 void put_text(const char *format, ...) {
@@ -30,7 +30,7 @@ void put_text(const char *format, ...) {
     va_start(values, format);
     int written = vfprintf(stdout, format, values);
     va_end(values);
-    if (written < 0) write_failed();
+    if (written < 0) write_failed(errno);
 }
 
 size_t file_of_table(const uint64_t *table, uint8_t *bytes) {
@@ -63,6 +63,8 @@ void put_chain(const uint64_t *chain, uint64_t cases) {
     put_table(table);
 }
 
+/* Some disks say only where a file is closed that they were full. An output that was never open had nothing to write. */
 void finish_output(void) {
-    if (fflush(stdout)) write_failed();
+    if (fflush(stdout)) write_failed(errno);
+    if (close(STDOUT_FILENO) && errno != EBADF) write_failed(errno);
 }

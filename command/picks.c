@@ -21,16 +21,21 @@ void accept_picks(const char *subject, uint64_t why) {
     accept(subject, why);
 }
 
-/* A line without printf: a list has as many of them as ladders. A number has two digits at most. */
-void put_picks(const uint64_t *picks) {
-    char line[3 * RG_NUMBERS_WORDS + 2];
+/* Without printf: a list has as many sequences as ladders. A number has two digits at most. The text has no end mark; its length. */
+size_t picks_text(const uint64_t *picks, char *text) {
     size_t length = 0;
     for (int i = 0; i < RG_NUMBERS_WORDS && picks[i]; i++) {
-        if (i) line[length++] = ',';
-        if (picks[i] > 9) line[length++] = (char)('0' + picks[i] / 10 % 10);
-        line[length++] = (char)('0' + picks[i] % 10);
+        if (i) text[length++] = ',';
+        if (picks[i] > 9) text[length++] = (char)('0' + picks[i] / 10 % 10);
+        text[length++] = (char)('0' + picks[i] % 10);
     }
-    if (!length) line[length++] = '-';
+    if (!length) text[length++] = '-';
+    return length;
+}
+
+void put_picks(const uint64_t *picks) {
+    char line[PICKS_TEXT + 1];
+    size_t length = picks_text(picks, line);
     line[length++] = '\n';
     put(line, length);
 }

@@ -3,7 +3,8 @@
  *
  * Here: what the files share, file by file. words.c has how the command ends and says so; request.c its words and options; numbers.c numbers, pairs and
  * preferences as they are typed; files.c what is read, output.c what is written; reasons.c and banner.c why a file was refused, witness.c why a set of
- * pairs; runs.c runs of either side; parts.c parts of a list and their lines; progress.c the line on a terminal; proposal.c the file of a trial; decimal.c
+ * pairs; runs.c runs of either side; parts.c parts of a list and their lines; gather.c the output of a list, round by round, stop.c what stops one and
+ * save.c the file that it is saved in; progress.c the line on a terminal; proposal.c the file of a trial; decimal.c
  * readings with a point. Of a list that is checked entries.c has the entries, entry.c what one is, course.c the run beside them, sorting.c their order.
  * The subcommands are in list.c (list, parts), picks.c (ladder), check.c, ask.c (count, judge, grow, rivals, cover, order), explain.c, show.c, trial.c
  * (trial, commit), tables.c (make, comments, convert, equal) and import.c; main.c has their table. */
@@ -30,7 +31,7 @@ typedef struct {
 } File;
 
 /* Options; a subcommand takes a set of them. */
-typedef enum { BY_CASES, NEEDED, PREFER, CUTOFF, BUDGET, PART, PICKS, OPTIONS } Option;
+typedef enum { BY_CASES, NEEDED, PREFER, CUTOFF, BUDGET, PART, PICKS, SAVE, RESUME, OPTIONS } Option;
 #define SET(option) (1u << (option))
 
 typedef struct Request Request;
@@ -109,6 +110,7 @@ void read_chain(const char *word, uint64_t *chain);
 const char *name_of(const char *word);
 
 /* output.c */
+_Noreturn void write_failed(int error);
 void start_output(void);
 void put(const void *bytes, size_t length);
 void put_text(const char *format, ...);
@@ -143,8 +145,23 @@ uint64_t try_part(const Run *fresh, const Part *part, Run *run);
 void part_value(const char *subject, const Run *fresh, const Part *part, Run *run);
 void candidates_of(const Run *run, uint64_t *numbers);
 bool starts_with(const uint64_t *picks, const Part *part);
+bool within_part(const Run *run, const Part *part);
 void put_part(const Request *request, const Run *fresh, const Part *part);
+uint64_t read_part(const char *line, const uint64_t *table, Part *part, Run *fresh);
 void start_part(const char *line, const uint64_t *table, Part *part, Run *run);
+bool line_prefers(const char *line);
+#define PART_LINE 512 /* bytes that are enough for the line of a part */
+void part_line(char *room, const Run *run, bool prefers, const Part *part);
+/* What the last line of a part's output says of it: the part's line; ladders, or picks; how many; the bytes ahead of it and their sum. */
+typedef struct {
+    Text line;
+    bool picks;
+    uint64_t ladders, bytes, sum;
+} Whole;
+bool read_whole(Text line, Whole *whole);
+bool read_sum(const char *text, size_t length, uint64_t *sum);
+#define EMPTY_SUM 0xcbf29ce484222325u
+uint64_t add_to_sum(uint64_t sum, const void *bytes, size_t length);
 
 /* entries.c: a list that some lister wrote. */
 typedef struct {
@@ -175,20 +192,49 @@ void close_list(List *list);
 
 /* picks.c: pick sequences as they are typed and written, and the ladder of one. */
 bool read_picks(const char *text, size_t length, Part *part);
+size_t picks_text(const uint64_t *picks, char *text);
+#define PICKS_TEXT (3 * RG_NUMBERS_WORDS)
 void accept_picks(const char *subject, uint64_t why);
 void put_picks(const uint64_t *picks);
 bool picks_of_entry(const Entry *entry, Part *part);
 uint64_t ladder_of_picks(const Run *fresh, const Part *part, Run *run);
 
+/* gather.c: the output of a list. */
+#define GATHERED ((size_t)1 << 20) /* bytes of a round at most */
+void begin_gathering(void);
+bool gather(const void *bytes, size_t length);
+uint64_t add_gathered(uint64_t sum);
+size_t gathered_bytes(void);
+int write_gathered(bool *taken_back);
+
+/* save.c: a listing that is paused after a whole ladder: what is listed, where its run stands, and what was written, from the first byte on. */
+typedef struct {
+    bool of_part, picks, prefers; /* a part was asked for; its ladders by their picks; a preference was given, and stands in the part's line */
+    Part part;                    /* the whole list is the part of no picks */
+    Run run;
+    uint64_t ladders, bytes, sum; /* the sum is that of the bytes */
+} Paused;
+void read_saved(const char *name, const uint64_t *table, Paused *paused);
+void take_room(const Request *request);
+bool save_run(const Paused *paused);
+void end_saving(void);
+
+/* stop.c: what stops a list ahead of its end, and how it ends then. */
+typedef enum { GOES_ON, BY_SIGNAL, BY_BUDGET, BY_WRITE } Stop;
+void watch_signals(void);
+bool signal_came(void);
+int end_stopped(const Request *request, Stop stop, const Paused *paused, int error, bool taken_back);
+
 /* progress.c */
 typedef struct {
     bool shown, started, counted;
-    int64_t next;
-    uint64_t ladders, all;
+    int64_t next, began;
+    uint64_t ladders, before, all; /* so far; of them before this listing began; of the whole list */
+    int width;
 } Progress;
 void begin_progress(Progress *progress);
 void show_progress(Progress *progress, const uint64_t *table, bool whole);
-void end_progress(const Progress *progress);
+void end_progress(Progress *progress);
 
 /* witness.c */
 typedef struct {

@@ -10,7 +10,7 @@ static const struct {
 } options[OPTIONS] = {
     [BY_CASES] = {"--by-cases", NULL}, [NEEDED] = {"--needed", NULL},  [PREFER] = {"--prefer", "ORDER"},
     [CUTOFF] = {"--cutoff", "N"},      [BUDGET] = {"--budget", "N"},   [PART] = {"--part", "LINE"},
-    [PICKS] = {"--picks", NULL},
+    [PICKS] = {"--picks", NULL},       [SAVE] = {"--save", "RUN"},     [RESUME] = {"--resume", "RUN"},
 };
 
 void print_options(unsigned taken) {
