@@ -6,8 +6,8 @@
  * pairs; runs.c runs of either side; parts.c parts of a list and their lines; gather.c the output of a list, round by round, stop.c what stops one and
  * save.c the file that it is saved in; progress.c the line on a terminal; proposal.c the file of a trial; decimal.c
  * readings with a point. Of a list that is checked entries.c has the entries, entry.c what one is, course.c the run beside them, sorting.c their order.
- * The subcommands are in list.c (list, parts), picks.c (ladder), check.c, ask.c (count, judge, grow, rivals, cover, order), explain.c, show.c, trial.c
- * (trial, commit), tables.c (make, comments, convert, equal) and import.c; main.c has their table. */
+ * The subcommands are in list.c (list), splitting.c (parts), picks.c (ladder), check.c, ask.c (count, judge, grow, rivals, cover, order), explain.c,
+ * show.c, trial.c (trial, commit), tables.c (make, comments, convert, equal) and import.c; main.c has their table. */
 #ifndef PLANNER_H
 #define PLANNER_H
 
