@@ -12,21 +12,35 @@ static void answer_count_part(const Request *request) {
     put_text("\n");
 }
 
-int answer_count(const Request *request) {
+/* Of a part, part by part, or by the library's count, which is of the whole list by gauges: what goes with which. */
+static void check_count_options(const Request *request) {
+    if (request->option[PARTS] && request->option[PART]) wrong_usage("a part is counted by %s, or all parts by --parts", "--part");
+    if (request->option[PARTS] && request->option[BUDGET]) wrong_usage("%s has no use with --parts", "--budget");
+    if (request->option[PARTS] || request->option[PART]) return;
+    if (request->option[BY_CASES]) wrong_usage("%s goes with --parts: the number of ladders is the same", "--by-cases");
+    if (request->option[NEEDED]) wrong_usage("%s goes with --parts", "--needed");
+}
+
+/* The whole list by the library's count. */
+static void answer_count_all(const Request *request) {
     uint64_t table[RG_TABLE_WORDS], order[RG_ORDER_WORDS], count[RG_COUNT_WORDS], budget = budget_of(request);
-    if (request->option[PART]) {
-        answer_count_part(request);
-        return STATUS_DONE;
-    }
     read_table(request, table);
     order_of(request, table[RG_TABLE_GAUGES], order);
     uint64_t why = rg_count(table, RG_TABLE_WORDS, order, RG_ORDER_WORDS, budget, count, RG_COUNT_WORDS);
     accept(subject_of(request, why, name_of(request->word[0])), why);
-    if (count[RG_COUNT_OUTCOME] == RG_SPENT) spent(name_of(request->word[0]), "counting takes more calls than the budget has");
+    if (count[RG_COUNT_OUTCOME] == RG_SPENT)
+        spent(name_of(request->word[0]), "counting takes more calls than the budget has; planner count --parts 64 counts it part by part");
     put_number(count[RG_COUNT_LADDERS], "ladder");
     put_text(", ");
     put_number(count[RG_COUNT_CALLS], "call");
     put_text("\n");
+}
+
+int answer_count(const Request *request) {
+    check_count_options(request);
+    if (request->option[PART]) answer_count_part(request);
+    else if (request->option[PARTS]) put_counts(request);
+    else answer_count_all(request);
     return STATUS_DONE;
 }
 

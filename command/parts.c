@@ -44,6 +44,20 @@ void candidates_of(const Run *run, uint64_t *numbers) {
     accept("planner", (run->by_cases ? rg_candidates_cases : rg_candidates_gauges)(run->words, RG_RUN_WORDS, numbers, RG_NUMBERS_WORDS));
 }
 
+/* The place of each number in the preference of a run, from 1. */
+void places_of(const Run *run, uint8_t *place) {
+    const uint64_t *order = run->words + RG_RUN_ORDER;
+    for (int i = 0; i < RG_ORDER_WORDS; i++)
+        if (order[i]) place[order[i]] = (uint8_t)(i + 1);
+}
+
+/* Which of two parts comes first in the list, by the places of their picks: below 0, 0 where they are the same, above 0. A beginning of another comes first. */
+int compare_parts(const uint8_t *place, const Part *a, const Part *b) {
+    for (int i = 0; i < a->count && i < b->count; i++)
+        if (a->picks[i] != b->picks[i]) return place[a->picks[i]] < place[b->picks[i]] ? -1 : 1;
+    return a->count < b->count ? -1 : a->count > b->count;
+}
+
 bool starts_with(const uint64_t *picks, const Part *part) {
     for (int i = 0; i < part->count; i++)
         if (picks[i] != part->picks[i]) return false;

@@ -3,11 +3,11 @@
  *
  * Here: what the files share, file by file. words.c has how the command ends and says so; request.c its words and options; numbers.c numbers, pairs and
  * preferences as they are typed; files.c what is read, output.c what is written; reasons.c and banner.c why a file was refused, witness.c why a set of
- * pairs; runs.c runs of either side; parts.c parts of a list and their lines; gather.c the output of a list, round by round, stop.c what stops one and
- * save.c the file that it is saved in; progress.c the line on a terminal; proposal.c the file of a trial; decimal.c
- * readings with a point. Of a list that is checked entries.c has the entries, entry.c what one is, course.c the run beside them, sorting.c their order.
- * The subcommands are in list.c (list), splitting.c (parts), picks.c (ladder), check.c, ask.c (count, judge, grow, rivals, cover, order), explain.c,
- * show.c, trial.c (trial, commit), tables.c (make, comments, convert, equal) and import.c; main.c has their table. */
+ * pairs; runs.c runs of either side; parts.c parts of a list and their lines, weights.c how large they are; gather.c the output of a list, round by round,
+ * stop.c what stops one and save.c the file that it is saved in; progress.c the line on a terminal; proposal.c the file of a trial; decimal.c readings with
+ * a point. Of a list that is checked entries.c has the entries, entry.c what one is, course.c the run beside them, sorting.c their order.
+ * The subcommands are in list.c (list), splitting.c (parts), picks.c (ladder), check.c, ask.c (count, judge, grow, rivals, cover, order), counts.c
+ * (count part by part), explain.c, show.c, trial.c (trial, commit), tables.c (make, comments, convert, equal) and import.c; main.c has their table. */
 #ifndef PLANNER_H
 #define PLANNER_H
 
@@ -31,7 +31,7 @@ typedef struct {
 } File;
 
 /* Options; a subcommand takes a set of them. */
-typedef enum { BY_CASES, NEEDED, PREFER, CUTOFF, BUDGET, PART, PICKS, SAVE, RESUME, OPTIONS } Option;
+typedef enum { BY_CASES, NEEDED, PREFER, CUTOFF, BUDGET, PART, PICKS, SAVE, RESUME, PARTS, OPTIONS } Option;
 #define SET(option) (1u << (option))
 
 typedef struct Request Request;
@@ -144,6 +144,8 @@ typedef struct {
 uint64_t try_part(const Run *fresh, const Part *part, Run *run);
 void part_value(const char *subject, const Run *fresh, const Part *part, Run *run);
 void candidates_of(const Run *run, uint64_t *numbers);
+void places_of(const Run *run, uint8_t *place);
+int compare_parts(const uint8_t *place, const Part *a, const Part *b);
 bool starts_with(const uint64_t *picks, const Part *part);
 bool within_part(const Run *run, const Part *part);
 void put_part(const Request *request, const Run *fresh, const Part *part);
@@ -162,6 +164,46 @@ bool read_whole(Text line, Whole *whole);
 bool read_sum(const char *text, size_t length, uint64_t *sum);
 #define EMPTY_SUM 0xcbf29ce484222325u
 uint64_t add_to_sum(uint64_t sum, const void *bytes, size_t length);
+
+/* weights.c: how many ladders a part has, or about how many, for a split that is even. */
+typedef struct {
+    uint64_t set; /* what is left behind some picks */
+    double ladders;
+} Weight;
+
+typedef struct {
+    uint64_t rows[RG_MOST], count, all; /* of the side that is picked from; all of the other side */
+    Weight *slot;
+    size_t slots, used;
+    bool spent;                         /* there were too many sets, so that ladders are estimated, by so many ways */
+    uint64_t ways;
+} Weights;
+void begin_weights(Weights *weights, const Run *fresh, uint64_t parts);
+double weight_of(const Weights *weights, const Part *part);
+void end_weights(Weights *weights);
+
+/* splitting.c: the parts so far, in order: each knows the one behind it, so that one can be replaced by several. */
+typedef struct {
+    Part part;
+    size_t next;
+    double weight;
+} Node;
+
+#define LAST_PART ((size_t)-1)
+typedef struct {
+    Node *nodes;
+    size_t *heap; /* those that can be split, the next one first */
+    size_t used, room, count, waiting;
+    double sum; /* of the weights */
+    uint8_t place[RG_MOST + 1];
+    Weights weights;
+} Parts;
+uint64_t parts_of(const char *text);
+void split_list(Parts *parts, const Run *fresh, uint64_t enough);
+void end_parts(Parts *parts);
+
+/* counts.c */
+void put_counts(const Request *request);
 
 /* entries.c: a list that some lister wrote. */
 typedef struct {

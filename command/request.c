@@ -11,6 +11,7 @@ static const struct {
     [BY_CASES] = {"--by-cases", NULL}, [NEEDED] = {"--needed", NULL},  [PREFER] = {"--prefer", "ORDER"},
     [CUTOFF] = {"--cutoff", "N"},      [BUDGET] = {"--budget", "N"},   [PART] = {"--part", "LINE"},
     [PICKS] = {"--picks", NULL},       [SAVE] = {"--save", "RUN"},     [RESUME] = {"--resume", "RUN"},
+    [PARTS] = {"--parts", "N"},
 };
 
 void print_options(unsigned taken) {
@@ -85,6 +86,7 @@ static void put_file_first(Request *request) {
 static void check_values(const Request *request) {
     uint64_t order[RG_ORDER_WORDS];
     if (request->option[CUTOFF]) number_of("--cutoff wants a number, not '%s'", request->option[CUTOFF]);
+    if (request->option[PARTS]) parts_of(request->option[PARTS]);
     budget_of(request);
     order_of(request, 0, order);
 }
