@@ -10,6 +10,7 @@ static const Command commands[] = {
     {"ladder", "FILE [PICKS]", 1, 1, true, SET(BY_CASES) | SET(PREFER) | SET(CUTOFF), answer_ladder},
     {"check", "FILE [LIST]", 1, 1, true, OF_RUNS | SET(PART) | SET(PICKS), answer_check},
     {"parts", "[FILE] N", 2, 0, true, OF_RUNS, answer_parts},
+    {"join", "FILE PARTS [OUT ..]", 2, ANY_MORE, false, SET(CUTOFF) | SET(AGAIN), answer_join},
     {"count", "[FILE]", 1, 0, true, OF_RUNS | SET(BUDGET) | SET(PART) | SET(PARTS), answer_count},
     {"judge", "[FILE] CHAIN", 2, 0, true, SET(CUTOFF), answer_judge},
     {"grow", "[FILE] CHAIN", 2, 0, true, SET(PREFER) | SET(CUTOFF), answer_grow},

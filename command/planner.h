@@ -5,8 +5,9 @@
  * preferences as they are typed; files.c what is read, output.c what is written; reasons.c and banner.c why a file was refused, witness.c why a set of
  * pairs; runs.c runs of either side; parts.c parts of a list and their lines, weights.c how large they are; gather.c the output of a list, round by round,
  * stop.c what stops one and save.c the file that it is saved in; progress.c the line on a terminal; proposal.c the file of a trial; decimal.c readings with
- * a point. Of a list that is checked entries.c has the entries, entry.c what one is, course.c the run beside them, sorting.c their order.
- * The subcommands are in list.c (list), splitting.c (parts), picks.c (ladder), check.c, ask.c (count, judge, grow, rivals, cover, order), counts.c
+ * a point. Of a list that is checked entries.c has the entries, entry.c what one is, course.c the run beside them, sorting.c their order. Of parts that are
+ * joined splits.c has their lines, outputs.c what was listed of them.
+ * The subcommands are in list.c (list), splitting.c (parts), join.c, picks.c (ladder), check.c, ask.c (count, judge, grow, rivals, cover, order), counts.c
  * (count part by part), explain.c, show.c, trial.c (trial, commit), tables.c (make, comments, convert, equal) and import.c; main.c has their table. */
 #ifndef PLANNER_H
 #define PLANNER_H
@@ -31,12 +32,13 @@ typedef struct {
 } File;
 
 /* Options; a subcommand takes a set of them. */
-typedef enum { BY_CASES, NEEDED, PREFER, CUTOFF, BUDGET, PART, PICKS, SAVE, RESUME, PARTS, OPTIONS } Option;
+typedef enum { BY_CASES, NEEDED, PREFER, CUTOFF, BUDGET, PART, PICKS, SAVE, RESUME, PARTS, AGAIN, OPTIONS } Option;
 #define SET(option) (1u << (option))
 
 typedef struct Request Request;
 
 /* A subcommand: `words` arguments, the first of them a file where `reads` says so, which may be left out for standard input; up to `more` behind. */
+#define ANY_MORE 1000000000
 typedef struct {
     const char *name;
     const char *arguments;
@@ -46,13 +48,11 @@ typedef struct {
     int (*answer)(const Request *); /* its exit status */
 } Command;
 
-#define MOST_WORDS 4
-
 /* What was asked: words and options as they were typed, null where an option was not given. */
 struct Request {
     const Command *command;
     int words;
-    const char *word[MOST_WORDS];
+    const char **word;
     const char *option[OPTIONS];
 };
 
@@ -205,6 +205,51 @@ void end_parts(Parts *parts);
 /* counts.c */
 void put_counts(const Request *request);
 
+/* splits.c: the parts that a file of lines has. */
+#define NO_OUTPUT ((size_t)-1)
+typedef struct {
+    Part part;
+    bool named;      /* some fault has named it */
+    uint64_t number; /* of its line */
+    size_t output;   /* which output is its own */
+} SplitPart;
+
+typedef struct {
+    const char *name;
+    Run fresh;       /* of the list that is split */
+    bool prefers;
+    uint8_t place[RG_MOST + 1];
+    SplitPart *parts;
+    size_t count, room, kept, faults;
+} Split;
+void read_split(Split *split, const char *word, const uint64_t *table);
+bool same_list(const Split *split, const Run *fresh);
+bool check_split(Split *split);
+size_t find_part(const Split *split, const Part *part);
+
+/* outputs.c: a file with outputs of parts, and what lies ahead of a last line in it. */
+#define WHOLE_LINE 1024 /* bytes that are enough for the last line of an output */
+typedef struct {
+    const char *name;
+    FILE *in;
+    uint8_t buffer[1 << 16];
+    size_t at, end;
+    bool over, within; /* nothing is left to read; within a line */
+    uint64_t passed;
+} Output;
+
+typedef struct {
+    uint64_t start, bytes, sum, ladders, lines;
+} Listed;
+void open_output(Output *output, const char *name);
+void close_output(Output *output);
+bool next_whole(Output *output, Listed *found, Text *line);
+bool take_whole(Text line, Whole *whole, char *part);
+void copy_output(Output *output, uint64_t start, uint64_t bytes, uint64_t sum);
+
+/* join.c: behind the table and the parts come the outputs. */
+#define FIRST_OUTPUT 2
+
 /* entries.c: a list that some lister wrote. */
 typedef struct {
     const char *name;
@@ -355,6 +400,7 @@ int answer_list(const Request *request);
 uint64_t count_part(const Request *request);
 void check_part_options(const Request *request);
 int answer_parts(const Request *request);
+int answer_join(const Request *request);
 int answer_ladder(const Request *request);
 int answer_check(const Request *request);
 int answer_count(const Request *request);

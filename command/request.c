@@ -11,7 +11,7 @@ static const struct {
     [BY_CASES] = {"--by-cases", NULL}, [NEEDED] = {"--needed", NULL},  [PREFER] = {"--prefer", "ORDER"},
     [CUTOFF] = {"--cutoff", "N"},      [BUDGET] = {"--budget", "N"},   [PART] = {"--part", "LINE"},
     [PICKS] = {"--picks", NULL},       [SAVE] = {"--save", "RUN"},     [RESUME] = {"--resume", "RUN"},
-    [PARTS] = {"--parts", "N"},
+    [PARTS] = {"--parts", "N"},        [AGAIN] = {"--again", NULL},
 };
 
 void print_options(unsigned taken) {
@@ -91,9 +91,11 @@ static void check_values(const Request *request) {
     order_of(request, 0, order);
 }
 
+/* There may be as many words as were typed, and one more for a file that is left out. */
 void read_request(Request *request, const Command *command, int argc, char **argv) {
     bool more_options = true;
-    *request = (Request){.command = command};
+    *request = (Request){.command = command, .word = calloc((size_t)argc + 1, sizeof *request->word)};
+    if (!request->word) fail("planner", "no memory");
     for (int i = 0; i < argc;) {
         if (more_options && !strcmp(argv[i], "--")) {
             more_options = false;
