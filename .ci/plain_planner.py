@@ -167,7 +167,8 @@ COMMANDS = {  # arguments with the file, how many more, whether the first is a f
     "check": (1, 1, True, RUNS | {"--part", "--picks"}),
     "ladder": (1, 1, True, RUNS - {"--needed"}),
     "parts": (2, 0, True, RUNS),
-    "count": (1, 0, True, {"--prefer", "--cutoff", "--budget", "--part"}),
+    "join": (2, 10**9, False, {"--cutoff", "--again"}),
+    "count": (1, 0, True, RUNS | {"--budget", "--part", "--parts"}),
     "judge": (2, 0, True, {"--cutoff"}),
     "grow": (2, 0, True, {"--prefer", "--cutoff"}),
     "rivals": (2, 0, True, {"--cutoff"}),
@@ -183,8 +184,8 @@ COMMANDS = {  # arguments with the file, how many more, whether the first is a f
     "equal": (2, 0, True, set()),
     "show": (1, 1, True, RUNS),
 }
-FLAGS = {"--by-cases", "--needed", "--picks"}
-VALUED = {"--prefer", "--cutoff", "--budget", "--part", "--save", "--resume"}
+FLAGS = {"--by-cases", "--needed", "--picks", "--again"}
+VALUED = {"--prefer", "--cutoff", "--budget", "--part", "--parts", "--save", "--resume"}
 SAVED = {}
 
 
@@ -196,6 +197,12 @@ def wanted(form, text):
 
 def number(text):
     return int(wanted("[0-9]+", text))
+
+
+def parts_of(text):
+    if not 1 <= number(text) <= 1000000:
+        raise Ends(2)
+    return number(text)
 
 
 def numbers(text):
@@ -225,6 +232,7 @@ class Request:
         if len(self.word) < least:
             raise Ends(2)
         self.cutoff = number(self.option["--cutoff"]) if "--cutoff" in self.option else None
+        self.parts = parts_of(self.option["--parts"]) if "--parts" in self.option else None
         self.budget = number(self.option.get("--budget", str(BUDGET)))
         self.prefer = numbers(self.option["--prefer"]) if "--prefer" in self.option else None
         self.by_cases, self.needed = "--by-cases" in self.option, "--needed" in self.option
@@ -470,36 +478,58 @@ def do_ladder(r):
     return out
 
 
-def do_parts(r):
-    enough = number(r.word[1])
-    if not 1 <= enough <= 1000000:
-        raise Ends(2)
-    table = r.table()
-    order = r.order(table[r.by_cases])
-    sequences = [p for p, _ in listing(table, r.by_cases, order, False)]
+def split(sequences, order, enough):
+    """The part with most ladders is split, the first of them on a tie: until there are enough, and then on, up to four times as many, until the largest has
+    at most three times the mean; one of a single ladder never."""
+    ladders_in = lambda p: sum(s[: len(p)] == p for s in sequences)
     parts = [()]
-    while len(parts) < enough:
-        longer = [p for p in parts if p not in sequences]  # a sequence of the list goes on to no other
-        if not longer:
-            break
-        p = min(longer, key=len)
+    while True:
+        p = max(parts, key=ladders_in)
+        even = ladders_in(p) * len(parts) <= 3 * len(sequences) or len(parts) >= min(4 * enough, 1000000)
+        if ladders_in(p) == 1 or (len(parts) >= enough and even):
+            return parts
         i = parts.index(p)
         parts[i : i + 1] = sorted({s[: len(p) + 1] for s in sequences if s[: len(p)] == p}, key=lambda s: order.index(s[-1]))
+
+
+def split_of(r, enough):
+    """The lines of the parts, and the ladders of each that are listed."""
+    table = r.table()
+    order = r.order(table[r.by_cases])
     preference = ",".join(map(str, order)) if r.prefer else "plain"
     head = "/".join([checksum(table), "cases" if r.by_cases else "gauges", "needed" if r.needed else "all", preference])
-    return "".join(head + "/" + (",".join(map(str, p)) or "-") + "\n" for p in parts)
+    kept = [p for p, _ in listing(table, r.by_cases, order, r.needed)]
+    for p in split([s for s, _ in listing(table, r.by_cases, order, False)], order, enough):
+        yield head + "/" + picks_line(p)[:-1], sum(s[: len(p)] == p for s in kept)
+
+
+def do_parts(r):
+    enough = parts_of(r.word[1])
+    return "".join(line + "\n" for line, _ in split_of(r, enough))
 
 
 def of(n, what):
     return "%d %s%s" % (n, what, "" if n == 1 else "s")
 
 
+def count_parts(r):
+    if "--part" in r.option or "--budget" in r.option:
+        raise Ends(2)
+    counts = list(split_of(r, r.parts))
+    total = "total %s in %s\n" % (of(sum(n for _, n in counts), "ladder"), of(len(counts), "part"))
+    return "".join("%s %d\n" % count for count in counts) + total
+
+
 def do_count(r):
+    if r.parts is not None:
+        return count_parts(r)
     if "--part" in r.option:
         it = started(r)
         if not it.run(r.budget if "--budget" in r.option else 2**64)[1]:
             raise Ends(4)
         return of(it.ladders, "ladder") + "\n"
+    if r.by_cases or r.needed:
+        raise Ends(2)
     table = r.table()
     sequences = [p for p, _ in listing(table, False, r.order(table[0]), False)]
     refuse_if(r.budget > BUDGET, 18)
@@ -778,6 +808,68 @@ def counted(ladders_due, missing, seen):
     entries = "1 entry" if len(seen) == 1 else "%d entries" % len(seen)
     head = "not complete" if missing else "not each once"
     return "%s: %s, %s: %d missing" % (head, of(ladders_due, "ladder"), entries, missing) + "".join(", %d %s" % c for c in counts if c[0]) + "\n"
+
+
+# --- parts that are joined
+
+
+def lines_of_parts(data, table):
+    """Of each line the list that it is a part of, and its picks."""
+    lines = data.decode("latin-1").split("\n")
+    lines = lines[:-1] if lines[-1] == "" else lines
+    found = []
+    for n, line in enumerate(lines or [""], 1):
+        try:
+            by_cases, order, needed, picks = part_of(line, table)
+        except Ends as end:
+            raise Ends(3, end.number, n) from None
+        found.append(((by_cases, tuple(order), needed), picks, line))
+    return found
+
+
+def outputs_of(data, table, of_list, parts):
+    """Picks, kind and text of each output that is whole and of some part; and whether there was anything else."""
+    found, faulty, body = [], not data, b""
+    for line in data.splitlines(True) if b"\r" not in data else re.findall(rb"[^\n]*\n|[^\n]+$", data):
+        if not line.startswith(b"% "):
+            body += line
+            continue
+        said = re.fullmatch(rb"% whole ([^ \n]+) (ladders|picks) (0|[1-9][0-9]*) bytes (0|[1-9][0-9]*) sum ([0-9a-f]{16})\n", line)
+        try:
+            by_cases, order, needed, picks = part_of(said[1].decode("latin-1") if said else "", table)
+            entries = body.count(b"\n") if said[2] == b"picks" else len(re.findall(rb"^%%", body, re.MULTILINE))
+            whole = (int(said[3]), int(said[4]), said[5].decode()) == (entries, len(body), sum_of(body))
+            whole = whole and (by_cases, tuple(order), needed) == of_list and picks in parts
+        except Ends:
+            whole = False
+        found += [(picks, said[2], body)] if whole else []
+        faulty, body = faulty or not whole, b""
+    return found, faulty or body != b""
+
+
+def do_join(r):
+    if "-" in r.word[2:]:
+        raise Ends(2)
+    table = r.table()
+    lines = lines_of_parts(r.bytes_of(r.word[1]), table)
+    of_list = lines[0][0]
+    whole = [s for s, _ in listing(table, of_list[0], list(of_list[1]), False)]
+    parts = {picks: line for _, picks, line in lines}
+    # Every ladder begins with one line, and no line is there twice.
+    if any(l != of_list for l, _, _ in lines) or any(sum(s[: len(p)] == p for _, p, _ in lines) != 1 for s in whole):
+        return 5, ""
+    found, faulty = [], False
+    for word in r.word[2:]:
+        more, wrong = outputs_of(r.bytes_of(word), table, of_list, parts)
+        found, faulty = found + more, faulty or wrong
+    kinds = [kind for _, kind, _ in found]
+    most = b"picks" if 2 * kinds.count(b"picks") > len(kinds) else b"ladders"
+    there = {picks: text for picks, kind, text in found if kind == most}
+    in_order = sorted(parts, key=lambda p: [of_list[1].index(x) for x in p])
+    again = "".join(parts[p] + "\n" for p in in_order if p not in there)
+    if "--again" in r.option:
+        return (5 if again else 0), again
+    return (5, "") if faulty or again or len(found) != len(parts) else (0, b"".join(there[p] for p in in_order))
 
 
 # --- files of other programs
