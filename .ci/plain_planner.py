@@ -860,7 +860,7 @@ def do_join(r):
         return 5, ""
     found, faulty = [], False
     for word in r.word[2:]:
-        more, wrong = outputs_of(r.bytes_of(word), table, of_list, parts)
+        more, wrong = outputs_of(r.bytes_of(word), table, of_list, parts) if os.path.exists(word) else ([], True)
         found, faulty = found + more, faulty or wrong
     kinds = [kind for _, kind, _ in found]
     most = b"picks" if 2 * kinds.count(b"picks") > len(kinds) else b"ladders"

@@ -1,10 +1,13 @@
 /* join: the whole list from the outputs of its parts. Each file is read twice. First all is checked: that the parts are a whole split (splits.c), and that each
  * has one output, which is whole (outputs.c). Only then the list is written, without the last lines of the outputs. Else each fault is named, and with
  * --again the lines of the parts that are to be run again are written. */
+#define _POSIX_C_SOURCE 200809L /* access */
 #include "planner.h"
+#include <errno.h>
 #include <stdio.h>
 #include <stdlib.h>
 #include <string.h>
+#include <unistd.h>
 
 /* An output of a part of the split that is whole. */
 typedef struct {
@@ -64,11 +67,19 @@ static void take_output(Join *join, size_t file, const Listed *found, Text line)
     } else add_output(join, (WholeOutput){file, at, whole.picks, found->start, found->bytes, found->sum});
 }
 
+/* A file that a job never came to write has the output of no part. */
+static bool is_there(Join *join, const char *name) {
+    if (!access(name, F_OK) || errno != ENOENT) return true;
+    name_fault(join, name, "", "missing: there is no such file");
+    return false;
+}
+
 /* All outputs of a file. It ends with a last line, or some output is cut. */
 static void read_outputs(Join *join, size_t file) {
     static Output output;
     Listed found;
     Text line;
+    if (!is_there(join, join->request->word[file])) return;
     open_output(&output, join->request->word[file]);
     while (next_whole(&output, &found, &line)) take_output(join, file, &found, line);
     if (!output.passed) name_fault(join, output.name, "", "cut: it is empty");

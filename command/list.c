@@ -188,3 +188,12 @@ uint64_t count_part(const Request *request) {
     if (list_part(&list)) spent(option_text(request, BUDGET), "counting the part takes more moves");
     return list.now.ladders;
 }
+
+/* The ladders of a part, from its value on. */
+uint64_t ladders_of(const Request *request, const uint64_t *table, const Part *part, const Run *run) {
+    static Listing list;
+    list = (Listing){.request = request, .left = UINT64_MAX, .now = {.of_part = true, .part = *part, .run = *run}};
+    memcpy(list.table, table, sizeof list.table);
+    list_part(&list);
+    return list.now.ladders;
+}

@@ -398,6 +398,7 @@ void start_at_ladder(const Request *request, const char *word, const uint64_t *t
 /* The subcommands. */
 int answer_list(const Request *request);
 uint64_t count_part(const Request *request);
+uint64_t ladders_of(const Request *request, const uint64_t *table, const Part *part, const Run *run);
 void check_part_options(const Request *request);
 int answer_parts(const Request *request);
 int answer_join(const Request *request);
