@@ -8,7 +8,7 @@
 -- `omits-answers-unique`), and a run with nothing to omit (`omits-nothing`); demand 3 as a user reads it (`demand-hands`, `demand-one`,
 -- `demand-limits`).
 --
--- Pins, which nothing else cites: `demand-one`.
+-- Pins, which nothing else cites: `demand-one`, `demand-base`.
 use mathlib.Core.Path.{_≡_, refl, sym, ap, ap₂, _∙_, subst}
 use mathlib.Core.Logic.{_≢_}
 use mathlib.Core.Bool.{Bool, true, false}
@@ -28,7 +28,7 @@ use Rattle.rules.proofs.Calls.{above-by}
 use Rattle.rules.proofs.Reports.{only18-by}
 use Rattle.rules.proofs.Reaching.{reached-call, reached-keeping}
 use Rattle.rules.proofs.Ends.{Enough}
-use Rattle.lists.specs.Lists.{Side, gaugeSide, caseSide, PreferredList}
+use Rattle.lists.specs.Lists.{Side, gaugeSide, caseSide, PreferredList, BaseList}
 use Rattle.lists.specs.Arrangements.{IsArrangement, plain}
 use Rattle.lists.specs.OnTable.{handOut, moveOn, ReachedOn, callsOn, leftOn}
 use Rattle.rules.specs.Keeping.{keptSets as keptOf}
@@ -388,6 +388,10 @@ demand-hands t s o bs rs xs d l =
 pub demand-one : (t : Table) (s : Side) (o : List ℕ) (b : ℕ) (r : Step) → Demand3 t s o (b ∷ []) (r ∷ [])
     → (mostBudget < b → r ≡ refusalStep 18) × (b ≤ mostBudget → (n : ℕ) → r .answer ≢ refused n) × (r .answer ≡ spent → r .moves ≡ b) × (r .moves ≤ b)
 demand-one t s o b r d = (d .hands .only18 .0, d .hands .no-other .0, d .hands .budget .0, d .hands .within .0)
+
+pub demand-base : (side : Table → Side) (t : Table) (k : List ℕ) (v : Value) (bs : List ℕ) (rs : List Step) (d : RunDemand side t k v bs rs)
+    → k ≡ plainNumbers (side t .count) → BaseList t (side t) (d .demand .list)
+demand-base side t k v bs rs d = d .base
 
 pub demand-limits : (t : Table) (s : Side) (o bs : List ℕ) (sooner later : List Step) (r : Step) (x : List ℕ) → Demand3 t s o bs (sooner ++ (r ∷ later))
     → r .answer ≡ handed x → (reported isHandOut (sooner ++ (r ∷ later)) ≤ startLimit (s .count)) × (reported isHandOutOrEnd later ≤ gapLimit (s .count))

@@ -12,13 +12,21 @@ Inv-loop ladders left budget cover₀ k₀ rest₀ cover k rest = Deepening ladd
 abbrev μ-loop : tie.MeasureT-loop
 μ-loop ladders left budget cover₀ k₀ rest₀ cover k rest = 8 - k
 
+loop-holds : tie.Need-loop-holds Inv-loop μ-loop
+loop-holds c = deepening-start _ _ _
+
+loop-again : tie.Need-loop-again Inv-loop μ-loop
+loop-again c =
+    deepening-next _ _ _ _ _ _ (c .before .before .before .before .before .before .loop .inv) _ _ (c .before .before .before .cover-left .ensures)
+    (c .before .before .before .before .before .loop-test .taken) _ (c .before .found .given .1)
+
 pub least-cover-spec : {M : Type 1} → statement M
 least-cover-spec =
     tie.close
     (tie.spec
     Inv-loop
     μ-loop
-    (λ c. deepening-start _ _ _)
+    loop-holds
     (λ c κs. omega (arith, c .before .loop-test .taken))
     (λ c. search needs)
     (λ c.
@@ -27,9 +35,7 @@ least-cover-spec =
     (λ c. search needs)
     (λ c. omega (arith, c .before .before .before .before .before .loop-test .taken))
     (λ c. omega (arith, c .before .before .before .before .before .loop-test .taken))
-    (λ c.
-    deepening-next _ _ _ _ _ _ (c .before .before .before .before .before .before .loop .inv) _ _ (c .before .before .before .cover-left .ensures)
-    (c .before .before .before .before .before .loop-test .taken) _ (c .before .found .given .1))
+    loop-again
     (λ c. search needs)
     (λ c.
     deepening-spent _ _ _ _ _ _ (c .before .before .before .before .before .loop .inv) _ _ (c .before .before .cover-left .ensures)

@@ -49,46 +49,64 @@ search-requires c κs = record {
   listed = c .before .before .list-ladders .ensures .whole (omega (arith, c .before .if4 .left));
 }
 
+-- 10 and 11
+returns : tie.Need-returns
+returns c =
+    let k = c .before .before in
+    covers-table _ _ (k .checked .given .0 .0) _ (c .refuse .ensures) (verdict-refused _ _ _ (k .checked .given .1) (k .before .before .check-table .ensures))
+
+-- 18
+returns-2 : tie.Need-returns-2
+returns-2 c = covers-budget _ _ (passed (c .before .before)) _ (c .refuse2 .ensures) (omega (arith, c .before .if1 .taken))
+
+-- 23
+returns-3 : tie.Need-returns-3
+returns-3 c =
+    let e = c .before .before .before in
+    covers-gauges _ _ (passed (e .before)) (omega (arith, e .if1 .left)) _ (c .refuse3 .ensures) (omega (arith, c .before .if2 .taken))
+
+returns-4 : tie.Need-returns-4
+returns-4 c =
+    let e = c .before .before .before in
+    let f = e .before .before in
+    covers-cases _ _ (passed (f .before)) (omega (arith, f .if1 .left)) (omega (arith, e .if2 .left)) _ (c .refuse4 .ensures)
+    (omega (arith, c .before .if3 .taken))
+
+-- 24
+returns-5 : tie.Need-returns-5
+returns-5 c =
+    let k = c .before .before in
+    let e = k .before .before in
+    covers-ladders _ _ (passed (told e)) (within e) (small e .gauges) (small e .cases) _ _ (k .list-ladders .ensures) _ (c .refuse5 .ensures)
+    (omega (arith, c .before .if4 .taken))
+
+-- the search
+returns-6 : tie.Need-returns-6
+returns-6 c =
+    let k = c .before .before .before in
+    let e = k .before .before in
+    covers-searched _ _ (passed (told e)) (within e) (small e .gauges) (small e .cases) _ _ (k .list-ladders .ensures) _
+    (omega (arith, c .before .before .if4 .left)) (c .search .ensures)
+
 pub fewest-ladders-spec : {M : Type 1} → statement M
 fewest-ladders-spec =
     tie.close
     (tie.spec
-    -- 10 and 11
     (λ c κs. search needs)
     (λ c. search needs)
     (λ c κs. search needs)
-    (λ c.
-    let k = c .before .before in
-    covers-table _ _ (k .checked .given .0 .0) _ (c .refuse .ensures) (verdict-refused _ _ _ (k .checked .given .1) (k .before .before .check-table .ensures)))
+    returns
     (λ c. search needs)
-    -- 18
     (λ c κs. search needs)
-    (λ c. covers-budget _ _ (passed (c .before .before)) _ (c .refuse2 .ensures) (omega (arith, c .before .if1 .taken)))
-    -- 23
+    returns-2
     (λ c κs. search needs)
-    (λ c.
-    let e = c .before .before .before in
-    covers-gauges _ _ (passed (e .before)) (omega (arith, e .if1 .left)) _ (c .refuse3 .ensures) (omega (arith, c .before .if2 .taken)))
+    returns-3
     (λ c κs. search needs)
-    (λ c.
-    let e = c .before .before .before in
-    let f = e .before .before in
-    covers-cases _ _ (passed (f .before)) (omega (arith, f .if1 .left)) (omega (arith, e .if2 .left)) _ (c .refuse4 .ensures)
-    (omega (arith, c .before .if3 .taken)))
-    -- 24
+    returns-4
     list-ladders-requires
     (λ c κs. search needs)
-    (λ c.
-    let k = c .before .before in
-    let e = k .before .before in
-    covers-ladders _ _ (passed (told e)) (within e) (small e .gauges) (small e .cases) _ _ (k .list-ladders .ensures) _ (c .refuse5 .ensures)
-    (omega (arith, c .before .if4 .taken)))
-    -- the search
+    returns-5
     array-share-prefix-ladders
     slice-aggregate-search
     search-requires
-    λ c.
-    let k = c .before .before .before in
-    let e = k .before .before in
-    covers-searched _ _ (passed (told e)) (within e) (small e .gauges) (small e .cases) _ _ (k .list-ladders .ensures) _
-    (omega (arith, c .before .before .if4 .left)) (c .search .ensures))
+    returns-6)

@@ -25,49 +25,64 @@ few-gauges c = range-is 64 _ (sym (c .before .before .before .in-range .ensures)
 few-cases : (c : tie.Else2) → c .before .before .before .before .args .cases ≤ 64
 few-cases c = range-is 64 _ (sym (c .before .in-range2 .ensures) ∙ not-false _ (c .if2 .left)) .1
 
+-- 10
+returns : tie.Need-returns
+returns c = (
+  c .refuse .ensures
+      ∙ answer-refused TableShape _ _ _
+      (refused-shape _ _ _ _ (bad-gauges _ _ _ (c .before .before .in-range .ensures) (not-true _ (c .before .if1 .taken)))),
+  sample-claims _ _ _ _,
+)
+
+returns-2 : tie.Need-returns-2
+returns-2 c = (
+  c .refuse2 .ensures
+      ∙ answer-refused TableShape _ _ _
+      (refused-shape _ _ _ _
+      (bad-cases _ _ _ (c .before .before .before .before .in-range .ensures) (not-false _ (c .before .before .before .if1 .left)) _
+      (c .before .before .in-range2 .ensures) (not-true _ (c .before .if2 .taken)))),
+  sample-claims _ _ _ _,
+)
+
+-- 28
+returns-3 : tie.Need-returns-3
+returns-3 c = (
+  c .refuse3 .ensures ∙ answer-refused SampleInput _ _ _ (refused-input _ _ _ _ (shape (c .before .before)) (bad-start _ _ (c .before .if3 .taken))),
+  sample-claims _ _ _ _,
+)
+
+returns-4 : tie.Need-returns-4
+returns-4 c = (
+  c .refuse4 .ensures
+      ∙ answer-refused SampleInput _ _ _
+      (refused-input _ _ _ _ (shape (c .before .before .before)) (bad-density _ _ (c .before .before .if3 .left) (c .before .if4 .taken))),
+  sample-claims _ _ _ _,
+)
+
+-- the table
+returns-5 : tie.Need-returns-5
+returns-5 c = (
+  rw (c .sample-rows .ensures)
+      (answer-given _ _ _ (not-refused _ _ _ _ (shape (c .before .before .before)) (good-input _ _ (c .before .before .if3 .left) (c .before .if4 .left)))),
+  sample-claims _ _ _ _,
+)
+
 pub sample-table-spec : {M : Type 1} → statement M
 sample-table-spec =
     tie.close
     (tie.spec
-    -- 10
     (λ c κs. search needs)
     (λ c κs. search needs)
-    (λ c. (
-      c .refuse .ensures
-          ∙ answer-refused TableShape _ _ _
-          (refused-shape _ _ _ _ (bad-gauges _ _ _ (c .before .before .in-range .ensures) (not-true _ (c .before .if1 .taken)))),
-      sample-claims _ _ _ _,
-    ))
+    returns
     (λ c κs. search needs)
     (λ c κs. search needs)
-    (λ c. (
-      c .refuse2 .ensures
-          ∙ answer-refused TableShape _ _ _
-          (refused-shape _ _ _ _
-          (bad-cases _ _ _ (c .before .before .before .before .in-range .ensures) (not-false _ (c .before .before .before .if1 .left)) _
-          (c .before .before .in-range2 .ensures) (not-true _ (c .before .if2 .taken)))),
-      sample-claims _ _ _ _,
-    ))
-    -- 28
+    returns-2
     (λ c κs. search needs)
-    (λ c. (
-      c .refuse3 .ensures ∙ answer-refused SampleInput _ _ _ (refused-input _ _ _ _ (shape (c .before .before)) (bad-start _ _ (c .before .if3 .taken))),
-      sample-claims _ _ _ _,
-    ))
+    returns-3
     (λ c κs. search needs)
-    (λ c. (
-      c .refuse4 .ensures
-          ∙ answer-refused SampleInput _ _ _
-          (refused-input _ _ _ _ (shape (c .before .before .before)) (bad-density _ _ (c .before .before .if3 .left) (c .before .if4 .taken))),
-      sample-claims _ _ _ _,
-    ))
-    -- the table
+    returns-4
     (λ c κs. (
       omega (arith, few-gauges (c .before .before), few-cases (c .before .before)),
       omega (arith, few-gauges (c .before .before), few-cases (c .before .before)),
     ))
-    (λ c. (
-      rw (c .sample-rows .ensures)
-          (answer-given _ _ _ (not-refused _ _ _ _ (shape (c .before .before .before)) (good-input _ _ (c .before .before .if3 .left) (c .before .if4 .left)))),
-      sample-claims _ _ _ _,
-    )))
+    returns-5)
