@@ -67,7 +67,8 @@ module _ (kids : List ℕ → List ℕ) (n : ℕ) (t : Tree kids n) (q : List �
       go (inr d) =
           let (l, m) = below-some kids (n - length (p ++ (g ∷ []))) (p ++ (g ∷ [])) in
           let s : StartsWith q l =
-          subst (λ (x : List ℕ). StartsWith x l) (sym d) (All-get (StartsWith (p ++ (g ∷ []))) m (below-start kids (n - length (p ++ (g ∷ []))) (p ++ (g ∷ [])))) in
+          subst (λ (x : List ℕ). StartsWith x l) (sym d)
+          (All-get (StartsWith (p ++ (g ∷ []))) m (below-start kids (n - length (p ++ (g ∷ []))) (p ++ (g ∷ [])))) in
           All-get (λ (x : List ℕ). StartsWith q x → ⊥)
           (subst (λ (x : List (List ℕ)). List·Memᴰ l x) e (Memᴰ·append-right h (Memᴰ·append-left (rest kids n (p ++ (g ∷ [])) Handed) m))) none-beyond s
 

@@ -1,6 +1,6 @@
 -- Calls of any machine with a law of its calls, where what is still to come is of the part first and then is not: what they hand out of the part is a front
--- of it, and all of it once the part is over (`calls-in`); and all that they hand out is of it while the picks say so (`calls-inside`). The laws are those of crate `rules`: `call-law` for rules 1 to 5 (`rules-law`), and `call-kept` for
--- the run that hands over the kept sets alone (`keeping-law`).
+-- of it, and all of it once the part is over (`calls-in`); and all that they hand out is of it while the picks say so (`calls-inside`). The laws are those of
+-- crate `rules`: `call-law` for rules 1 to 5 (`rules-law`), and `call-kept` for the run that hands over the kept sets alone (`keeping-law`).
 use mathlib.Core.Path.{_≡_, refl, sym, ap, ap₂, _∙_, subst}
 use mathlib.Core.Bool.{Bool, true, false, not, _||_, cond}
 use mathlib.Core.List.{List, [], _∷_, _++_, map, List·Memᴰ, List·Memᴰ·head, List·Memᴰ·tail, head-eq-of-cons-eq, tail-eq-of-cons-eq}
