@@ -6,7 +6,7 @@
 -- In order: an answer of end closes a part; one list of answers; a part, split and closed; any choice.
 --
 -- Pins, which nothing else cites: `choice-goes-on`, `split-unique`, `runs-exist`, `whole-same`.
-use mathlib.Core.Path.{_≡_, refl, sym, ap, ap₂, _∙_, subst}
+use mathlib.Core.Path.{_≡_, refl, sym, ap, _∙_, subst}
 use mathlib.Core.Logic.{_≢_}
 use mathlib.Core.Bool.{Bool, true, false, _||_}
 use mathlib.Core.List.{List, [], _∷_, _++_, map, List·Memᴰ, List·Memᴰ·head, List·Memᴰ·tail, Memᴰ·map, Memᴰ·append-right}
@@ -26,10 +26,10 @@ use Rattle.parts.specs.Parts.{extended, splitAt}
 use Rattle.parts.proofs.Ends.{part-ends, part-keeping-ends}
 use Rattle.parts.proofs.Joining.{part-unique}
 use Rattle.runs.specs.Paused.{Value}
-use Rattle.runs.specs.Calling.{Step, told, held, keptValue, valueRefusal, PausedAt}
+use Rattle.runs.specs.Calling.{Step, told, held, valueRefusal, PausedAt}
 use Rattle.runs.specs.Omitting.{movesOf, CallsEither}
 use Rattle.runs.proofs.Demands.{Started, Starts, calls-made, told-answer}
-use Rattle.runs.proofs.Readings.{called-unique}
+use Rattle.split.proofs.PartRuns.{calls-unique}
 use Rattle.split.specs.Entries.{nextPicks}
 use Rattle.split.specs.Listing.{isClosed, handedOver}
 use Rattle.split.specs.Whole.{PartsOf, SplitInto, Choice, replaced, ClosedRun, EachClosed, setsOfAll, ListsWhole}
@@ -44,19 +44,6 @@ or-true false = refl
 end-closes : (v : Value) (rs : List Step) (r : Step) → List·Memᴰ r rs → r .answer ≡ end → isClosed v rs ≡ true
 end-closes v (x ∷ rs) r (List·Memᴰ·head e) d = let a : x .answer ≡ end = sym (ap (λ (y : Step). y .answer) e) ∙ d in rw a
 end-closes v (x ∷ rs) r (List·Memᴰ·tail m) d = rw (end-closes v rs r m d, or-true)
-
--- ---- one list of answers for the same budgets
-calls-same : (side : Table → Side) (v : Value) (bs : List ℕ) (rs qs : List Step) → CallsEither side v bs rs → CallsEither side v bs qs → rs ≡ qs
-calls-same side v [] [] [] c d = refl
-calls-same side v [] [] (q ∷ qs) c d = absurd d
-calls-same side v [] (r ∷ rs) qs c d = absurd c
-calls-same side v (b ∷ bs) [] qs c d = absurd c
-calls-same side v (b ∷ bs) (r ∷ rs) [] c d = absurd d
-calls-same side v (b ∷ bs) (r ∷ rs) (q ∷ qs) c d =
-    let e : r ≡ q = called-unique side v b r q (c .0) (d .0) in
-    ap₂ (λ (x : Step) (xs : List Step). x ∷ xs) e
-    (calls-same side (keptValue (q .answer) v (q .next)) bs rs qs
-    (subst (λ (x : Step). CallsEither side (keptValue (x .answer) v (x .next)) bs rs) e (c .1)) (d .1))
 
 -- ---- a part w
 module _ (side : Table → Side) (w : Value) (h : IsPart side w) where
@@ -138,7 +125,7 @@ module _ (side : Table → Side) (w : Value) (h : IsPart side w) where
         bs,
         λ rs k.
             end-closes w rs (tell c)
-            (subst (λ (l : List Step). List·Memᴰ (tell c) l) (calls-same side w bs (answers bs) rs (answered bs) k) (Memᴰ·map tell m))
+            (subst (λ (l : List Step). List·Memᴰ (tell c) l) (calls-unique side w bs (answers bs) rs (answered bs) k) (Memᴰ·map tell m))
             (told-answer t s (w .order) (w .omit) (c .answer) (c .moves) (c .next) ∙ e),
       )
 
