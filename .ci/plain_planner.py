@@ -479,13 +479,13 @@ def do_ladder(r):
 
 
 def split(sequences, order, enough):
-    """The part with most ladders is split, the first of them on a tie: until there are enough, and then on, up to four times as many, until the largest has
+    """The part with most ladders is split, the first of them on a tie: until there are enough, and then on, up to 16 times as many, until the largest has
     at most three times the mean; one of a single ladder never."""
     ladders_in = lambda p: sum(s[: len(p)] == p for s in sequences)
     parts = [()]
     while True:
         p = max(parts, key=ladders_in)
-        even = ladders_in(p) * len(parts) <= 3 * len(sequences) or len(parts) >= min(4 * enough, 1000000)
+        even = ladders_in(p) * len(parts) <= 3 * len(sequences) or len(parts) >= min(16 * enough, 1000000)
         if ladders_in(p) == 1 or (len(parts) >= enough and even):
             return parts
         i = parts.index(p)

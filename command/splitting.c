@@ -6,10 +6,11 @@
 
 #define MOST_PARTS 1000000
 
-/* Parts are even where the largest has at most so many times the mean. Some lists have no such split: candidates with few ladders come along with each that
- * has many. So it is tried up to so many times the parts that were asked for. */
+/* Parts are even where the largest has at most so many times the mean. Some lists have no such split near the number that was asked for: candidates with few
+ * ladders come along with each that has many. So it is tried up to so many times that number, where ladders are counted, and less far by estimates. */
 #define EVEN 3
-#define MORE 4
+#define MORE 16
+#define MORE_BY_ESTIMATE 4
 
 static size_t new_node(Parts *parts, const Part *part, size_t next) {
     if (parts->used == parts->room) {
@@ -89,12 +90,18 @@ uint64_t parts_of(const char *text) {
 
 static bool is_even(const Parts *parts) { return parts->nodes[parts->heap[0]].weight * (double)parts->count <= EVEN * parts->sum; }
 
+/* How many parts there are at most. */
+static uint64_t most_of(const Parts *parts, uint64_t enough) {
+    uint64_t most = enough * (parts->weights.spent ? MORE_BY_ESTIMATE : MORE);
+    return most < MOST_PARTS ? most : MOST_PARTS;
+}
+
 /* From the whole list, until there are enough parts and they are even, or each has one ladder. The first part is the first node. */
 void split_list(Parts *parts, const Run *fresh, uint64_t enough) {
-    uint64_t most = MORE * enough < MOST_PARTS ? MORE * enough : MOST_PARTS;
     *parts = (Parts){.count = 1};
     places_of(fresh, parts->place);
     begin_weights(&parts->weights, fresh, enough);
+    uint64_t most = most_of(parts, enough);
     weigh(parts, new_node(parts, &(Part){.count = 0}, LAST_PART));
     while (parts->waiting && (parts->count < enough || (parts->count < most && !is_even(parts)))) split(parts, fresh, take_from_heap(parts));
     end_weights(&parts->weights);
