@@ -480,14 +480,18 @@ def do_ladder(r):
 
 def split(sequences, order, enough):
     """The part with most ladders is split, the first of them on a tie: until there are enough, and then on, up to 16 times as many, until the largest has
-    at most three times the mean; one of a single ladder never."""
+    at most three times the mean; where it never has, the first number of parts is taken at which it was least. One of a single ladder is never split."""
     ladders_in = lambda p: sum(s[: len(p)] == p for s in sequences)
-    parts = [()]
+    parts, best = [()], None
     while True:
         p = max(parts, key=ladders_in)
-        even = ladders_in(p) * len(parts) <= 3 * len(sequences) or len(parts) >= min(16 * enough, 1000000)
-        if ladders_in(p) == 1 or (len(parts) >= enough and even):
+        uneven = ladders_in(p) * len(parts) / len(sequences)
+        if ladders_in(p) == 1 or (len(parts) >= enough and uneven <= 3):
             return parts
+        if len(parts) >= enough and (best is None or uneven < best[0]):
+            best = (uneven, list(parts))
+        if len(parts) >= min(16 * enough, 1000000):
+            return best[1]
         i = parts.index(p)
         parts[i : i + 1] = sorted({s[: len(p) + 1] for s in sequences if s[: len(p)] == p}, key=lambda s: order.index(s[-1]))
 

@@ -88,7 +88,8 @@ uint64_t parts_of(const char *text) {
     return enough;
 }
 
-static bool is_even(const Parts *parts) { return parts->nodes[parts->heap[0]].weight * (double)parts->count <= EVEN * parts->sum; }
+/* The largest part by the mean. */
+static double unevenness(const Parts *parts) { return parts->nodes[parts->heap[0]].weight * (double)parts->count / parts->sum; }
 
 /* How many parts there are at most. */
 static uint64_t most_of(const Parts *parts, uint64_t enough) {
@@ -96,14 +97,31 @@ static uint64_t most_of(const Parts *parts, uint64_t enough) {
     return most < MOST_PARTS ? most : MOST_PARTS;
 }
 
-/* From the whole list, until there are enough parts and they are even, or each has one ladder. The first part is the first node. */
+/* From the whole list, until there are enough parts and they are even, or as many as there may be, or each has one ladder. The first part is the first node.
+ * Gives the number of parts, from `enough` on, at which they were most even. */
+static uint64_t split_until(Parts *parts, const Run *fresh, uint64_t enough, uint64_t most) {
+    double least = 0;
+    uint64_t best = enough;
+    parts->used = parts->waiting = 0;
+    parts->count = 1;
+    parts->sum = 0;
+    weigh(parts, new_node(parts, &(Part){.count = 0}, LAST_PART));
+    while (parts->waiting && (parts->count < enough || (parts->count < most && unevenness(parts) > EVEN))) {
+        split(parts, fresh, take_from_heap(parts));
+        if (!parts->waiting || parts->count < enough || (least > 0 && unevenness(parts) >= least)) continue;
+        least = unevenness(parts);
+        best = parts->count;
+    }
+    return best;
+}
+
+/* Even parts, or where there are none so even the most even ones. */
 void split_list(Parts *parts, const Run *fresh, uint64_t enough) {
     *parts = (Parts){.count = 1};
     places_of(fresh, parts->place);
     begin_weights(&parts->weights, fresh, enough);
-    uint64_t most = most_of(parts, enough);
-    weigh(parts, new_node(parts, &(Part){.count = 0}, LAST_PART));
-    while (parts->waiting && (parts->count < enough || (parts->count < most && !is_even(parts)))) split(parts, fresh, take_from_heap(parts));
+    uint64_t best = split_until(parts, fresh, enough, most_of(parts, enough));
+    if (parts->waiting && unevenness(parts) > EVEN) split_until(parts, fresh, best, best);
     end_weights(&parts->weights);
 }
 
