@@ -1,7 +1,7 @@
 /* The output of a list, gathered round by round and written past stdio: after a write that succeeds it is known to the byte what was written, and what a
  * write that fails has left is taken back where that can be done. So a list, wherever it is stopped, ends with a whole ladder. What is gathered is made in
  * list.c, and what becomes of a list that is stopped is in stop.c. */
-#define _POSIX_C_SOURCE 200809L /* fcntl, fstat, ftruncate, poll, write */
+#define _POSIX_C_SOURCE 200809L /* fcntl, fstat, fsync, ftruncate, poll, write */
 #include "planner.h"
 #include <errno.h>
 #include <fcntl.h>
@@ -76,3 +76,6 @@ int write_gathered(bool *taken_back) {
     length = 0;
     return error;
 }
+
+/* Whether what was written is on the disk: one that is full may say so only now, on a drive of another machine. A pipe and a terminal have none. */
+bool sync_output(void) { return !fsync(STDOUT_FILENO) || (errno != EIO && errno != ENOSPC && errno != EDQUOT); }

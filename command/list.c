@@ -2,6 +2,7 @@
  * So it is known after each round to which byte the list is written and where its run stands; what stops it in between is in stop.c. How a list is split is
  * in splitting.c. */
 #include "planner.h"
+#include <errno.h>
 #include <inttypes.h>
 #include <stdio.h>
 #include <string.h>
@@ -176,6 +177,7 @@ int answer_list(const Request *request) {
     watch_signals();
     Stop stop = list_part(&list);
     if (stop) return end_stopped(request, stop, &list.written, list.error, list.taken_back);
+    if (request->option[SAVE] && !sync_output()) write_failed(errno); /* ahead of the saved run's end */
     end_saving();
     return STATUS_DONE;
 }

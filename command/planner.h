@@ -293,6 +293,7 @@ bool gather(const void *bytes, size_t length);
 uint64_t add_gathered(uint64_t sum);
 size_t gathered_bytes(void);
 int write_gathered(bool *taken_back);
+bool sync_output(void);
 
 /* save.c: a listing that is paused after a whole ladder: what is listed, where its run stands, and what was written, from the first byte on. */
 typedef struct {

@@ -47,7 +47,7 @@ static void say_saved(const char *file, bool saved) {
 int end_stopped(const Request *request, Stop stop, const Paused *paused, int error, bool taken_back) {
     const char *file = request->option[SAVE];
     if (stop == BY_WRITE && error == EPIPE && !file) write_failed(error);
-    bool saved = file && save_run(paused);
+    bool saved = file && sync_output() && save_run(paused);
     say_cause(request, stop, error);
     say_end(paused, taken_back);
     if (file) say_saved(file, saved);
