@@ -13,7 +13,9 @@ use c_reasons;
 use c_recorded;
 use c_runs;
 use c_sequence;
+use c_support;
 use c_trials;
+ghost use mathlib.Core.Path.{_≡_};
 ghost use Rattle.lists.specs.Lists.{gaugeSide, caseSide};
 ghost use Rattle.explain.specs.Reasons.{gaugeQuestion, caseQuestion};
 ghost use Rattle.table.specs.declared.Table.{Table};
@@ -34,6 +36,7 @@ ghost use Rattle.c_parts.specs.Serving.{GivesCandidates, GivesPart};
 ghost use Rattle.c_trials.specs.Serving.{Tries, Commits};
 ghost use Rattle.c_orders.specs.Serving.{OrdersWords};
 ghost use Rattle.c_covers.specs.Serving.{CoversWords};
+ghost use Rattle.c_support.specs.Serving.{thisRelease, SaysWords, GivesPlain};
 
 // A fresh gauge run of the table under the order into `run`; it omits where `omit` is not 0.
 #[no_mangle]
@@ -251,7 +254,7 @@ pub extern "C" fn rg_commit(proposal: &[u64], table: &[u64], out: &mut [u64]) ->
 
 // The order of the pairs that the chain lacks of the ladder to the front of `bytes`, two bytes a pair, and their number into `count`.
 #[no_mangle]
-pub extern "C" fn rg_order(
+pub extern "C" fn rg_wiring(
     table: &[u64],
     chain: &[u64],
     ladder: &[u64],
@@ -347,4 +350,28 @@ pub extern "C" fn rg_part_cases(run: &[u64], number: u64, part: &mut [u64]) -> u
     ensures { λ r. ⌜ GivesPart caseSide 2 (now (run .entry)) number (now (part .entry)) (now (part .exit)) r ⌝ }
 {
     c_parts::part_cases(run, number, part)
+}
+
+// The number of this release: major * 10,000 + minor * 100 + patch.
+#[no_mangle]
+pub extern "C" fn rg_version() -> u64
+    ensures { λ r. ⌜ r ≡ thisRelease ⌝ }
+{
+    c_support::version()
+}
+
+// The words of a number that an entry returns into `words`, zeros behind, and how many bytes they are into `length`.
+#[no_mangle]
+pub extern "C" fn rg_words(number: u64, words: &mut [u8], length: &mut [u64]) -> u64
+    ensures { λ r. ⌜ SaysWords number (now (words .entry)) (now (length .entry)) (now (words .exit)) (now (length .exit)) r ⌝ }
+{
+    c_support::say(number, words, length)
+}
+
+// The plain order of `n` gauges or cases, 1, 2, 3 and on, into `order`.
+#[no_mangle]
+pub extern "C" fn rg_plain_order(n: u64, order: &mut [u64]) -> u64
+    ensures { λ r. ⌜ GivesPlain n (now (order .entry)) (now (order .exit)) r ⌝ }
+{
+    c_support::plain_order(n, order)
 }
