@@ -117,7 +117,7 @@ int answer_order(const Request *request) {
     read_chain(request->word[1], chain);
     read_chain(request->word[2], ladder);
     accept_set(chain_name, rg_judge_chain(table, RG_TABLE_WORDS, chain, RG_CHAIN_WORDS, count, RG_ONE_WORDS), table, chain);
-    uint64_t why = rg_order(table, RG_TABLE_WORDS, chain, RG_CHAIN_WORDS, ladder, RG_CHAIN_WORDS, bytes, RG_PAIR_BYTES, count, RG_ONE_WORDS);
+    uint64_t why = rg_wiring(table, RG_TABLE_WORDS, chain, RG_CHAIN_WORDS, ladder, RG_CHAIN_WORDS, bytes, RG_PAIR_BYTES, count, RG_ONE_WORDS);
     if (why == RG_NO_CHAIN) accept_set(chain_name, why, table, chain);
     if (why == RG_NO_LADDER) refuse_order(name_of(request->word[2]), table, chain, ladder);
     accept_set(name_of(request->word[2]), why, table, ladder);

@@ -102,7 +102,7 @@ static void say_place(char *reason, const uint8_t *file, size_t length, Text lin
     fields_in(line, fields, MOST_FIELDS);
     const char *g = quoted(fields[0], room[0]), *c = quoted(fields[1], room[1]);
     if (why == RG_PLACE) snprintf(reason, REASON, "gauge %s, case %s in a table of %s by %s", g, c, quoted(size[0], room[2]), quoted(size[1], room[3]));
-    else if (why == RG_READING) snprintf(reason, REASON, "it is %s", quoted(fields[2], room[2]));
+    else if (why == RG_BAD_READING) snprintf(reason, REASON, "it is %s", quoted(fields[2], room[2]));
     else if (why == RG_REPEATED) snprintf(reason, REASON, "gauge %s, case %s stands above already", g, c);
     else snprintf(reason, REASON, "it says %s by %s", g, c);
 }
@@ -122,7 +122,7 @@ const char *words_of_file(const uint8_t *file, size_t length, uint64_t why) {
 uint64_t reason_of(const uint8_t *file, size_t length, uint64_t why, Use use, char *reason) {
     uint64_t line[RG_ONE_WORDS] = {0};
     reason[0] = 0;
-    if (why > RG_NUMBER_OF_PAIRS && why != RG_READING) return 0;
+    if (why > RG_NUMBER_OF_PAIRS && why != RG_BAD_READING) return 0;
     accept("planner", rg_locate(file, length, use == EITHER_KIND, line, RG_ONE_WORDS));
     Text text = line_at(file, length, line[0]);
     if (why == RG_BANNER) say_banner(reason, file, length, use);
@@ -130,7 +130,7 @@ uint64_t reason_of(const uint8_t *file, size_t length, uint64_t why, Use use, ch
     if (why == RG_SIZE_LINE && !text.length) snprintf(reason, REASON, "the file ends without one");
     if (why == RG_SIZE_LINE && text.length) say_fields(reason, text, 3, false);
     if (why == RG_ENTRY_LINE) say_entry(reason, text, is_integer(file, length));
-    if (why == RG_PLACE || why == RG_READING || why == RG_REPEATED || why == RG_SIZE) say_place(reason, file, length, text, why);
+    if (why == RG_PLACE || why == RG_BAD_READING || why == RG_REPEATED || why == RG_SIZE) say_place(reason, file, length, text, why);
     if (why == RG_NUMBER_OF_PAIRS) say_number(reason, file, length, text);
     return line[0];
 }

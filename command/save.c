@@ -30,7 +30,7 @@
 
 enum { HEAD, PART_OF, OF, WRITES, PHASE, PICKED, LADDERS, BYTES, SUM, CHECK, LINES };
 static const char *const words[LINES] = {"ragymolev run", "part", "of", "writes", "phase", "picks", "ladders", "bytes", "sum", "check"};
-static const char *const phases[] = {[RG_DOWN] = "down", [RG_HANDED] = "handed", [RG_BACK] = "back ", [RG_ENDED] = "ended"};
+static const char *const phases[] = {[RG_PHASE_DOWN] = "down", [RG_PHASE_HANDED] = "handed", [RG_PHASE_BACK] = "back ", [RG_PHASE_ENDED] = "ended"};
 
 /* --- the text */
 
@@ -39,7 +39,7 @@ static size_t text_of(const Paused *paused, char *text) {
     const uint64_t *run = paused->run.words;
     part_line(line, &paused->run, paused->prefers, &paused->part);
     picks[picks_text(run + RG_RUN_PICKS, picks)] = 0;
-    if (run[RG_RUN_PHASE] == RG_BACK) snprintf(from, sizeof from, "%" PRIu64, run[RG_RUN_FROM]);
+    if (run[RG_RUN_PHASE] == RG_PHASE_BACK) snprintf(from, sizeof from, "%" PRIu64, run[RG_RUN_FROM]);
     int length = snprintf(text, ROOM, "ragymolev run 1\npart %s\nof %s\nwrites %s\nphase %s%s\npicks %s\n"
                           "ladders %" PRIu64 "\nbytes %" PRIu64 "\nsum %016" PRIx64 "\n",
                           line, paused->of_part ? "part" : "list", paused->picks ? "picks" : "ladders", phases[run[RG_RUN_PHASE]], from, picks,
@@ -78,11 +78,11 @@ static bool one_of(Text value, const char *no, const char *yes, bool *which) {
 
 /* A phase as it is written, with the number that the run is back from. */
 static bool read_phase(Text value, uint64_t *run) {
-    size_t back = strlen(phases[RG_BACK]);
-    for (run[RG_RUN_PHASE] = RG_DOWN; run[RG_RUN_PHASE] <= RG_ENDED; run[RG_RUN_PHASE]++)
-        if (run[RG_RUN_PHASE] != RG_BACK && is(value, phases[run[RG_RUN_PHASE]])) return true;
-    run[RG_RUN_PHASE] = RG_BACK;
-    return value.length > back && !memcmp(value.text, phases[RG_BACK], back) && read_number(value.text + back, value.length - back, &run[RG_RUN_FROM]);
+    size_t back = strlen(phases[RG_PHASE_BACK]);
+    for (run[RG_RUN_PHASE] = RG_PHASE_DOWN; run[RG_RUN_PHASE] <= RG_PHASE_ENDED; run[RG_RUN_PHASE]++)
+        if (run[RG_RUN_PHASE] != RG_PHASE_BACK && is(value, phases[run[RG_RUN_PHASE]])) return true;
+    run[RG_RUN_PHASE] = RG_PHASE_BACK;
+    return value.length > back && !memcmp(value.text, phases[RG_PHASE_BACK], back) && read_number(value.text + back, value.length - back, &run[RG_RUN_FROM]);
 }
 
 /* All but the part's line: false for what has another form. What is not just as it is written is seen when it is written again. */

@@ -19,7 +19,7 @@ int answer_commit(const Request *request) {
     uint64_t table[RG_TABLE_WORDS], flipped[RG_TABLE_WORDS], proposal[RG_PROPOSAL_WORDS];
     read_table(request, table);
     read_file(request->word[1], &file);
-    if (!read_proposal(&file, proposal)) refuse(file.name, RG_PROPOSAL);
+    if (!read_proposal(&file, proposal)) refuse(file.name, RG_OTHER_PROPOSAL);
     accept(file.name, rg_commit(proposal, RG_PROPOSAL_WORDS, table, RG_TABLE_WORDS, flipped, RG_TABLE_WORDS));
     put_table(flipped);
     return STATUS_DONE;

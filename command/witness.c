@@ -44,7 +44,7 @@ bool pair_to_add(const uint64_t *table, const uint64_t *chain, Pair *pair) {
     uint64_t order[RG_ORDER_WORDS], ladder[RG_CHAIN_WORDS], count[RG_ONE_WORDS];
     plain_order(table[RG_TABLE_GAUGES], order);
     if (rg_grow(table, RG_TABLE_WORDS, order, RG_ORDER_WORDS, chain, RG_CHAIN_WORDS, ladder, RG_CHAIN_WORDS)) return false;
-    if (rg_order(table, RG_TABLE_WORDS, chain, RG_CHAIN_WORDS, ladder, RG_CHAIN_WORDS, bytes, RG_PAIR_BYTES, count, RG_ONE_WORDS)) return false;
+    if (rg_wiring(table, RG_TABLE_WORDS, chain, RG_CHAIN_WORDS, ladder, RG_CHAIN_WORDS, bytes, RG_PAIR_BYTES, count, RG_ONE_WORDS)) return false;
     *pair = (Pair){bytes[0], bytes[1]};
     return count[0] > 0;
 }

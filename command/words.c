@@ -6,52 +6,22 @@
 #include <stdlib.h>
 #include <string.h>
 
-/* The words of docs/MANUAL.md, section 7, by number. */
-static const char *const library_words[] = {
-    [RG_LONG_FILE] = "file longer than 65,536 bytes",
-    [RG_BANNER] = "first line is not the banner",
-    [RG_LONG_LINE] = "line longer than 1,024 bytes",
-    [RG_SIZE_LINE] = "size line absent or not three fields",
-    [RG_SIZE] = "G or L not in 1..64",
-    [RG_ENTRY_LINE] = "pair line not two fields",
-    [RG_PLACE] = "g or c outside 1..G, 1..L",
-    [RG_REPEATED] = "pair repeated",
-    [RG_NUMBER_OF_PAIRS] = "more or fewer than N pairs",
-    [RG_SHAPE] = "G or L not in 1..64",
-    [RG_STRAY_BITS] = "a bit at L or above, or a row past G not zero",
-    [RG_ROW_COUNT] = "row count not G",
-    [RG_NOT_IN_TABLE] = "a pair not in the table",
-    [RG_NO_CHAIN] = "not a chain",
-    [RG_PAUSED] = "a value that no moves from a fresh start lead to",
-    [RG_BUFFER] = "buffer too short",
-    [RG_NO_COMMENT] = "no such comment",
-    [RG_OVER_BUDGET] = "budget above 1,000,000",
-    [RG_NO_PAIR] = "the pair named is not in the table",
-    [RG_READING] = "reading outside -1,000,000..1,000,000",
-    [RG_CUTOFF] = "cutoff not in 1..1,000,000",
-    [RG_IN_LADDER] = "the pair is in the ladder",
-    [RG_ABOVE_EIGHT] = "G or L above 8",
-    [RG_MANY_LADDERS] = "more than 1,024 ladders",
-    [RG_NO_LADDER] = "not a ladder of the table",
-    [RG_PROPOSAL] = "the proposal is not what the trial on the current table gives",
-    [RG_PREFERENCE] = "the preference is no arrangement",
-    [RG_GENERATOR] = "the start is zero or the density above 256",
-};
-
 /* The subcommand asked for, once it is known: its name stands in what is said of usage. */
 static const Command *asked;
 
 void usage_of(const Command *command) { asked = command; }
 
+/* The command's own refusals have their words here, those of the library in rg_words. The words stand until the next number is asked for. */
 const char *words_of(uint64_t why) {
+    static uint8_t words[RG_WORDS_BYTES];
+    uint64_t length[RG_ONE_WORDS];
     switch (why) {
-    case RG_SHORT: return "lent memory is shorter than its layout";
     case NO_PART_LINE: return "not a line of planner parts";
     case OTHER_TABLE: return "the part is one of another table";
     case NO_SUCH_LADDER: return "the list has no ladder of that number";
     case NO_PICKS_LINE: return "not a line of picks";
     case NO_WHOLE_PICKS: return "the picks are only the beginning of a ladder's";
-    default: return why < sizeof library_words / sizeof library_words[0] && library_words[why] ? library_words[why] : "a number without words";
+    default: rg_words(why, words, RG_WORDS_BYTES, length, RG_ONE_WORDS); return (const char *)words;
     }
 }
 

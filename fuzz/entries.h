@@ -28,6 +28,8 @@ typedef struct {
     static uint64_t rg_call_##name(const Input *in, void *const *p) { return rg_##name(__VA_ARGS__); }      \
     static uint64_t plain_call_##name(const Input *in, void *const *p) { return plain_##name(__VA_ARGS__); }
 
+ENTRY(words, N(0), B(0), W(1))
+ENTRY(plain_order, N(0), W(0))
 ENTRY(read, B(0), W(1))
 ENTRY(locate, B(0), N(0), W(1))
 ENTRY(comment, B(0), N(0), W(1))
@@ -54,7 +56,7 @@ ENTRY(grow, W(0), W(1), W(2), W(3))
 ENTRY(rivals, W(0), N(0), N(1), W(1))
 ENTRY(decides, W(0), N(0), N(1), W(1))
 ENTRY(cover, W(0), N(0), W(1))
-ENTRY(order, W(0), W(1), W(2), B(3), W(4))
+ENTRY(wiring, W(0), W(1), W(2), B(3), W(4))
 ENTRY(trial, W(0), W(1), N(0), N(1), W(2))
 ENTRY(commit, W(0), W(1), W(2))
 ENTRY(read_test, B(0), N(0), W(1), R(2), W(3))
@@ -63,6 +65,8 @@ ENTRY(equal, W(0), R(1), W(2), R(3), W(4))
 
 /* Every entry, with the refusals that it has beside 100. */
 #define EACH_ENTRY(X) \
+    X(words, 0) \
+    X(plain_order, 10) \
     X(read, 1, 2, 3, 4, 5, 6, 7, 8, 9) \
     X(locate, 0) \
     X(comment, 1, 2, 3, 4, 5, 6, 7, 8, 9, 17, 20) \
@@ -89,7 +93,7 @@ ENTRY(equal, W(0), R(1), W(2), R(3), W(4))
     X(rivals, 10, 11, 19) \
     X(decides, 10, 11, 19) \
     X(cover, 10, 11, 18, 23, 24) \
-    X(order, 10, 11, 12, 13, 14, 16, 25) \
+    X(wiring, 10, 11, 12, 13, 14, 16, 25) \
     X(trial, 7, 10, 11, 12, 13, 25) \
     X(commit, 10, 11, 26) \
     X(read_test, 1, 2, 3, 4, 5, 6, 7, 8, 9, 20, 21) \

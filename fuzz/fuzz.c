@@ -54,6 +54,17 @@ static void lend_file(Input *in, bool integer) {
     lend_bytes(in, file, n);
 }
 
+static void for_words(Input *in) {
+    in->number[0] = chance(4) ? make_number(100) : (uint64_t)below(30);
+    lend(in, 1, RG_WORDS_BYTES, room(RG_WORDS_BYTES), NULL, 0);
+    lend_out(in, RG_ONE_WORDS);
+}
+
+static void for_plain_order(Input *in) {
+    in->number[0] = make_number(64);
+    lend_out(in, RG_ORDER_WORDS);
+}
+
 static void for_read(Input *in) {
     lend_file(in, chance(10));
     lend_out(in, RG_TABLE_WORDS);
@@ -175,7 +186,7 @@ static void name_pair(Input *in, const Set *pairs) {
 /* Mostly a pair that the ladder of the run lacks, where there is one. */
 static void name_left_out(Input *in, int which) {
     Side side;
-    State now = {.phase = RG_HANDED, .count = (int)run[RG_RUN_COUNT]};
+    State now = {.phase = RG_PHASE_HANDED, .count = (int)run[RG_RUN_COUNT]};
     for (int i = 0; i < now.count; i++) now.picks[i] = (int)run[RG_RUN_PICKS + i];
     side_of(&side, which, table, run + RG_RUN_ORDER);
     Set mine = handed_out(&side, &now), pairs = table_set(table), left_out = pairs;
@@ -215,7 +226,7 @@ static void for_sequence_cases(Input *in) { for_sequence(in, RG_SIDE_CASES); }
 /* Mostly a run that is Down: as it was started, or gone on with by a few moves that hand nothing out. */
 static void make_part(int which) {
     make_run(run, chance(20) ? 3 - which : which, false);
-    for (int i = 0; i < 8 && run[RG_RUN_PHASE] != RG_DOWN && !chance(8); i++) make_run(run, which, false);
+    for (int i = 0; i < 8 && run[RG_RUN_PHASE] != RG_PHASE_DOWN && !chance(8); i++) make_run(run, which, false);
 }
 
 static void for_candidates(Input *in, int which) {
@@ -289,7 +300,7 @@ static void for_cover(Input *in) {
     lend_out(in, RG_COVER_WORDS);
 }
 
-static void for_order(Input *in) {
+static void for_wiring(Input *in) {
     make_table(table);
     make_ladder(table, ladder);
     memcpy(chain, ladder, sizeof chain);

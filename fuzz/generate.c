@@ -154,12 +154,12 @@ void make_chain(const uint64_t *table, uint64_t *chain) {
 void make_run(uint64_t *run, int which, bool handed) {
     uint64_t table[66], order[64];
     Side side;
-    State now = {.phase = RG_DOWN}, then = now;
+    State now = {.phase = RG_PHASE_DOWN}, then = now;
     make_table(table);
     make_order(order, table[which == RG_SIDE_GAUGES ? 0 : 1]);
     side_of(&side, which, table, order);
     int moves = below(chance(2) ? 8 : 80);
-    for (int i = 0; i < moves || (handed && then.phase != RG_HANDED); i++)
+    for (int i = 0; i < moves || (handed && then.phase != RG_PHASE_HANDED); i++)
         if (move(&side, &now) == GAVE) then = now;
     put_run(run, which, table, order, handed ? &then : &now, chance(3));
 }

@@ -1,81 +1,52 @@
-/* The planner core a second time, plainly: every entry of include/ragymolev.h under the name plain_.. in place of rg_.., written from the scope
+/* The planner core a second time, plainly: every entry of include/ragymolev.h but rg_version under the name plain_.. in place of rg_.., written from the scope
  * document and its requests alone, by enumeration and by definition, and for tables of few pairs. tools/fuzz-library compares the library with it.
  *
  * Here: the values that the files share and what each file gives the others. plain_sets.c has tables, chains, ladders and pick sequences;
  * plain_runs.c rules 1 to 5 and what is asked of paused values; plain_pairs.c rivals, covers, orders, trials and sample tables; plain_files.c the
- * file and recorded tests. */
+ * file and recorded tests; plain_words.c words and the plain order. */
 #ifndef PLAIN_H
 #define PLAIN_H
 
+#include "../include/ragymolev.h"
 #include <stdbool.h>
 
-/* The prototypes are the header's own, so that a definition with other types does not compile. */
-#define rg_read plain_read
-#define rg_read_test plain_read_test
-#define rg_locate plain_locate
-#define rg_comment plain_comment
-#define rg_write plain_write
-#define rg_write_test plain_write_test
-#define rg_sample plain_sample
-#define rg_judge_chain plain_judge_chain
-#define rg_judge_ladder plain_judge_ladder
-#define rg_start_gauges plain_start_gauges
-#define rg_start_cases plain_start_cases
-#define rg_run_gauges plain_run_gauges
-#define rg_run_cases plain_run_cases
-#define rg_list_gauges plain_list_gauges
-#define rg_list_cases plain_list_cases
-#define rg_explain_gauge plain_explain_gauge
-#define rg_explain_case plain_explain_case
-#define rg_sequence_gauges plain_sequence_gauges
-#define rg_sequence_cases plain_sequence_cases
-#define rg_candidates_gauges plain_candidates_gauges
-#define rg_candidates_cases plain_candidates_cases
-#define rg_part_gauges plain_part_gauges
-#define rg_part_cases plain_part_cases
-#define rg_count plain_count
-#define rg_grow plain_grow
-#define rg_rivals plain_rivals
-#define rg_decides plain_decides
-#define rg_cover plain_cover
-#define rg_order plain_order
-#define rg_trial plain_trial
-#define rg_commit plain_commit
-#define rg_equal plain_equal
-#undef RAGYMOLEV_H
-#include "../include/ragymolev.h"
-#undef rg_read
-#undef rg_read_test
-#undef rg_locate
-#undef rg_comment
-#undef rg_write
-#undef rg_write_test
-#undef rg_sample
-#undef rg_judge_chain
-#undef rg_judge_ladder
-#undef rg_start_gauges
-#undef rg_start_cases
-#undef rg_run_gauges
-#undef rg_run_cases
-#undef rg_list_gauges
-#undef rg_list_cases
-#undef rg_explain_gauge
-#undef rg_explain_case
-#undef rg_sequence_gauges
-#undef rg_sequence_cases
-#undef rg_candidates_gauges
-#undef rg_candidates_cases
-#undef rg_part_gauges
-#undef rg_part_cases
-#undef rg_count
-#undef rg_grow
-#undef rg_rivals
-#undef rg_decides
-#undef rg_cover
-#undef rg_order
-#undef rg_trial
-#undef rg_commit
-#undef rg_equal
+/* The types are those of the header's own prototypes, so that a definition with other types does not compile. */
+#define PLAIN(name) extern __typeof__(rg_##name) plain_##name
+PLAIN(words);
+PLAIN(plain_order);
+PLAIN(read);
+PLAIN(read_test);
+PLAIN(locate);
+PLAIN(comment);
+PLAIN(write);
+PLAIN(write_test);
+PLAIN(sample);
+PLAIN(judge_chain);
+PLAIN(judge_ladder);
+PLAIN(start_gauges);
+PLAIN(start_cases);
+PLAIN(run_gauges);
+PLAIN(run_cases);
+PLAIN(list_gauges);
+PLAIN(list_cases);
+PLAIN(explain_gauge);
+PLAIN(explain_case);
+PLAIN(sequence_gauges);
+PLAIN(sequence_cases);
+PLAIN(candidates_gauges);
+PLAIN(candidates_cases);
+PLAIN(part_gauges);
+PLAIN(part_cases);
+PLAIN(count);
+PLAIN(grow);
+PLAIN(rivals);
+PLAIN(decides);
+PLAIN(cover);
+PLAIN(wiring);
+PLAIN(trial);
+PLAIN(commit);
+PLAIN(equal);
+#undef PLAIN
 
 /* Of more pairs than this not every subset is looked at, 2 to that many: the ladders are then those that the rules come to. */
 #define PLAIN_PAIRS 18

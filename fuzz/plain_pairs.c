@@ -165,8 +165,8 @@ static uint64_t order_of_refusal(const uint64_t *table, const uint64_t *chain, c
     return is_ladder(&t, &l) && within(&s, &l) ? 0 : 25;
 }
 
-uint64_t plain_order(const uint64_t *table, size_t table_n, const uint64_t *chain, size_t chain_n, const uint64_t *ladder, size_t ladder_n,
-                     uint8_t *bytes, size_t bytes_n, uint64_t *count, size_t count_n) {
+uint64_t plain_wiring(const uint64_t *table, size_t table_n, const uint64_t *chain, size_t chain_n, const uint64_t *ladder, size_t ladder_n,
+                      uint8_t *bytes, size_t bytes_n, uint64_t *count, size_t count_n) {
     int g, c;
     if (table_n < 66 || chain_n < 65 || ladder_n < 65 || count_n < 1) return 100;
     uint64_t why = order_of_refusal(table, chain, ladder);

@@ -48,14 +48,14 @@ static int next_candidate(const Side *side, const State *state, int above) {
 }
 
 static int take_back(State *state) {
-    state->phase = state->count ? RG_BACK : RG_ENDED;
+    state->phase = state->count ? RG_PHASE_BACK : RG_PHASE_ENDED;
     state->from = state->count ? state->picks[--state->count] : 0;
-    return state->phase == RG_ENDED ? ENDED : MOVED;
+    return state->phase == RG_PHASE_ENDED ? ENDED : MOVED;
 }
 
 static int pick(State *state, int g) {
     state->picks[state->count++] = g;
-    state->phase = RG_DOWN;
+    state->phase = RG_PHASE_DOWN;
     state->from = 0;
     return MOVED;
 }
@@ -64,14 +64,14 @@ static int pick(State *state, int g) {
 int move(const Side *side, State *state) {
     int g;
     switch (state->phase) {
-    case RG_DOWN:
+    case RG_PHASE_DOWN:
         g = next_candidate(side, state, 0);
         if (g) return pick(state, g);
-        state->phase = RG_HANDED;
+        state->phase = RG_PHASE_HANDED;
         return GAVE;
-    case RG_HANDED:
+    case RG_PHASE_HANDED:
         return take_back(state);
-    case RG_BACK:
+    case RG_PHASE_BACK:
         g = next_candidate(side, state, side->place[state->from]);
         return g ? pick(state, g) : take_back(state);
     default:
@@ -92,9 +92,9 @@ Set handed_out(const Side *side, const State *state) {
 
 /* The sets of all pick sequences that no candidate follows, at most so many; `out` may be null. */
 int leaves(const Side *side, int most, Set *out) {
-    State state = {.phase = RG_DOWN};
+    State state = {.phase = RG_PHASE_DOWN};
     int n = 0;
-    while (state.phase != RG_ENDED && n < most)
+    while (state.phase != RG_PHASE_ENDED && n < most)
         if (move(side, &state) == GAVE) {
             if (out) out[n] = handed_out(side, &state);
             n++;
@@ -121,9 +121,9 @@ static bool is_state(const uint64_t *run, const State *state) {
 }
 
 static bool reached(const Side *side, const uint64_t *run, State *state) {
-    *state = (State){.phase = RG_DOWN};
+    *state = (State){.phase = RG_PHASE_DOWN};
     while (!is_state(run, state)) {
-        if (state->phase == RG_ENDED) return false;
+        if (state->phase == RG_PHASE_ENDED) return false;
         move(side, state);
     }
     return true;
@@ -142,7 +142,7 @@ static uint64_t run_refusal(const uint64_t *run, int which, Side *side, State *s
 
 static uint64_t start(int which, const uint64_t *table, size_t table_n, const uint64_t *order, size_t order_n, uint64_t omit, uint64_t *run,
                       size_t run_n) {
-    State fresh = {.phase = RG_DOWN};
+    State fresh = {.phase = RG_PHASE_DOWN};
     if (table_n < 66 || order_n < 64 || run_n < 199) return 100;
     uint64_t why = table_refusal(table);
     if (!why) why = order_refusal(order, table[which == RG_SIDE_GAUGES ? RG_TABLE_GAUGES : RG_TABLE_CASES]);
@@ -258,7 +258,7 @@ static uint64_t explain(int which, const uint64_t *run, size_t run_n, uint64_t g
     if (run_n < 199 || out_n < 1) return 100;
     uint64_t why = run_refusal(run, which, &side, &state);
     if (why) return why;
-    if (state.phase != RG_HANDED) return 15;
+    if (state.phase != RG_PHASE_HANDED) return 15;
     if (!names_pair(run + RG_RUN_TABLE, g, c)) return 19;
     Set mine = handed_out(&side, &state);
     Set ladder = by_gauges(which, &mine);
@@ -279,7 +279,7 @@ uint64_t plain_explain_case(const uint64_t *run, size_t run_n, uint64_t g, uint6
 static uint64_t part_refusal(const uint64_t *run, int which, Side *side, State *state) {
     uint64_t why = run_refusal(run, which, side, state);
     if (why) return why;
-    return state->phase == RG_DOWN ? 0 : 15;
+    return state->phase == RG_PHASE_DOWN ? 0 : 15;
 }
 
 static uint64_t candidates(int which, const uint64_t *run, size_t run_n, uint64_t *numbers, size_t numbers_n) {
@@ -338,7 +338,7 @@ uint64_t plain_count(const uint64_t *table, size_t table_n, const uint64_t *orde
                      size_t count_n) {
     static List list;
     Side side;
-    State state = {.phase = RG_DOWN};
+    State state = {.phase = RG_PHASE_DOWN};
     if (table_n < 66 || order_n < 64 || count_n < 3) return 100;
     uint64_t why = table_refusal(table);
     if (!why) why = order_refusal(order, table[RG_TABLE_GAUGES]);

@@ -1,7 +1,9 @@
 /* Every size and every offset of include/ragymolev.h, against what the library does. First the sizes: each entry takes memory of exactly its layouts,
  * refuses one element less with RG_SHORT, and leaves one element more as it was. Then the offsets: known values go through the library, and
- * stand where the header says. */
+ * stand where the header says. Last the structs: every member is at its offset and as long as it should be, by its place and by the words that stand
+ * there, and a struct that is lent holds what the words would. */
 #include "check.h"
+#include <stddef.h>
 
 static const uint64_t first_of_k3[RG_CHAIN_WORDS] = {3, 3, 3, 2};
 static const uint64_t second_of_k3[RG_CHAIN_WORDS] = {3, 2, 2, 6};
@@ -24,10 +26,13 @@ static uint64_t pairs[RG_PAIRS_WORDS + 1], cover[RG_COVER_WORDS + 1], proposal[R
 static uint64_t test[RG_TEST_WORDS + 1], made[RG_TABLE_WORDS + 1], grown[RG_CHAIN_WORDS + 1], numbers[RG_NUMBERS_WORDS + 1];
 static uint64_t part[RG_RUN_WORDS + 1], batch[RG_BATCH_WORDS + 1], listed[RG_RUN_WORDS + 1];
 static int32_t readings[RG_READINGS + 1];
-static uint8_t bytes[BYTES];
+static uint8_t bytes[BYTES], words[RG_WORDS_BYTES + 1];
+static uint64_t plain[RG_ORDER_WORDS + 1];
 static const char file[] = "%%MatrixMarket matrix coordinate pattern general\n%note\n3 3 6\n1 1\n1 2\n2 1\n2 2\n3 2\n3 3\n";
 #define FILE_LENT (const uint8_t *)file, sizeof file - 1
 
+static uint64_t at_words(const size_t *n) { return rg_words(14, words, n[0], one, n[1]); }
+static uint64_t at_plain_order(const size_t *n) { return rg_plain_order(3, plain, n[0]); }
 static uint64_t at_read(const size_t *n) { return rg_read(FILE_LENT, made, n[0]); }
 static uint64_t at_locate(const size_t *n) { return rg_locate(FILE_LENT, 0, one, n[0]); }
 static uint64_t at_comment(const size_t *n) { return rg_comment(FILE_LENT, 1, span, n[0]); }
@@ -54,7 +59,7 @@ static uint64_t at_sequence_cases(const size_t *n) { return rg_sequence_cases(ta
 static uint64_t at_rivals(const size_t *n) { return rg_rivals(table, n[0], 1, 1, pairs, n[1]); }
 static uint64_t at_decides(const size_t *n) { return rg_decides(table, n[0], 1, 1, one, n[1]); }
 static uint64_t at_cover(const size_t *n) { return rg_cover(table, n[0], 99, cover, n[1]); }
-static uint64_t at_order(const size_t *n) { return rg_order(table, n[0], chain, n[1], ladder, n[2], bytes, BYTES, one, n[3]); }
+static uint64_t at_wiring(const size_t *n) { return rg_wiring(table, n[0], chain, n[1], ladder, n[2], bytes, BYTES, one, n[3]); }
 static uint64_t at_trial(const size_t *n) { return rg_trial(table, n[0], ladder, n[1], 3, 1, proposal, n[2]); }
 static uint64_t at_commit(const size_t *n) { return rg_commit(proposal, n[0], table, n[1], made, n[2]); }
 static uint64_t at_read_test(const size_t *n) { return rg_read_test(FILE_LENT, 5, test, n[0], readings, n[1], made, n[2]); }
@@ -69,6 +74,8 @@ typedef struct {
 } Entry;
 
 static const Entry entries[] = {
+    {"rg_words", at_words, {RG_WORDS_BYTES, RG_ONE_WORDS}},
+    {"rg_plain_order", at_plain_order, {RG_ORDER_WORDS}},
     {"rg_read", at_read, {RG_TABLE_WORDS}},
     {"rg_locate", at_locate, {RG_ONE_WORDS}},
     {"rg_comment", at_comment, {RG_SPAN_WORDS}},
@@ -93,7 +100,7 @@ static const Entry entries[] = {
     {"rg_rivals", at_rivals, {RG_TABLE_WORDS, RG_PAIRS_WORDS}},
     {"rg_decides", at_decides, {RG_TABLE_WORDS, RG_ONE_WORDS}},
     {"rg_cover", at_cover, {RG_TABLE_WORDS, RG_COVER_WORDS}},
-    {"rg_order", at_order, {RG_TABLE_WORDS, RG_CHAIN_WORDS, RG_CHAIN_WORDS, RG_ONE_WORDS}},
+    {"rg_wiring", at_wiring, {RG_TABLE_WORDS, RG_CHAIN_WORDS, RG_CHAIN_WORDS, RG_ONE_WORDS}},
     {"rg_trial", at_trial, {RG_TABLE_WORDS, RG_CHAIN_WORDS, RG_PROPOSAL_WORDS}},
     {"rg_commit", at_commit, {RG_PROPOSAL_WORDS, RG_TABLE_WORDS, RG_TABLE_WORDS}},
     {"rg_read_test", at_read_test, {RG_TEST_WORDS, RG_READINGS, RG_TABLE_WORDS}},
@@ -110,7 +117,8 @@ static void set_marks(void) {
     run[RG_RUN_WORDS] = by_cases[RG_RUN_WORDS] = step[RG_STEP_WORDS] = count[RG_COUNT_WORDS] = one[RG_ONE_WORDS] = pairs[RG_PAIRS_WORDS] = MARK;
     cover[RG_COVER_WORDS] = proposal[RG_PROPOSAL_WORDS] = span[RG_SPAN_WORDS] = test[RG_TEST_WORDS] = made[RG_TABLE_WORDS] = MARK;
     readings[RG_READINGS] = (int32_t)MARK;
-    numbers[RG_NUMBERS_WORDS] = part[RG_RUN_WORDS] = batch[RG_BATCH_WORDS] = listed[RG_RUN_WORDS] = MARK;
+    numbers[RG_NUMBERS_WORDS] = part[RG_RUN_WORDS] = batch[RG_BATCH_WORDS] = listed[RG_RUN_WORDS] = plain[RG_ORDER_WORDS] = MARK;
+    words[RG_WORDS_BYTES] = (uint8_t)MARK;
 }
 
 static int marks_stand(void) {
@@ -119,7 +127,7 @@ static int marks_stand(void) {
            count[RG_COUNT_WORDS] == MARK && one[RG_ONE_WORDS] == MARK && pairs[RG_PAIRS_WORDS] == MARK && cover[RG_COVER_WORDS] == MARK &&
            proposal[RG_PROPOSAL_WORDS] == MARK && span[RG_SPAN_WORDS] == MARK && test[RG_TEST_WORDS] == MARK && made[RG_TABLE_WORDS] == MARK &&
            readings[RG_READINGS] == (int32_t)MARK && numbers[RG_NUMBERS_WORDS] == MARK && part[RG_RUN_WORDS] == MARK &&
-           batch[RG_BATCH_WORDS] == MARK && listed[RG_RUN_WORDS] == MARK;
+           batch[RG_BATCH_WORDS] == MARK && listed[RG_RUN_WORDS] == MARK && plain[RG_ORDER_WORDS] == MARK && words[RG_WORDS_BYTES] == (uint8_t)MARK;
 }
 
 static void sizes_of(const Entry *entry) {
@@ -158,6 +166,16 @@ static void sizes(void) {
 
 /* --- offsets */
 
+static void offsets_of_words(void) {
+    int i;
+    memset(words, 'x', RG_WORDS_BYTES);
+    CHECK(rg_words(RG_NO_CHAIN, words, RG_WORDS_BYTES, one, RG_ONE_WORDS) == RG_ACCEPTED && one[0] == 11);
+    CHECK(strcmp((const char *)words, "not a chain") == 0);
+    for (i = 11; i < RG_WORDS_BYTES; i++) CHECK(words[i] == 0);
+    CHECK(rg_plain_order(3, plain, RG_ORDER_WORDS) == RG_ACCEPTED && memcmp(plain, plain_of_3, sizeof plain_of_3) == 0);
+    CHECK(rg_version() == RG_VERSION);
+}
+
 static void offsets_of_table(void) {
     static const char text[] = "%%MatrixMarket matrix coordinate pattern general\n3 4 4\n1 2\n2 1\n2 4\n3 3\n";
     uint64_t t[RG_TABLE_WORDS];
@@ -189,8 +207,8 @@ static void bytes_of_order(void) {
     CHECK(rg_sample(RG_MOST, RG_MOST, 1, 256, full, RG_TABLE_WORDS) == RG_ACCEPTED);
     none[RG_CHAIN_COUNT] = all[RG_CHAIN_COUNT] = RG_MOST;
     for (i = 0; i < RG_ROWS; i++) all[RG_CHAIN_ROWS + i] = full[RG_TABLE_ROWS + i];
-    CHECK(rg_order(full, RG_TABLE_WORDS, none, RG_CHAIN_WORDS, all, RG_CHAIN_WORDS, bytes, RG_PAIR_BYTES - 1, n, 1) == RG_BUFFER);
-    CHECK(rg_order(full, RG_TABLE_WORDS, none, RG_CHAIN_WORDS, all, RG_CHAIN_WORDS, bytes, RG_PAIR_BYTES, n, 1) == RG_ACCEPTED && n[0] == 4096);
+    CHECK(rg_wiring(full, RG_TABLE_WORDS, none, RG_CHAIN_WORDS, all, RG_CHAIN_WORDS, bytes, RG_PAIR_BYTES - 1, n, 1) == RG_BUFFER);
+    CHECK(rg_wiring(full, RG_TABLE_WORDS, none, RG_CHAIN_WORDS, all, RG_CHAIN_WORDS, bytes, RG_PAIR_BYTES, n, 1) == RG_ACCEPTED && n[0] == 4096);
     CHECK(bytes[0] == 1 && bytes[1] == 1 && bytes[2] == 1 && bytes[3] == 2);
 }
 
@@ -203,18 +221,18 @@ static void offsets_of_run(void) {
     static const uint64_t third_first[RG_ORDER_WORDS] = {3, 1, 2};
     uint64_t r[RG_RUN_WORDS], s[RG_STEP_WORDS];
     CHECK(rg_start_gauges(k3, RG_TABLE_WORDS, third_first, RG_ORDER_WORDS, 7, r, RG_RUN_WORDS) == RG_ACCEPTED);
-    CHECK(r[RG_RUN_SIDE] == RG_SIDE_GAUGES && r[RG_RUN_OMIT] == 1 && run_is(r, RG_DOWN, 0, 0, 0, 0, 0));
+    CHECK(r[RG_RUN_SIDE] == RG_SIDE_GAUGES && r[RG_RUN_OMIT] == 1 && run_is(r, RG_PHASE_DOWN, 0, 0, 0, 0, 0));
     CHECK(memcmp(r + RG_RUN_TABLE, k3, sizeof k3) == 0 && memcmp(r + RG_RUN_ORDER, third_first, sizeof third_first) == 0);
-    CHECK(rg_run_gauges(r, RG_RUN_WORDS, 2, s, RG_STEP_WORDS) == RG_ACCEPTED && run_is(r, RG_DOWN, 0, 2, 3, 1, 0));
+    CHECK(rg_run_gauges(r, RG_RUN_WORDS, 2, s, RG_STEP_WORDS) == RG_ACCEPTED && run_is(r, RG_PHASE_DOWN, 0, 2, 3, 1, 0));
     CHECK(s[RG_STEP_OUTCOME] == RG_SPENT && s[RG_STEP_MOVES] == 2 && s[RG_STEP_CHAIN] == 0);
     CHECK(rows_are(s + RG_STEP_CHAIN + RG_CHAIN_ROWS, 0, 0, 0) && rows_are(s + RG_STEP_PICKS, 0, 0, 0));
-    CHECK(rg_run_gauges(r, RG_RUN_WORDS, 9, s, RG_STEP_WORDS) == RG_ACCEPTED && run_is(r, RG_HANDED, 0, 3, 3, 1, 2));
+    CHECK(rg_run_gauges(r, RG_RUN_WORDS, 9, s, RG_STEP_WORDS) == RG_ACCEPTED && run_is(r, RG_PHASE_HANDED, 0, 3, 3, 1, 2));
     CHECK(s[RG_STEP_OUTCOME] == RG_HANDED_OUT && s[RG_STEP_MOVES] == 2);
     CHECK(memcmp(s + RG_STEP_CHAIN, second_of_k3, sizeof second_of_k3) == 0 && rows_are(s + RG_STEP_PICKS, 3, 1, 2));
-    CHECK(rg_run_gauges(r, RG_RUN_WORDS, 1, s, RG_STEP_WORDS) == RG_ACCEPTED && run_is(r, RG_BACK, 2, 2, 3, 1, 0));
+    CHECK(rg_run_gauges(r, RG_RUN_WORDS, 1, s, RG_STEP_WORDS) == RG_ACCEPTED && run_is(r, RG_PHASE_BACK, 2, 2, 3, 1, 0));
     do CHECK(rg_run_gauges(r, RG_RUN_WORDS, 9, s, RG_STEP_WORDS) == RG_ACCEPTED);
     while (s[RG_STEP_OUTCOME] != RG_END && failed == 0);
-    CHECK(run_is(r, RG_ENDED, 0, 0, 0, 0, 0));
+    CHECK(run_is(r, RG_PHASE_ENDED, 0, 0, 0, 0, 0));
     CHECK(r[RG_RUN_SIDE] == RG_SIDE_GAUGES && r[RG_RUN_OMIT] == 1 && memcmp(r + RG_RUN_ORDER, third_first, sizeof third_first) == 0);
     CHECK(RG_RUN_TABLE + RG_TABLE_WORDS == RG_RUN_ORDER && RG_RUN_ORDER + RG_ORDER_WORDS == RG_RUN_PICKS && RG_RUN_PICKS + 64 == RG_RUN_COUNT);
     CHECK(RG_RUN_OMIT + 1 == RG_RUN_WORDS && RG_STEP_CHAIN + RG_CHAIN_WORDS == RG_STEP_PICKS && RG_STEP_PICKS + 64 == RG_STEP_WORDS);
@@ -236,11 +254,11 @@ static void offsets_of_batch(void) {
     CHECK(rg_start_gauges(k3, RG_TABLE_WORDS, plain_of_3, RG_ORDER_WORDS, 0, r, RG_RUN_WORDS) == RG_ACCEPTED);
     b[RG_BATCH_WORDS + 6] = MARK;
     CHECK(rg_list_gauges(r, RG_RUN_WORDS, RG_BUDGET, b, RG_BATCH_WORDS + 7) == RG_ACCEPTED && b[RG_BATCH_OUTCOME] == RG_HANDED_OUT);
-    CHECK(b[RG_BATCH_LADDERS] == 2 && b[RG_BATCH_MOVES] == 11 && run_is(r, RG_HANDED, 0, 3, 3, 1, 2) && b[RG_BATCH_WORDS + 6] == MARK);
+    CHECK(b[RG_BATCH_LADDERS] == 2 && b[RG_BATCH_MOVES] == 11 && run_is(r, RG_PHASE_HANDED, 0, 3, 3, 1, 2) && b[RG_BATCH_WORDS + 6] == MARK);
     CHECK(memcmp(b + RG_BATCH_WORDS, first_of_k3 + RG_CHAIN_ROWS, 3 * sizeof *b) == 0);
     CHECK(memcmp(b + RG_BATCH_WORDS + 3, second_of_k3 + RG_CHAIN_ROWS, 3 * sizeof *b) == 0);
     CHECK(rg_list_gauges(r, RG_RUN_WORDS, 0, b, RG_BATCH_WORDS + 2) == RG_ACCEPTED);
-    CHECK(b[RG_BATCH_OUTCOME] == RG_HANDED_OUT && b[RG_BATCH_LADDERS] == 0 && b[RG_BATCH_MOVES] == 0 && run_is(r, RG_HANDED, 0, 3, 3, 1, 2));
+    CHECK(b[RG_BATCH_OUTCOME] == RG_HANDED_OUT && b[RG_BATCH_LADDERS] == 0 && b[RG_BATCH_MOVES] == 0 && run_is(r, RG_PHASE_HANDED, 0, 3, 3, 1, 2));
     CHECK(rg_list_gauges(r, RG_RUN_WORDS, 1, b, RG_BATCH_WORDS + 3) == RG_ACCEPTED && b[RG_BATCH_OUTCOME] == RG_SPENT && b[RG_BATCH_MOVES] == 1);
     CHECK(rg_list_gauges(r, RG_RUN_WORDS, RG_BUDGET, b, RG_BATCH_WORDS + 3) == RG_ACCEPTED && b[RG_BATCH_OUTCOME] == RG_END);
 }
@@ -332,8 +350,279 @@ static void answers(void) {
     CHECK(rg_decides(k3, RG_TABLE_WORDS, 3, 3, answer, RG_ONE_WORDS) == RG_ACCEPTED && answer[0] == RG_YES);
 }
 
+/* --- structs */
+
+/* Each word gets its own offset as its value. It is not for the compiler to see through, as a call of the library is not. */
+static void number_words(uint64_t *words, size_t n) {
+    size_t i;
+    for (i = 0; i < n; i++) words[i] = i;
+}
+static void (*volatile number)(uint64_t *, size_t) = number_words;
+
+#define IS(type, words) CHECK(sizeof(type) == sizeof(uint64_t) * (words))
+/* A member of the struct `lent`, which holds the offsets: its place, its length, and of a word or a set of words the first and the last. */
+#define PLACE(type, member, offset, words)                            \
+    CHECK(offsetof(type, member) == sizeof(uint64_t) * (offset));     \
+    CHECK(sizeof(((type *)0)->member) == sizeof(uint64_t) * (words))
+#define WORD(type, member, offset) \
+    PLACE(type, member, offset, 1); \
+    CHECK(lent.member == (offset))
+#define WORDS(type, member, offset, words)  \
+    PLACE(type, member, offset, words);     \
+    CHECK(lent.member[0] == (offset));      \
+    CHECK(lent.member[(words) - 1] == (offset) + (words) - 1)
+
+static void struct_of_table(void) {
+    rg_table lent;
+    number(RG_LEND(lent));
+    IS(rg_table, RG_TABLE_WORDS);
+    WORD(rg_table, gauges, RG_TABLE_GAUGES);
+    WORD(rg_table, cases, RG_TABLE_CASES);
+    WORDS(rg_table, rows, RG_TABLE_ROWS, RG_ROWS);
+}
+
+static void struct_of_chain(void) {
+    rg_chain lent;
+    number(RG_LEND(lent));
+    IS(rg_chain, RG_CHAIN_WORDS);
+    WORD(rg_chain, count, RG_CHAIN_COUNT);
+    WORDS(rg_chain, rows, RG_CHAIN_ROWS, RG_ROWS);
+}
+
+static void struct_of_order(void) {
+    rg_order lent;
+    number(RG_LEND(lent));
+    IS(rg_order, RG_ORDER_WORDS);
+    WORDS(rg_order, numbers, 0, RG_ORDER_WORDS);
+}
+
+static void struct_of_pairs(void) {
+    rg_pairs lent;
+    number(RG_LEND(lent));
+    IS(rg_pairs, RG_PAIRS_WORDS);
+    WORDS(rg_pairs, rows, 0, RG_ROWS);
+}
+
+static void struct_of_numbers(void) {
+    rg_numbers lent;
+    number(RG_LEND(lent));
+    IS(rg_numbers, RG_NUMBERS_WORDS);
+    WORDS(rg_numbers, numbers, 0, RG_NUMBERS_WORDS);
+}
+
+static void struct_of_run(void) {
+    rg_run lent;
+    number(RG_LEND(lent));
+    IS(rg_run, RG_RUN_WORDS);
+    WORD(rg_run, side, RG_RUN_SIDE);
+    PLACE(rg_run, table, RG_RUN_TABLE, RG_TABLE_WORDS);
+    WORD(rg_run, table.gauges, RG_RUN_TABLE + RG_TABLE_GAUGES);
+    WORD(rg_run, table.cases, RG_RUN_TABLE + RG_TABLE_CASES);
+    WORDS(rg_run, table.rows, RG_RUN_TABLE + RG_TABLE_ROWS, RG_ROWS);
+    PLACE(rg_run, order, RG_RUN_ORDER, RG_ORDER_WORDS);
+    WORDS(rg_run, order.numbers, RG_RUN_ORDER, RG_ORDER_WORDS);
+    WORDS(rg_run, picks, RG_RUN_PICKS, RG_MOST);
+    WORD(rg_run, count, RG_RUN_COUNT);
+    WORD(rg_run, phase, RG_RUN_PHASE);
+    WORD(rg_run, from, RG_RUN_FROM);
+    WORD(rg_run, omit, RG_RUN_OMIT);
+}
+
+static void struct_of_step(void) {
+    rg_step lent;
+    number(RG_LEND(lent));
+    IS(rg_step, RG_STEP_WORDS);
+    WORD(rg_step, outcome, RG_STEP_OUTCOME);
+    WORD(rg_step, moves, RG_STEP_MOVES);
+    PLACE(rg_step, chain, RG_STEP_CHAIN, RG_CHAIN_WORDS);
+    WORD(rg_step, chain.count, RG_STEP_CHAIN + RG_CHAIN_COUNT);
+    WORDS(rg_step, chain.rows, RG_STEP_CHAIN + RG_CHAIN_ROWS, RG_ROWS);
+    WORDS(rg_step, picks, RG_STEP_PICKS, RG_MOST);
+}
+
+static void struct_of_batch(void) {
+    rg_batch lent;
+    number(RG_LEND(lent));
+    IS(rg_batch, RG_BATCH_WORDS);
+    WORD(rg_batch, outcome, RG_BATCH_OUTCOME);
+    WORD(rg_batch, ladders, RG_BATCH_LADDERS);
+    WORD(rg_batch, moves, RG_BATCH_MOVES);
+}
+
+/* Room for so many ladders, and no word behind it. */
+static void struct_of_batch_64(void) {
+    static rg_batch_64 lent;
+    number(RG_LEND(lent));
+    IS(rg_batch_64, RG_BATCH_WORDS + 64 * RG_ROWS);
+    WORD(rg_batch_64, outcome, RG_BATCH_OUTCOME);
+    WORD(rg_batch_64, ladders, RG_BATCH_LADDERS);
+    WORD(rg_batch_64, moves, RG_BATCH_MOVES);
+    WORDS(rg_batch_64, rows, RG_BATCH_WORDS, 64 * RG_ROWS);
+    memset(&lent, 0, sizeof lent);
+    number(RG_LEND_BATCH(lent, 5, (uint64_t)8));
+    CHECK(lent.rows[39] == RG_BATCH_WORDS + 39 && lent.rows[40] == 0);
+    number(RG_LEND_BATCH(lent, 64, (uint64_t)RG_MOST));
+    CHECK(lent.rows[64 * RG_ROWS - 1] == RG_BATCH_WORDS + 64 * RG_ROWS - 1);
+}
+
+static void struct_of_count(void) {
+    rg_count_answer lent;
+    number(RG_LEND(lent));
+    IS(rg_count_answer, RG_COUNT_WORDS);
+    WORD(rg_count_answer, outcome, RG_COUNT_OUTCOME);
+    WORD(rg_count_answer, ladders, RG_COUNT_LADDERS);
+    WORD(rg_count_answer, calls, RG_COUNT_CALLS);
+}
+
+static void struct_of_cover(void) {
+    rg_cover_answer lent;
+    number(RG_LEND(lent));
+    IS(rg_cover_answer, RG_COVER_WORDS);
+    WORD(rg_cover_answer, outcome, RG_COVER_OUTCOME);
+    WORD(rg_cover_answer, number, RG_COVER_NUMBER);
+    WORD(rg_cover_answer, tried, RG_COVER_TRIED);
+    PLACE(rg_cover_answer, chains, RG_COVER_CHAINS, 8 * RG_CHAIN_WORDS);
+    WORD(rg_cover_answer, chains[0].count, RG_COVER_CHAINS + RG_CHAIN_COUNT);
+    WORDS(rg_cover_answer, chains[7].rows, RG_COVER_CHAINS + 7 * RG_CHAIN_WORDS + RG_CHAIN_ROWS, RG_ROWS);
+}
+
+static void struct_of_proposal(void) {
+    rg_proposal lent;
+    number(RG_LEND(lent));
+    IS(rg_proposal, RG_PROPOSAL_WORDS);
+    PLACE(rg_proposal, table, RG_PROPOSAL_TABLE, RG_TABLE_WORDS);
+    WORD(rg_proposal, table.cases, RG_PROPOSAL_TABLE + RG_TABLE_CASES);
+    PLACE(rg_proposal, chain, RG_PROPOSAL_CHAIN, RG_CHAIN_WORDS);
+    WORDS(rg_proposal, chain.rows, RG_PROPOSAL_CHAIN + RG_CHAIN_ROWS, RG_ROWS);
+    WORD(rg_proposal, gauge, RG_PROPOSAL_GAUGE);
+    WORD(rg_proposal, gauge_case, RG_PROPOSAL_CASE);
+    WORD(rg_proposal, effect, RG_PROPOSAL_EFFECT);
+}
+
+static void struct_of_test(void) {
+    rg_test lent;
+    static rg_readings values;
+    number(RG_LEND(lent));
+    IS(rg_test, RG_TEST_WORDS);
+    WORD(rg_test, kind, RG_TEST_KIND);
+    WORD(rg_test, gauges, RG_TEST_GAUGES);
+    WORD(rg_test, cases, RG_TEST_CASES);
+    WORDS(rg_test, rows, RG_TEST_ROWS, RG_ROWS);
+    CHECK(sizeof values == sizeof(int32_t) * RG_READINGS && sizeof values.at[0] == sizeof(int32_t) * RG_MOST);
+}
+
+static void struct_of_span(void) {
+    rg_span lent;
+    number(RG_LEND(lent));
+    IS(rg_span, RG_SPAN_WORDS);
+    WORD(rg_span, start, RG_SPAN_START);
+    WORD(rg_span, length, RG_SPAN_LENGTH);
+}
+
+/* K3 with gauge 3 the most trusted, by structs: its first ladder, and the other one with the end behind it in a batch. */
+static void structs_of_run(void) {
+    const rg_table t = {3, 3, {3, 3, 6}};
+    const rg_order third_first = {{3, 1, 2}};
+    rg_run r;
+    rg_step s;
+    rg_numbers n;
+    static rg_batch_64 b;
+    uint64_t pick;
+    CHECK(rg_start_gauges(RG_LEND_CONST(t), RG_LEND_CONST(third_first), 0, RG_LEND(r)) == RG_ACCEPTED);
+    CHECK(r.side == RG_SIDE_GAUGES && r.table.rows[2] == 6 && r.order.numbers[0] == 3 && r.phase == RG_PHASE_DOWN && r.omit == 0);
+    CHECK(rg_candidates_gauges(RG_LEND(r), RG_LEND(n)) == RG_ACCEPTED && n.numbers[0] == 3 && n.numbers[1] == 1 && n.numbers[2] == 0);
+    CHECK(rg_run_gauges(RG_LEND(r), RG_BUDGET, RG_LEND(s)) == RG_ACCEPTED && s.outcome == RG_HANDED_OUT && s.moves == 4);
+    CHECK(memcmp(&s.chain, second_of_k3, sizeof second_of_k3) == 0 && rows_are(s.picks, 3, 1, 2));
+    CHECK(r.count == 3 && r.phase == RG_PHASE_HANDED && r.from == 0 && rows_are(r.picks, 3, 1, 2));
+    CHECK(rg_explain_gauge(RG_LEND(r), 1, 1, RG_LEND(pick)) == RG_ACCEPTED && pick == 3);
+    CHECK(rg_list_gauges(RG_LEND(r), RG_BUDGET, RG_LEND_BATCH(b, 1, t.gauges)) == RG_ACCEPTED && b.outcome == RG_HANDED_OUT && b.ladders == 1);
+    CHECK(b.rows[0] == 3 && b.rows[1] == 3 && b.rows[2] == 2 && b.rows[3] == 0);
+    CHECK(rg_list_gauges(RG_LEND(r), RG_BUDGET, RG_LEND(b)) == RG_ACCEPTED && b.outcome == RG_END && b.ladders == 0 && r.phase == RG_PHASE_ENDED);
+}
+
+/* A RUN of a layout to come, which has another number in word 0, is refused with 15; but what is no table or no order there is seen first. */
+static void run_of_other_layout(void) {
+    const rg_table t = {3, 3, {3, 3, 6}};
+    const rg_order plain = {{1, 2, 3}};
+    rg_run r, other;
+    rg_step s;
+    uint64_t side;
+    CHECK(rg_start_gauges(RG_LEND_CONST(t), RG_LEND_CONST(plain), 0, RG_LEND(r)) == RG_ACCEPTED);
+    for (side = 0; side < 40; side++) {
+        other = r;
+        other.side = side < 20 ? side : UINT64_MAX - (side - 20);
+        CHECK(rg_run_gauges(RG_LEND(other), 0, RG_LEND(s)) == (side == RG_SIDE_GAUGES ? RG_ACCEPTED : RG_PAUSED));
+        CHECK(rg_run_cases(RG_LEND(other), 0, RG_LEND(s)) == (side == RG_SIDE_CASES ? RG_ACCEPTED : RG_PAUSED));
+    }
+    other = r;
+    other.side = 3;
+    other.order.numbers[0] = 2;
+    CHECK(rg_run_gauges(RG_LEND(other), 0, RG_LEND(s)) == RG_PREFERENCE);
+    other.table.rows[3] = 1;
+    CHECK(rg_run_gauges(RG_LEND(other), 0, RG_LEND(s)) == RG_STRAY_BITS);
+    other.table.gauges = 0;
+    CHECK(rg_run_gauges(RG_LEND(other), 0, RG_LEND(s)) == RG_SHAPE);
+}
+
+static void structs_of_answers(void) {
+    const rg_table t = {3, 3, {3, 3, 6}};
+    const rg_order plain = {{1, 2, 3}};
+    const rg_chain first = {3, {3, 3, 2}};
+    rg_count_answer n;
+    rg_cover_answer c;
+    rg_proposal p;
+    rg_pairs rival;
+    rg_span s;
+    rg_table flipped;
+    uint64_t answer;
+    CHECK(rg_judge_ladder(RG_LEND_CONST(t), RG_LEND_CONST(first), RG_LEND(answer)) == RG_ACCEPTED && answer == RG_YES);
+    CHECK(rg_count(RG_LEND_CONST(t), RG_LEND_CONST(plain), 99, RG_LEND(n)) == RG_ACCEPTED);
+    CHECK(n.outcome == RG_COUNTED && n.ladders == 2 && n.calls == 7);
+    CHECK(rg_cover(RG_LEND_CONST(t), 99, RG_LEND(c)) == RG_ACCEPTED && c.outcome == RG_COVERED && c.number == 2 && c.tried == 3);
+    CHECK(memcmp(c.chains, first_of_k3, sizeof first_of_k3) == 0 && c.chains[1].rows[2] == 6 && c.chains[2].count == 0);
+    CHECK(rg_trial(RG_LEND_CONST(t), RG_LEND_CONST(first), 3, 1, RG_LEND(p)) == RG_ACCEPTED);
+    CHECK(p.table.cases == 3 && p.chain.rows[2] == 2 && p.gauge == 3 && p.gauge_case == 1 && p.effect == RG_ONLY_CHAIN);
+    CHECK(rg_commit(RG_LEND(p), RG_LEND_CONST(t), RG_LEND(flipped)) == RG_ACCEPTED && flipped.rows[2] == 7);
+    CHECK(rg_rivals(RG_LEND_CONST(t), 3, 3, RG_LEND(rival)) == RG_ACCEPTED && rows_are(rival.rows, 1, 1, 0));
+    CHECK(rg_comment(FILE_LENT, 1, RG_LEND(s)) == RG_ACCEPTED && s.start == 49 && s.length == 5);
+}
+
+static void structs_of_test(void) {
+    static const char text[] = "%%MatrixMarket matrix coordinate integer general\n2 64 3\n1 1 -7\n2 64 9\n2 3 4\n";
+    static rg_readings r;
+    rg_test t;
+    rg_table at_five;
+    uint64_t answer;
+    CHECK(rg_read_test((const uint8_t *)text, sizeof text - 1, 5, RG_LEND(t), RG_LEND_READINGS(r), RG_LEND(at_five)) == RG_ACCEPTED);
+    CHECK(t.kind == RG_INTEGER && t.gauges == 2 && t.cases == 64 && t.rows[1] == ((uint64_t)1 << 63 | 4) && at_five.rows[1] == (uint64_t)1 << 63);
+    CHECK(r.at[0][0] == -7 && r.at[1][63] == 9 && r.at[1][2] == 4 && r.at[1][3] == 0);
+    CHECK(rg_equal(RG_LEND(t), RG_LEND_READINGS(r), RG_LEND(t), RG_LEND_READINGS(r), RG_LEND(answer)) == RG_ACCEPTED && answer == RG_YES);
+}
+
+static void structs(void) {
+    struct_of_table();
+    struct_of_chain();
+    struct_of_order();
+    struct_of_pairs();
+    struct_of_numbers();
+    struct_of_run();
+    struct_of_step();
+    struct_of_batch();
+    struct_of_batch_64();
+    struct_of_count();
+    struct_of_cover();
+    struct_of_proposal();
+    struct_of_test();
+    struct_of_span();
+    structs_of_run();
+    run_of_other_layout();
+    structs_of_answers();
+    structs_of_test();
+}
+
 int main(void) {
     sizes();
+    offsets_of_words();
     offsets_of_table();
     offsets_of_file();
     bytes_enough();
@@ -347,5 +636,6 @@ int main(void) {
     offsets_of_test();
     bytes_of_test();
     answers();
+    structs();
     return end_of_checks();
 }

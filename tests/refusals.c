@@ -58,7 +58,7 @@ static void files(void) {
     CHECK(of_file(BANNER "1 1 1\n0 1\n") == RG_PLACE);
     CHECK(of_file(BANNER "1 1 2\n1 1\n1 1\n") == RG_REPEATED);
     CHECK(of_file(BANNER "1 1 1\n") == RG_NUMBER_OF_PAIRS);
-    CHECK(of_comment(INTEGER "1 1 1\n1 1 1000001\n") == RG_READING);
+    CHECK(of_comment(INTEGER "1 1 1\n1 1 1000001\n") == RG_BAD_READING);
     CHECK(of_comment(BANNER "1 1 0\n") == RG_NO_COMMENT);
     CHECK(quiet(rg_write(k3, RG_TABLE_WORDS, bytes, 20, out, RG_ONE_WORDS)) == RG_BUFFER && bytes[0] == '\n');
 }
@@ -87,7 +87,7 @@ static void recorded(void) {
     CHECK(of_test(RG_INTEGER, 1, 2, 0) == RG_STRAY_BITS);
     CHECK(of_test(RG_INTEGER, 1, 0, 1) == RG_STRAY_BITS);
     CHECK(of_test(RG_PATTERN, 1, 1, 1) == RG_STRAY_BITS);
-    CHECK(of_test(RG_INTEGER, 1, 1, -1000001) == RG_READING);
+    CHECK(of_test(RG_INTEGER, 1, 1, -1000001) == RG_BAD_READING);
     CHECK(of_test(0, 0, 0, 0) == RG_SHAPE && of_test(0, 1, 1, 0) == RG_STRAY_BITS);
     CHECK(of_test(3, 1, 1, 0) == RG_STRAY_BITS && of_test(RG_INTEGER | (uint64_t)1 << 32, 1, 1, 1000001) == RG_STRAY_BITS);
 }
@@ -118,9 +118,17 @@ static void tables(void) {
     CHECK(quiet(rg_decides(k3, RG_TABLE_WORDS, 1, 3, out, RG_ONE_WORDS)) == RG_NO_PAIR);
     CHECK(quiet(rg_cover(wide, RG_TABLE_WORDS, 1, out, RG_COVER_WORDS)) == RG_ABOVE_EIGHT);
     CHECK(quiet(rg_trial(k3, RG_TABLE_WORDS, all, RG_CHAIN_WORDS, 1, 1, out, RG_PROPOSAL_WORDS)) == RG_NO_LADDER);
-    CHECK(quiet(rg_commit(before, RG_PROPOSAL_WORDS, k3, RG_TABLE_WORDS, out, RG_TABLE_WORDS)) == RG_PROPOSAL);
+    CHECK(quiet(rg_commit(before, RG_PROPOSAL_WORDS, k3, RG_TABLE_WORDS, out, RG_TABLE_WORDS)) == RG_OTHER_PROPOSAL);
     CHECK(quiet(rg_sample(1, 1, 0, 0, out, RG_TABLE_WORDS)) == RG_GENERATOR);
     CHECK(quiet(rg_sample(1, 1, 1, 0, out, RG_TABLE_WORDS - 1)) == RG_SHORT);
+}
+
+static void orders(void) {
+    CHECK(quiet(rg_plain_order(0, out, RG_ORDER_WORDS)) == RG_SHAPE);
+    CHECK(quiet(rg_plain_order(RG_MOST + 1, out, RG_ORDER_WORDS)) == RG_SHAPE);
+    CHECK(quiet(rg_plain_order(0, out, RG_ORDER_WORDS - 1)) == RG_SHORT);
+    CHECK(quiet(rg_words(RG_SHORT, (uint8_t *)out, RG_WORDS_BYTES - 1, out + 20, RG_ONE_WORDS)) == RG_SHORT);
+    CHECK(quiet(rg_words(RG_SHORT, (uint8_t *)out, RG_WORDS_BYTES, out + 20, 0)) == RG_SHORT);
 }
 
 static void runs(void) {
@@ -150,6 +158,7 @@ int main(void) {
     lines();
     recorded();
     tables();
+    orders();
     runs();
     crowded();
     return end_of_checks();

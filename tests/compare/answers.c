@@ -127,7 +127,7 @@ static void one_order(const uint64_t *table, const uint64_t *ladder, const uint6
         if (room < 0) continue;
         memset(bytes, 0xee, sizeof bytes);
         count[0] = 77777;
-        uint64_t why = rg_order(table, RG_TABLE_WORDS, chain, RG_CHAIN_WORDS, ladder, RG_CHAIN_WORDS, bytes, (size_t)room, count, 1);
+        uint64_t why = rg_wiring(table, RG_TABLE_WORDS, chain, RG_CHAIN_WORDS, ladder, RG_CHAIN_WORDS, bytes, (size_t)room, count, 1);
         bool fits = (uint64_t)room >= 2 * missing;
         must(why == (fits ? 0 : RG_BUFFER) && count[0] == (fits ? missing : 77777), "so many pairs, or 16");
         bool untouched = true;

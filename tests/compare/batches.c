@@ -60,7 +60,7 @@ static void every_room_and_budget(int which, const uint64_t *run) {
 static void one_value(int which, const uint64_t *run) {
     uint64_t ladders, moves;
     to_come(which, run, &ladders, &moves);
-    if (run[RG_RUN_PHASE] == RG_DOWN && run[RG_RUN_COUNT] == 0) every_room_and_budget(which, run);
+    if (run[RG_RUN_PHASE] == RG_PHASE_DOWN && run[RG_RUN_COUNT] == 0) every_room_and_budget(which, run);
     for (uint64_t k = 0; k <= ladders + 1; k++) one_batch(which, run, RG_BUDGET, k);
     for (uint64_t b = 0; b <= moves + 1; b++) one_batch(which, run, b, ladders + 1);
     ask_list(which, run, RG_BUDGET + 1, RG_BATCH_WORDS);

@@ -118,6 +118,19 @@ void must(bool holds, const char *what) {
 
 /* --- the entries */
 
+uint64_t ask_words(uint64_t number) {
+    begin(number, 0, 0, 0);
+    lend(NULL, 1, RG_WORDS_BYTES, RG_WORDS_BYTES + 1);
+    out(RG_ONE_WORDS);
+    return both(E_words);
+}
+
+uint64_t ask_plain_order(uint64_t n) {
+    begin(n, 0, 0, 0);
+    out(RG_ORDER_WORDS);
+    return both(E_plain_order);
+}
+
 uint64_t ask_read(const uint8_t *file, size_t n) {
     begin(0, 0, 0, 0);
     bytes(file, n);
@@ -245,14 +258,14 @@ uint64_t ask_cover(const uint64_t *table, uint64_t budget) {
     return both(E_cover);
 }
 
-uint64_t ask_order(const uint64_t *table, const uint64_t *chain, const uint64_t *ladder, size_t room) {
+uint64_t ask_wiring(const uint64_t *table, const uint64_t *chain, const uint64_t *ladder, size_t room) {
     begin(0, 0, 0, 0);
     words(table, RG_TABLE_WORDS);
     words(chain, RG_CHAIN_WORDS);
     words(ladder, RG_CHAIN_WORDS);
     bytes(NULL, room);
     out(RG_ONE_WORDS);
-    return both(E_order);
+    return both(E_wiring);
 }
 
 uint64_t ask_trial(const uint64_t *table, const uint64_t *ladder, uint64_t g, uint64_t c) {

@@ -26,10 +26,13 @@ void known_covers(void);
 void recorded(void);
 void files(void);
 void samples(void);
+void support(void);
 
 /* --- what an entry is asked; `which` is RG_SIDE_GAUGES or RG_SIDE_CASES. Each returns the number that the plain entry gave. */
 enum { JUDGE_CHAIN, JUDGE_LADDER };
 enum { RIVALS, DECIDES };
+uint64_t ask_words(uint64_t number);
+uint64_t ask_plain_order(uint64_t n);
 uint64_t ask_read(const uint8_t *file, size_t n);
 uint64_t ask_locate(const uint8_t *file, size_t n, uint64_t either);
 uint64_t ask_comment(const uint8_t *file, size_t n, uint64_t k);
@@ -47,7 +50,7 @@ uint64_t ask_count(const uint64_t *table, const uint64_t *order, uint64_t budget
 uint64_t ask_grow(const uint64_t *table, const uint64_t *order, const uint64_t *chain);
 uint64_t ask_pair(int about, const uint64_t *table, uint64_t g, uint64_t c);
 uint64_t ask_cover(const uint64_t *table, uint64_t budget);
-uint64_t ask_order(const uint64_t *table, const uint64_t *chain, const uint64_t *ladder, size_t room);
+uint64_t ask_wiring(const uint64_t *table, const uint64_t *chain, const uint64_t *ladder, size_t room);
 uint64_t ask_trial(const uint64_t *table, const uint64_t *ladder, uint64_t g, uint64_t c);
 uint64_t ask_commit(const uint64_t *proposal, const uint64_t *table);
 uint64_t ask_read_test(const uint8_t *file, size_t n, uint64_t cutoff);

@@ -1,7 +1,7 @@
 /* Tables up to 8 by 8 that the generator of R-13 draws, and the full ones of these shapes, each asked as the small ones are: runs of both sides under six
  * preferences with every value, reason and part; damaged values of some; rivals, deciding pairs, the claims of R-2 and counts; every set of its own pairs
- * to the judges, to growth, to orders and trials; its ladders asked for their pick sequences. Tables with at most 12 pairs are looked at whole, of 4 by 4 every set up to 16; with more, by the questions
- * that need no list of all sets. */
+ * to the judges, to growth, to orders and trials; its ladders asked for their pick sequences. Tables with at most 12 pairs are looked at whole, of 4 by 4
+ * every set up to 16; with more, by the questions that need no list of all sets. */
 #include "both.h"
 #include "damage.h"
 #include "pairs.h"
@@ -31,7 +31,7 @@ static void own_sets(const uint64_t *table, int pairs) {
         ask_judge(JUDGE_CHAIN, table, set);
         ask_judge(JUDGE_LADDER, table, set);
         ask_grow(table, orders[k % (uint64_t)count], set);
-        ask_order(table, set, ladders[k % (uint64_t)n], 2 * (size_t)pairs);
+        ask_wiring(table, set, ladders[k % (uint64_t)n], 2 * (size_t)pairs);
         ask_trial(table, set, 1 + k % table[RG_TABLE_GAUGES], 1 + k / 8 % table[RG_TABLE_CASES]);
     }
     for (int i = 0; i < n; i++) ask_trial(table, ladders[i], table[RG_TABLE_GAUGES], table[RG_TABLE_CASES]);
@@ -67,7 +67,7 @@ static void many_pairs(const uint64_t *table) {
         uint64_t run[RG_RUN_WORDS];
         ask_start(which, table, orders[n - 1], 0);
         memcpy(run, given(2), sizeof run);
-        for (int k = 0; k < 400 && run[RG_RUN_PHASE] != RG_ENDED; k++) {
+        for (int k = 0; k < 400 && run[RG_RUN_PHASE] != RG_PHASE_ENDED; k++) {
             ask_run(which, run, RG_BUDGET);
             memcpy(run, given(0), sizeof run);
             for (uint64_t p = 0; p < 100; p++) ask_explain(which, run, p / 10, p % 10);

@@ -58,7 +58,7 @@ static void whole(int which, const uint64_t *table, const uint64_t *order, uint6
     start(&w, which, table, order, 0);
     while (call(&w, RG_BUDGET) == 0 && w.step[RG_STEP_OUTCOME] == RG_HANDED_OUT && w.handed <= ladders) one_ladder(&w);
     must(w.handed == ladders, "so many ladders");
-    must(w.step[RG_STEP_OUTCOME] == RG_END && w.run[RG_RUN_PHASE] == RG_ENDED, "the end");
+    must(w.step[RG_STEP_OUTCOME] == RG_END && w.run[RG_RUN_PHASE] == RG_PHASE_ENDED, "the end");
     must(call(&w, RG_BUDGET) == 0 && w.step[RG_STEP_OUTCOME] == RG_END && w.step[RG_STEP_MOVES] == 1, "the end again, with one move");
 }
 

@@ -27,6 +27,7 @@ static const Theme themes[] = {
     {"files", files},
     {"larger", larger},
     {"samples", samples},
+    {"support", support},
     {"known_lists", known_lists},
     {"known_answers", known_answers},
 };

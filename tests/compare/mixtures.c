@@ -99,8 +99,8 @@ static void with_chains(const uint64_t *table) {
         ask_judge(JUDGE_LADDER, table, chain);
         for (int l = 0; l < CHAINS; l++) {
             odd_chain(ladder, l);
-            ask_order(table, chain, ladder, 9);
-            ask_order(table, chain, ladder, 1);
+            ask_wiring(table, chain, ladder, 9);
+            ask_wiring(table, chain, ladder, 1);
         }
         for (int p = 0; p < PLACES; p++) ask_trial(table, chain, places[p][0], places[p][1]);
     }
@@ -128,10 +128,10 @@ static void odd_run(uint64_t *run, const uint64_t *table, const uint64_t *order,
         run[RG_RUN_PICKS] = order[0] & 255;
         run[RG_RUN_PICKS + 1] = order[1] & 255;
         run[RG_RUN_COUNT] = 2;
-        run[RG_RUN_PHASE] = RG_HANDED;
+        run[RG_RUN_PHASE] = RG_PHASE_HANDED;
     }
     if (k == 2) run[RG_RUN_COUNT] = 77;
-    if (k == 3) run[RG_RUN_PHASE] = RG_ENDED;
+    if (k == 3) run[RG_RUN_PHASE] = RG_PHASE_ENDED;
 }
 
 static void one_run(int which, const uint64_t *run) {

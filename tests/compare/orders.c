@@ -5,15 +5,15 @@
 #include <string.h>
 
 static void each_room(const uint64_t *table, const uint64_t *chain, const uint64_t *ladder) {
-    if (ask_order(table, chain, ladder, 40)) {
-        ask_order(table, chain, ladder, 0);
+    if (ask_wiring(table, chain, ladder, 40)) {
+        ask_wiring(table, chain, ladder, 0);
         return;
     }
     size_t n = 2 * (size_t)given(4)[0];
-    ask_order(table, chain, ladder, n);
-    ask_order(table, chain, ladder, n + 1);
-    if (n) ask_order(table, chain, ladder, n - 1);
-    if (n) ask_order(table, chain, ladder, 0);
+    ask_wiring(table, chain, ladder, n);
+    ask_wiring(table, chain, ladder, n + 1);
+    if (n) ask_wiring(table, chain, ladder, n - 1);
+    if (n) ask_wiring(table, chain, ladder, 0);
 }
 
 static void every_set(const uint64_t *table) {
@@ -44,8 +44,8 @@ static void two_sets(const uint64_t *table, uint64_t first, uint64_t second) {
         if (how / 5 == 2) ladder[0] = 64;
         if (how / 5 == 3) ladder[2] |= 4;
         if (how / 5 == 4) ladder[3] |= 1;
-        ask_order(table, chain, ladder, 8);
-        ask_order(table, chain, ladder, 0);
+        ask_wiring(table, chain, ladder, 8);
+        ask_wiring(table, chain, ladder, 0);
     }
 }
 

@@ -31,7 +31,7 @@ static void claim(int which, const uint64_t *run, uint64_t g, uint64_t c, bool l
 static void reasons(int which, const uint64_t *run) {
     const uint64_t *table = run + RG_RUN_TABLE;
     ask_explain(3 - which, run, 1, 1);
-    if (run[RG_RUN_PHASE] != RG_HANDED) {
+    if (run[RG_RUN_PHASE] != RG_PHASE_HANDED) {
         ask_explain(which, run, 1, 1);
         ask_explain(which, run, 0, 65);
         return;
@@ -72,7 +72,7 @@ void each_value(int which, const uint64_t *table, const uint64_t *order, uint64_
     for (int moves = 0; moves < 1000; moves++) {
         ask(which, run);
         if (ended) return;
-        ended = run[RG_RUN_PHASE] == RG_ENDED;
+        ended = run[RG_RUN_PHASE] == RG_PHASE_ENDED;
         ask_run(which, run, 1);
         memcpy(run, given(0), sizeof run);
     }
