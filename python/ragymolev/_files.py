@@ -1,0 +1,46 @@
+"""Files: their bytes, and refusals that name the file and the line that decides."""
+
+from __future__ import annotations
+
+import os
+from typing import Any, List, Tuple, Union
+
+from . import _layout as h
+from ._lend import one, words
+from ._library import ask, call
+from ._refused import Refused
+
+Path = Union[str, os.PathLike]
+
+
+def bytes_of(path: Path) -> bytes:
+    """A file as far as it is looked at: one byte more than the longest that is read."""
+    with open(path, "rb") as file:
+        return file.read(h.RG_FILE_BYTES + 1)
+
+
+def line_of(file: bytes, either: bool) -> int:
+    """The line for which a file is refused, one without readings or one of either kind."""
+    line = one()
+    call("rg_locate", file, int(either), line)
+    return line[0]
+
+
+def call_on_file(name: str, source: str, either: bool, file: bytes, *given: Any) -> None:
+    """Calls an entry that reads a file; a refusal of the file names it, and its line."""
+    number = ask(name, file, *given)
+    if number != h.RG_ACCEPTED:
+        raise Refused(number, file=source, line=line_of(file, either))
+
+
+def comments(path: Path) -> Tuple[bytes, ...]:
+    """The comment lines of a file of either kind, without the ends of their lines."""
+    file, span = bytes_of(path), words(h.RG_SPAN_WORDS)
+    found: List[bytes] = []
+    while True:
+        number = ask("rg_comment", file, len(found) + 1, span)
+        if number == h.RG_NO_COMMENT:
+            return tuple(found)
+        if number != h.RG_ACCEPTED:
+            raise Refused(number, file=str(path), line=line_of(file, True))
+        found.append(file[span[h.RG_SPAN_START] :][: span[h.RG_SPAN_LENGTH]])

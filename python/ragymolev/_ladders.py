@@ -1,0 +1,101 @@
+"""Ladders, and the iterator that lists them: in batches, paused between any two of them, and pickled where it stands."""
+
+from __future__ import annotations
+
+import functools
+import itertools
+from typing import Any, Iterator, List, NamedTuple, Tuple
+
+from . import _layout as h
+from ._lend import Rows, words
+from ._library import word
+from ._lists import Listing, begins
+from ._pairs import Pairs
+
+AT_ONCE = 64  # ladders in a batch
+
+
+@functools.total_ordering
+class Ladder(Pairs):
+    """A ladder of a table: a chain that no other chain of the table contains.
+
+    Ladders are equal where they hold the same pairs. Those of one list are ordered as the list is, by their pick sequences, place by place; ladders of
+    different tables, sides or preferences have no order."""
+
+    __slots__ = ("_listing",)
+
+    _listing: Listing
+
+    def __init__(self, listing: Listing, rows: Rows) -> None:
+        super().__init__(listing.table.gauges, listing.table.cases, rows)
+        object.__setattr__(self, "_listing", listing)
+
+    @property
+    def table(self) -> Any:
+        """The table that it is a ladder of."""
+        return self._listing.table
+
+    @property
+    def picks(self) -> Tuple[int, ...]:
+        """The pick sequence: of the gauges not yet taken the one with most cases in the ladder, the first in the order on a tie. Of a ladder that was
+        listed by cases it is one of cases."""
+        return self._listing.sequence(self.rows)
+
+    def _places(self) -> List[int]:
+        return [self._listing.order.index(pick) for pick in self.picks]
+
+    def __lt__(self, other: object) -> bool:
+        if not isinstance(other, Ladder) or self._listing != other._listing:
+            return NotImplemented
+        return self._places() < other._places()
+
+    def __reduce__(self) -> Tuple[Any, ...]:
+        return Ladder, (self._listing, self.rows)
+
+
+class State(NamedTuple):
+    """Where an iterator stands: the words of its run, the ladders of the last batch that are still to come, the last of them first, and whether the run is
+    over behind them. It is put in place whole, so that a call that is interrupted leaves it as it was."""
+
+    run: Any
+    left: List[Rows]
+    over: bool
+
+
+class Ladders(Iterator[Ladder]):
+    """The ladders of a list, or of a part of it, one after the other.
+
+    Nothing is listed ahead but one batch. Between two ladders it can be left alone for any time, copied (`copy.copy`) and pickled: what comes of it goes on
+    exactly where it was. `picks` are those that the ladders of a part begin with, none of the whole list."""
+
+    def __init__(self, listing: Listing, run: Any, picks: Tuple[int, ...] = (), left: Tuple[Rows, ...] = (), over: bool = False) -> None:
+        if len(run) != h.RG_RUN_WORDS:
+            raise ValueError("a paused run has %d words, not %d" % (h.RG_RUN_WORDS, len(run)))
+        self._listing = listing
+        self._state = State(words(h.RG_RUN_WORDS, map(word, run)), list(left)[::-1], over)
+        self.picks = picks
+
+    def __iter__(self) -> "Ladders":
+        return self
+
+    def __next__(self) -> Ladder:
+        while not self._state.left:
+            if self._state.over:
+                raise StopIteration
+            self._state = self._next_batch()
+        return Ladder(self._listing, self._state.left.pop())
+
+    def _next_batch(self) -> State:
+        """Of a part, a batch that leaves the run in the part is all of the part; else it closes the part, and its first ladders may be of it."""
+        run = words(h.RG_RUN_WORDS, self._state.run)
+        over, found = self._listing.batch(run, AT_ONCE)
+        if not begins(run, self.picks):
+            over, found = True, tuple(itertools.takewhile(self._is_of_part, found))
+        return State(run, list(found)[::-1], over)
+
+    def _is_of_part(self, rows: Rows) -> bool:
+        return self._listing.sequence(rows)[: len(self.picks)] == self.picks
+
+    def __reduce__(self) -> Tuple[Any, ...]:
+        state = self._state
+        return Ladders, (self._listing, tuple(state.run), self.picks, tuple(state.left[::-1]), state.over)

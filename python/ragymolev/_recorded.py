@@ -1,0 +1,124 @@
+"""Recorded tests: what a logger's file holds, and its table at a cutoff."""
+
+from __future__ import annotations
+
+import ctypes
+from typing import Any, Dict, Tuple
+
+from . import _arrays
+from . import _layout as h
+from ._files import Path, bytes_of, call_on_file
+from ._lend import one, room, table_rows, words
+from ._library import call, word
+from ._pairs import Pair, pairs_of
+from ._refused import Refused
+from ._table import Table
+
+ANY_CUTOFF = 1  # a test is the same at every cutoff
+KINDS = {h.RG_PATTERN: "pattern", h.RG_INTEGER: "integer"}
+
+
+def blank() -> Tuple[Any, Any]:
+    """The words of a test, and its readings."""
+    return words(h.RG_TEST_WORDS), (ctypes.c_int32 * h.RG_READINGS)()
+
+
+def written(test: Any, readings: Any) -> bytes:
+    """The file of a test, where the library takes it."""
+    put, length = room(h.RG_TEST_BYTES), one()
+    call("rg_write_test", test, readings, put, length)
+    return bytes(put[: length[0]])
+
+
+def place_of(gauge: int, case: int) -> int:
+    """Where the reading of a place stands; gauge and case from 1."""
+    return (gauge - 1) * h.RG_MOST + case - 1
+
+
+class Test:
+    """A recorded test: a file of readings in microstrain, or of pairs alone. `Test.table(cutoff)` is its table: a pair exists where the magnitude of the
+    reading reaches the cutoff.
+
+    Tests are equal where they are of one kind and shape, with the same entries and the same readings; a listed zero differs from an absent entry."""
+
+    __slots__ = ("_file", "_test", "_readings")
+
+    def __init__(self, file: bytes, name: str = "bytes") -> None:
+        self._test, self._readings = blank()
+        call_on_file("rg_read_test", name, True, bytes(file), ANY_CUTOFF, self._test, self._readings, words(h.RG_TABLE_WORDS))
+        self._file = written(self._test, self._readings)
+
+    @classmethod
+    def read(cls, path: Path) -> "Test":
+        """The test of a file of either kind."""
+        return cls(bytes_of(path), str(path))
+
+    @classmethod
+    def from_array(cls, array: Any) -> "Test":
+        """The test of an array of readings, of NumPy, SciPy or lists of lists: gauges down, cases across. Of a sparse array the entries are those that it
+        holds, of any other all places. A reading is cut towards zero: its magnitude reaches a whole cutoff exactly where its whole part does."""
+        gauges, cases, entries = _arrays.entries_of(array)
+        test, readings = blank()
+        test[h.RG_TEST_KIND], test[h.RG_TEST_GAUGES], test[h.RG_TEST_CASES] = h.RG_INTEGER, word(gauges), word(cases)
+        for (gauge, case), value in entries.items() if gauges <= h.RG_MOST and cases <= h.RG_MOST else ():
+            test[h.RG_TEST_ROWS + gauge] |= 1 << case
+            readings[place_of(gauge + 1, case + 1)] = reading_of(gauge + 1, case + 1, value)
+        return cls(written(test, readings))
+
+    @property
+    def kind(self) -> str:
+        """`pattern` or `integer`."""
+        return KINDS[self._test[h.RG_TEST_KIND]]
+
+    @property
+    def gauges(self) -> int:
+        return self._test[h.RG_TEST_GAUGES]
+
+    @property
+    def cases(self) -> int:
+        return self._test[h.RG_TEST_CASES]
+
+    @property
+    def readings(self) -> Dict[Pair, int]:
+        """The reading at each entry, by gauge, then case; 0 at all of a pattern test."""
+        rows = self._test[h.RG_TEST_ROWS : h.RG_TEST_ROWS + self.gauges]
+        return {pair: self._readings[place_of(*pair)] for pair in pairs_of(rows)}
+
+    def table(self, cutoff: int) -> Table:
+        """The table at a cutoff from 1 to 1,000,000."""
+        table = words(h.RG_TABLE_WORDS)
+        call("rg_read_test", self._file, cutoff, *blank(), table)
+        return Table(*table_rows(table))
+
+    def __bytes__(self) -> bytes:
+        """The file of this test, as the library writes it."""
+        return self._file
+
+    def write(self, path: Path) -> None:
+        """Writes the file of this test."""
+        with open(path, "wb") as file:
+            file.write(self._file)
+
+    def __eq__(self, other: object) -> bool:
+        if not isinstance(other, Test):
+            return NotImplemented
+        answer = one()
+        call("rg_equal", self._test, self._readings, other._test, other._readings, answer)
+        return bool(answer[0] == h.RG_YES)
+
+    def __hash__(self) -> int:
+        return hash(self._file)
+
+    def __repr__(self) -> str:
+        return "<Test %s %d by %d: %d entries>" % (self.kind, self.gauges, self.cases, len(self.readings))
+
+    def __reduce__(self) -> Tuple[Any, ...]:
+        return Test, (self._file,)
+
+
+def reading_of(gauge: int, case: int, value: Any) -> int:
+    """A reading, cut towards zero. One that no memory holds is refused as one that is out of range."""
+    cut = int(value) if abs(value) < 2**31 else 2**31
+    if cut == 2**31:
+        raise Refused(h.RG_BAD_READING, "gauge %d, case %d" % (gauge, case))
+    return cut
