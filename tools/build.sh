@@ -1,5 +1,5 @@
-# What ./planner, ./ladders, bench/run and the tests share where they build into target/. It is sourced, by bash, with `here` the repository's folder and
-# `me` the name that messages begin with. Sources and results are named from the repository's folder.
+# What ./planner, ./ladders, ./install, bench/run and the tests share where they build into target/. It is sourced, by bash, with `here` the repository's
+# folder and `me` the name that messages begin with. Sources and results are named from the repository's folder.
 #
 # Ahead of each use a result (the library, a program) is looked at. Kept of it in target/built/ are
 #     NAME.seen    names, sizes and times of its files, when it was last found current: where they are the same nothing is read
@@ -12,6 +12,9 @@
 # shellcheck disable=SC2154
 
 archive=target/staticlib/libragymolev.a
+planner=target/planner/planner
+ladders=target/bin/ladders
+compiler=${CC:-cc}
 built=$here/target/built
 
 cannot_build() { # WORDS..
@@ -184,3 +187,21 @@ build_crate() { # NAME RESULT WHAT WORD CRATE
 }
 
 build_library() { build_crate library "$archive" library staticlib ragymolev; }
+build_ladders() { build_crate ladders "$ladders" program check ladders; }
+
+# The program of ./planner from its sources; it is put in its place whole, since another use may be starting it.
+compile_planner() {
+    mkdir -p "$here/target/planner" &&
+        "$compiler" -std=c11 -O2 "$here"/command/*.c "$here/$archive" -o "$here/$planner.new" &&
+        mv -f "$here/$planner.new" "$here/$planner"
+}
+compile_to_log() { compile_planner >"$log" 2>&1; }
+
+# Builds it where its sources, the header or the library are others; the library comes first.
+build_planner() {
+    local sources=("$here"/command/*.c "$here"/command/*.h "$here"/include/*.h)
+    sources=("${sources[@]#"$here/"}" "$archive")
+    ! current planner "$planner" "${sources[@]}" || return 0
+    command -v "$compiler" >/dev/null || cannot_build "the program is to be built, and there is no C compiler '$compiler'"
+    build_result planner "$planner" 'the compiler' compile_to_log -- "${sources[@]}"
+}
