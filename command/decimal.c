@@ -36,10 +36,11 @@ static bool take_power(Rest *rest, int64_t *power) {
     return true;
 }
 
-/* The whole part of the digits ahead of the point and behind it, with the point moved; a number beyond every reading is some such number. */
+/* The whole part of the digits ahead of the point and behind it, with the point moved; a number beyond every reading is some such number. Behind the digits of
+ * a zero there are only zeros, of which a power makes up to a million. */
 static int64_t whole_part(const char *ahead, size_t ahead_length, const char *behind, size_t behind_length, int64_t power) {
-    int64_t digits = (int64_t)ahead_length + power, whole = 0;
-    for (int64_t i = 0; i < digits && whole <= INT32_MAX; i++) {
+    int64_t digits = (int64_t)ahead_length + power, written = (int64_t)(ahead_length + behind_length), whole = 0;
+    for (int64_t i = 0; i < digits && whole <= INT32_MAX && (whole || i < written); i++) {
         size_t at = (size_t)i;
         char digit = at < ahead_length ? ahead[at] : at - ahead_length < behind_length ? behind[at - ahead_length] : '0';
         whole = whole * 10 + (digit - '0');

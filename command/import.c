@@ -120,7 +120,7 @@ static void put_entry(Import *import, uint64_t g, uint64_t c, int32_t value) {
 static int32_t reading_in(const Import *import, Text field) {
     int64_t value;
     if (!cut_decimal(field, &value)) refuse_line(import, RG_ENTRY_LINE, "is no reading", field);
-    if (value < -1000000 || value > 1000000) refuse_line(import, RG_READING, "is beyond that", field);
+    if (value < -1000000 || value > 1000000) refuse_line(import, RG_BAD_READING, "is beyond that", field);
     return (int32_t)value;
 }
 
