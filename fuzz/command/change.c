@@ -13,6 +13,8 @@ static uint64_t state;
 
 void set_seed(uint64_t seed) { state = seed; }
 
+uint64_t state_of_numbers(void) { return state; }
+
 /* Splitmix64. */
 static uint64_t any(void) {
     uint64_t z = state += 0x9e3779b97f4a7c15u;

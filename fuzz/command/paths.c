@@ -7,21 +7,28 @@
 #include <string.h>
 #include <sys/mman.h>
 
-#define MOST_EDGES 65536
-
 void __sanitizer_cov_trace_pc_guard_init(uint32_t *start, uint32_t *stop);
 void __sanitizer_cov_trace_pc_guard(uint32_t *guard);
 void __sanitizer_cov_pcs_init(const uintptr_t *start, const uintptr_t *stop);
 void __sanitizer_symbolize_pc(void *pc, const char *format, char *room, size_t length) __attribute__((weak));
 
 static uint8_t *hits; /* of this run, by edge */
-static uint8_t seen[MOST_EDGES], ever[MOST_EDGES]; /* of this target, and of any */
+static uint8_t often[UINT8_MAX + 1]; /* the bit of each count */
 static size_t edges;
 static const uintptr_t *places; /* where each edge is in the program, and whether a function begins there */
+
+static void make_often(void) {
+    static const uint8_t least[] = {1, 2, 3, 4, 8, 16, 32, 128};
+    for (int i = 1, bit = 0; i <= UINT8_MAX; i++) {
+        while (bit < 7 && i >= least[bit + 1]) bit++;
+        often[i] = (uint8_t)(1 << bit);
+    }
+}
 
 /* Called ahead of main, for each file of the command that has marks. */
 void __sanitizer_cov_trace_pc_guard_init(uint32_t *start, uint32_t *stop) {
     if (start == stop || *start) return;
+    if (!hits) make_often();
     if (!hits) hits = mmap(NULL, MOST_EDGES, PROT_READ | PROT_WRITE, MAP_SHARED | MAP_ANONYMOUS, -1, 0);
     if (hits == MAP_FAILED) hits = NULL;
     for (uint32_t *mark = start; hits && mark < stop && edges + 1 < MOST_EDGES; mark++) *mark = (uint32_t)++edges;
@@ -39,27 +46,21 @@ void clear_path(void) {
     if (hits) memset(hits, 0, edges + 1);
 }
 
-/* How often, as one bit. */
-static uint8_t often(uint8_t count) {
-    static const uint8_t least[] = {1, 2, 3, 4, 8, 16, 32, 128};
-    int bit = 0;
-    while (bit < 7 && count >= least[bit + 1]) bit++;
-    return (uint8_t)(1 << bit);
-}
-
-/* Whether the last run went a new way, which is none from now on. */
-bool new_path(void) {
-    bool found = false;
+/* Whether the last run went a way that a map does not have. */
+New new_path(const uint8_t *seen) {
+    New found = NOTHING_NEW;
     for (size_t i = 1; hits && i <= edges; i++) {
-        uint8_t bit = hits[i] ? often(hits[i]) : 0;
-        found |= (bit & ~seen[i]) != 0;
-        seen[i] |= bit;
-        ever[i] |= bit;
+        if (!(often[hits[i]] & ~seen[i])) continue;
+        if (!seen[i]) return NEW_EDGE;
+        found = NEW_COUNT;
     }
     return found;
 }
 
-void forget_paths(void) { memset(seen, 0, sizeof seen); }
+/* From now on the map has it. */
+void add_path(uint8_t *seen) {
+    for (size_t i = 1; hits && i <= edges; i++) seen[i] |= often[hits[i]];
+}
 
 static size_t count(const uint8_t *reached, size_t from, size_t end) {
     size_t found = 0;
@@ -67,18 +68,16 @@ static size_t count(const uint8_t *reached, size_t from, size_t end) {
     return found;
 }
 
-size_t edges_reached(void) { return count(seen, 1, edges + 1); }
-
-size_t edges_ever(void) { return count(ever, 1, edges + 1); }
+size_t edges_reached(const uint8_t *seen) { return count(seen, 1, edges + 1); }
 
 size_t edges_in_all(void) { return edges; }
 
-/* The functions with edges that no target has reached: how many of how many. A place is looked up as one behind a call is, by the byte ahead of it. */
-void name_unreached(void) {
+/* The functions with edges that a map does not have: how many of how many. A place is looked up as one behind a call is, by the byte ahead of it. */
+void name_unreached(const uint8_t *seen) {
     char name[256];
     for (size_t from = 1, end; places && from <= edges; from = end) {
         for (end = from + 1; end <= edges && !(places[2 * (end - 1) + 1] & 1); end++) {}
-        size_t reached = count(ever, from, end);
+        size_t reached = count(seen, from, end);
         if (reached == end - from || !__sanitizer_symbolize_pc) continue;
         __sanitizer_symbolize_pc((void *)(places[2 * (from - 1)] + 1), "%f, %s", name, sizeof name);
         const char *file = strrchr(name, '/');
