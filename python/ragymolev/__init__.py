@@ -9,6 +9,7 @@ A table is read (`Table.read`), made from rows (`Table.from_rows`), from an arra
 (`Test.read(path).table(200)`) or from four numbers (`make`). Its methods ask every question; what the library refuses is raised as `Refused`. The package
 decides nothing: it lends memory to the shared library, calls it, and gives its answers in types of Python."""
 
+from . import _layout, _library
 from ._answers import Count, Cover, Proposal, Rivals
 from ._check import Fault, Report
 from ._files import comments
@@ -19,3 +20,5 @@ from ._refused import Refused, words_of
 from ._table import Table, make
 
 __all__ = ["Count", "Cover", "Fault", "Ladder", "Ladders", "Pairs", "Proposal", "Refused", "Report", "Rivals", "Table", "Test", "comments", "make", "words_of"]
+
+__version__ = _library.release(_layout.RG_VERSION)

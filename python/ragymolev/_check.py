@@ -9,10 +9,9 @@ from . import _layout as h
 from . import _witness
 from ._ladders import Ladder, Ladders
 from ._lend import Rows, chain_words, one
-from ._library import call
 from ._lists import Listing
 from ._pairs import Chain, rows_in
-from ._refused import Refused
+from ._refused import Refused, call
 
 MOST_MISSING = 10000
 NOT_OF_TABLE = "not of this table"

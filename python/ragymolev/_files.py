@@ -7,8 +7,8 @@ from typing import Any, List, Tuple, Union
 
 from . import _layout as h
 from ._lend import one, words
-from ._library import ask, call
-from ._refused import Refused
+from ._library import ask
+from ._refused import Refused, call
 
 Path = Union[str, os.PathLike]
 

@@ -117,6 +117,7 @@ RG_SHORT = 100
 
 # What each entry is given: a number, or lent memory, which goes as a pointer and its length; `out` is written.
 ENTRIES: Dict[str, Tuple[str, ...]] = {
+    "rg_version": (),
     "rg_words": ("number", "bytes out", "words out"),
     "rg_read": ("bytes", "words out"),
     "rg_locate": ("bytes", "number", "words out"),

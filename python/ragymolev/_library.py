@@ -1,4 +1,4 @@
-"""The shared library, and calls of its entries: numbers go as words, lent memory as a pointer and its length; an answer that is not 0 is a refusal.
+"""The shared library, and calls of its entries: numbers go as words, lent memory as a pointer and its length.
 
 Which entries there are and what each is given stands in _layout.py, which is made from the header."""
 
@@ -11,9 +11,9 @@ from typing import Any, Callable, List, Tuple
 
 from . import _layout as h
 from ._find import library_path
-from ._refused import Refused
 
 GREATEST_WORD = 2**64 - 1
+MAJOR = 10000  # RG_VERSION has so many for each first number of a release, and a hundredth of it for each second
 POINTERS = {
     "words": ctypes.POINTER(ctypes.c_uint64),
     "words out": ctypes.POINTER(ctypes.c_uint64),
@@ -24,10 +24,42 @@ POINTERS = {
 }
 
 
+def release(version: int) -> str:
+    """The number of a release as it is written: 10000 is 1.0, and 10203 is 1.2.3."""
+    major, minor, patch = version // MAJOR, version // 100 % 100, version % 100
+    return "%d.%d.%d" % (major, minor, patch) if patch else "%d.%d" % (major, minor)
+
+
+def version_of(found: Any) -> int:
+    """The number of a library's release; 0 where it does not say it."""
+    if not hasattr(found, "rg_version"):
+        return 0
+    found.rg_version.restype = ctypes.c_uint64
+    return int(found.rg_version())
+
+
+def loaded(path: str) -> ctypes.CDLL:
+    """The library of a file, where it goes with the header that the layouts were made from: the first number of a release goes up where an entry or a layout
+    is no longer what it was. A library that is older may have the same first number and lack entries."""
+    try:
+        found = ctypes.CDLL(path)
+    except OSError as error:
+        raise ImportError("the library of ragymolev cannot be loaded: %s" % error, path=path) from error
+    version = version_of(found)
+    if not version:
+        raise ImportError("%s is no library of ragymolev: it has no rg_version" % path, path=path)
+    same = version // MAJOR == h.RG_VERSION // MAJOR
+    lacking = ", ".join(name for name in h.ENTRIES if not hasattr(found, name))
+    if lacking or not same:
+        why = "it lacks " + lacking if same else "the first numbers must be the same"
+        raise ImportError("%s is ragymolev %s, and this package is made for %s: %s" % (path, release(version), release(h.RG_VERSION), why), path=path)
+    return found
+
+
 @functools.lru_cache(maxsize=None)
 def library() -> ctypes.CDLL:
     """The library, loaded when it is first asked."""
-    return ctypes.CDLL(library_path())
+    return loaded(library_path())
 
 
 @functools.lru_cache(maxsize=None)
@@ -57,10 +89,3 @@ def ask(name: str, *given: Any) -> int:
     for kind, value in zip(kinds, given):
         passed += [word(value)] if kind == "number" else [value, len(value)]
     return entry(*passed)
-
-
-def call(name: str, *given: Any) -> None:
-    """Calls an entry, and raises its refusal."""
-    number = ask(name, *given)
-    if number != h.RG_ACCEPTED:
-        raise Refused(number)

@@ -7,8 +7,9 @@ from typing import Any, Iterable, NamedTuple, Optional, Sequence, Tuple
 
 from . import _layout as h
 from ._lend import Rows, chain_rows, chain_words, numbers, one, order_words, up_to_zero, words
-from ._library import ask, call
+from ._library import ask
 from ._pairs import Pair, Pairs
+from ._refused import call
 
 # Each by side: of a gauge run, of a case run.
 START = "rg_start_gauges", "rg_start_cases"

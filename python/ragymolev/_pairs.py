@@ -9,8 +9,7 @@ from . import _arrays
 from . import _layout as h
 from ._files import Path
 from ._lend import Rows, one, room, table_words
-from ._library import call
-from ._refused import Refused
+from ._refused import Refused, call
 
 Pair = Tuple[int, int]
 

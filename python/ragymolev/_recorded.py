@@ -9,9 +9,9 @@ from . import _arrays
 from . import _layout as h
 from ._files import Path, bytes_of, call_on_file
 from ._lend import one, room, table_rows, words
-from ._library import call, word
+from ._library import word
 from ._pairs import Pair, pairs_of
-from ._refused import Refused
+from ._refused import Refused, call
 from ._table import Table
 
 ANY_CUTOFF = 1  # a test is the same at every cutoff

@@ -2,14 +2,18 @@
 
 from __future__ import annotations
 
-from typing import Optional
+from typing import Any, Optional
 
-from ._words import WORDS
+from . import _layout as h
+from ._lend import one, room
+from ._library import ask
 
 
 def words_of(number: int) -> str:
-    """The words of a refusal. This is the one place that they come from."""
-    return WORDS.get(number, "a number without words")
+    """The words of a refusal's number, as the library says them: there they stand once."""
+    said, length = room(h.RG_WORDS_BYTES), one()
+    ask("rg_words", number, said, length)
+    return bytes(said[: length[0]]).decode("ascii")
 
 
 class Refused(ValueError):
@@ -27,8 +31,16 @@ class Refused(ValueError):
 
     @property
     def words(self) -> str:
+        """The words of the number."""
         return words_of(self.number)
 
     def __str__(self) -> str:
         place = "" if self.file is None else "%s:%d: " % (self.file, self.line) if self.line else "%s: " % self.file
         return "%srefused %d: %s%s" % (place, self.number, self.words, ": " + self.reason if self.reason else "")
+
+
+def call(name: str, *given: Any) -> None:
+    """Calls an entry, and raises its refusal."""
+    number = ask(name, *given)
+    if number != h.RG_ACCEPTED:
+        raise Refused(number)

@@ -12,10 +12,11 @@ from ._check import MOST_MISSING, Report, check_list
 from ._files import Path, bytes_of, call_on_file
 from ._ladders import Ladder, Ladders
 from ._lend import Rows, chain_rows, chain_words, one, room, table_rows, table_words, words
-from ._library import GREATEST_WORD, call, word
+from ._library import GREATEST_WORD, word
 from ._lists import Listing
 from ._pairs import Chain, Pair, Pairs, pairs_of, rows_in
 from ._parts import parts_of
+from ._refused import call
 
 Row = Union[int, Iterable[int]]
 Order = Optional[Iterable[int]]

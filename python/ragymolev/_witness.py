@@ -7,9 +7,9 @@ import itertools
 
 from . import _layout as h
 from ._lend import Rows, chain_rows, chain_words, one, room, words
-from ._library import call
 from ._lists import Listing
 from ._pairs import Pairs, cases_of
+from ._refused import call
 
 
 def first_case(row: int) -> int:

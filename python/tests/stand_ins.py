@@ -1,4 +1,7 @@
-"""Small stand-ins for what NumPy and SciPy hand over, so that the package is tried with their forms where neither is installed."""
+"""Small stand-ins: for what NumPy and SciPy hand over, so that the package is tried with their forms where neither is installed; and for libraries of other
+releases."""
+
+from ragymolev import _layout
 
 
 class Array:
@@ -51,3 +54,21 @@ class NumPy:
     """As the module numpy, as far as it is asked."""
 
     zeros = Zeros
+
+
+class Library:
+    """As ctypes.CDLL of a release: the entries of the header but for those that it lacks. Each answers the number of the release."""
+
+    def __init__(self, version, lacking=()):
+        for name in set(_layout.ENTRIES) - set(lacking):
+            setattr(self, name, Entry(version))
+
+
+class Entry:
+    """As a function of a library."""
+
+    def __init__(self, answer):
+        self.answer = answer
+
+    def __call__(self):
+        return self.answer

@@ -1,4 +1,4 @@
-"""The generated files are those of the header and the manual; a name that is gone from the header is found; the library is looked for where it should be."""
+"""The generated file is that of the header; a name that is gone from the header is found."""
 
 import os
 import re
@@ -8,7 +8,7 @@ import tempfile
 import unittest
 from unittest import mock
 
-from ragymolev import _find, _layout, _words
+from ragymolev import _layout
 
 from . import plain
 
@@ -22,8 +22,7 @@ def used_in(path, form):
 
 class Generated(unittest.TestCase):
     def test_made_again(self):
-        for path, text in tool.made().items():
-            self.assertEqual(tool.read(path), text, path)
+        self.assertEqual(tool.read(tool.LAYOUT), tool.made())
 
     @unittest.skipUnless(shutil.which("cc"), "there is no C compiler")
     def test_numbers_are_those_that_a_compiler_reads(self):
@@ -40,13 +39,13 @@ class Generated(unittest.TestCase):
 
     def test_entries(self):
         self.assertEqual(_layout.ENTRIES["rg_read"], ("bytes", "words out"))
-        self.assertEqual(sorted(_words.WORDS), [*range(1, 29), 100])
+        self.assertEqual(_layout.ENTRIES["rg_version"], ())
 
-    def wrong(self, old, new, said, path=tool.HEADER):
-        """What the tool says where a text is another."""
+    def wrong(self, old, new, said):
+        """What the tool says where the header is another."""
         read = tool.read
-        changed = lambda name: re.sub(old, new, read(name)) if os.path.join(tool.ROOT, name).endswith(path) else read(name)
-        self.assertNotEqual(changed(path), read(path))
+        changed = lambda name: re.sub(old, new, read(name)) if name == tool.HEADER else read(name)
+        self.assertNotEqual(changed(tool.HEADER), read(tool.HEADER))
         with mock.patch.object(tool, "read", changed), self.assertRaisesRegex(tool.Wrong, said):
             tool.made()
 
@@ -64,43 +63,11 @@ class Generated(unittest.TestCase):
         said = "ladders.f90 has %s as %s, and include/ragymolev.h as 7%s" % (name, number, number)
         self.wrong(r"(#define %s) " % name, r"\1 7", said)
 
-    def test_words_of_every_refusal(self):
-        self.wrong(r"(#define RG_GENERATOR) 28", r"\1 29", "do not number the same refusals")
-        self.wrong(r"\| 28 \| the start", "| 29 | the start", "do not number the same refusals", tool.MANUAL)
+    def test_a_header_without_entries(self):
+        with mock.patch.object(tool, "users", dict):
+            self.wrong(r"uint64_t rg_", "void rg_", "include/ragymolev.h has no numbers or no entries")
 
     def test_forms_of_numbers(self):
         lines = ["RG_A 3", "RG_B (RG_A + 0x10u * 2)", "RG_C RG_NONE", 'RG_D "1"', "RG_E(x) x", "RG_F 1UL << 4"]
         found = tool.numbers_of("".join("# define %s\n" % line for line in lines))
         self.assertEqual(found, {"RG_A": 3, "RG_B": 35, "RG_F": 16})
-
-
-class Found(unittest.TestCase):
-    def test_by_the_environment(self):
-        with mock.patch.dict(os.environ, {_find.VARIABLE: "/some/file.so"}):
-            self.assertEqual(_find.library_path(), "/some/file.so")
-
-    def found_in(self, *files):
-        """Which of some files of a folder the package `prefix/python/ragymolev` takes; none where it finds none."""
-        with tempfile.TemporaryDirectory() as folder:
-            for name in files:
-                os.makedirs(os.path.join(folder, os.path.dirname(name)), exist_ok=True)
-                with open(os.path.join(folder, name), "wb"):
-                    pass
-            here = os.path.join(folder, "prefix", "python", "ragymolev")
-            with mock.patch.object(_find, "HERE", here), mock.patch.object(_find.sys, "prefix", os.path.join(folder, "own")):
-                with mock.patch.dict(os.environ, {_find.VARIABLE: ""}), mock.patch.object(_find.ctypes.util, "find_library", lambda name: None):
-                    return os.path.relpath(_find.library_path(), folder)
-
-    def test_in_their_order(self):
-        name = _find.NAME
-        files = ["prefix/python/ragymolev/" + name, "prefix/lib/" + name, "prefix/target/staticlib/" + name, "own/lib/" + name]
-        while files:
-            self.assertEqual(self.found_in(*files), files[0])
-            files.pop(0)
-
-    def test_by_the_loader_last(self):
-        with mock.patch.object(_find, "candidates", lambda: iter(())), mock.patch.dict(os.environ, {_find.VARIABLE: ""}):
-            with mock.patch.object(_find.ctypes.util, "find_library", lambda name: "lib%s.so.1" % name):
-                self.assertEqual(_find.library_path(), "libragymolev.so.1")
-            with mock.patch.object(_find.ctypes.util, "find_library", lambda name: None), self.assertRaisesRegex(ImportError, _find.VARIABLE):
-                _find.library_path()

@@ -65,10 +65,15 @@ class Refusals(unittest.TestCase):
 
     def test_words_are_the_manuals(self):
         with open(plain.ROOT + "/docs/MANUAL.md", encoding="utf-8") as file:
-            manual = file.read()
-        for number in [*range(1, 29), 100]:
-            self.assertRegex(manual, r"(?m)^\| %d \| %s \|" % (number, re.escape(words_of(number))))
-        self.assertEqual(words_of(29), "a number without words")
+            manual = dict(re.findall(r"(?m)^\| (\d+) \| ([^|]*[^| ]) +\|", file.read()))
+        said = {str(number): words_of(number) for number in range(1, 101)}
+        numbered = {number: words for number, words in said.items() if words != "a number without words"}
+        self.assertEqual(numbered, {number: words for number, words in manual.items() if number in said})
+        self.assertEqual([*map(int, numbered)], sorted([*REFUSED, 16, 17, 100]))
+
+    def test_words_of_other_numbers(self):
+        self.assertEqual(words_of(0), "accepted")
+        self.assertEqual({words_of(number) for number in (29, 101, 2**64 - 1, 2**64, -1)}, {"a number without words"})
 
     def test_a_refusal_is_a_wrong_value(self):
         with self.assertRaises(ValueError):
