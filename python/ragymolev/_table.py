@@ -90,8 +90,11 @@ class Table(Pairs):
         return Ladders(listing, listing.start(needed))
 
     def parts(self, number: int, order: Order = None, by_cases: bool = False, needed: bool = False) -> List[Ladders]:
-        """The same list in so many parts or more, where it has so many ladders: iterators that can be pickled and listed anywhere. One after the other
-        they are the list. They need not be of one length."""
+        """The same list in so many parts or more, where the table has so many ladders: iterators that can be pickled and listed anywhere.
+
+        One after the other they are the list: that is all that is promised. How many ladders a part has, and how long it takes, is not: the list is split by
+        picks and not by what follows them, so that one part can have many times the mean, and with `needed` some may have none. `planner parts` makes them
+        about even. Where several workers list them, let there be some times as many parts as workers, and let each take the next."""
         return parts_of(Listing.of(self, order, by_cases), needed, number)
 
     def count(self, order: Order = None, budget: Optional[int] = None) -> Count:

@@ -6,7 +6,7 @@ import pickle
 import unittest
 from unittest import mock
 
-from ragymolev import Refused, Table, _layout, _lists
+from ragymolev import Refused, Table, _layout, _lists, make
 
 from . import plain
 
@@ -98,6 +98,19 @@ class Parts(unittest.TestCase):
                     parts = table.parts(number, **way)
                     self.assertEqual([ladder for part in parts for ladder in part], whole, (table, way, number))
                     self.assertGreaterEqual(len(parts), min(number, table.count().ladders))
+
+    def test_the_fewest_picks_are_split_first(self):
+        table = plain.lacks_diagonal(4)
+        self.assertEqual([part.picks for part in table.parts(1)], [()])
+        self.assertEqual([part.picks for part in table.parts(-1)], [()])
+        self.assertEqual([part.picks for part in table.parts(4)], [(1,), (2,), (3,), (4,)])
+        self.assertEqual([part.picks for part in table.parts(5)], [(1, 2), (1, 3), (1, 4), (2,), (3,), (4,)])
+        with self.assertRaises(TypeError):
+            table.parts(2.5)
+
+    def test_what_the_readme_says_of_their_lengths(self):
+        lengths = [len(list(part)) for part in make(12, 12, 7, 150).parts(64)]
+        self.assertEqual((len(lengths), round(max(lengths) * len(lengths) / sum(lengths))), (66, 8))
 
     def test_pickled_at_every_place(self):
         table = plain.lacks_diagonal(5)
