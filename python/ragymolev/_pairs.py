@@ -113,11 +113,11 @@ class Pairs:
 
     def to_array(self) -> Any:
         """A NumPy array of truth values, gauges down and cases across. NumPy must be installed."""
-        return _arrays.dense(self.gauges, self.cases, self.pairs)
+        return _arrays.dense(self.gauges, self.cases, dict.fromkeys(self.pairs, True), "bool")
 
     def to_sparse(self) -> Any:
         """The same as a sparse matrix of SciPy, in coordinates. SciPy must be installed."""
-        return _arrays.sparse(self.gauges, self.cases, self.pairs)
+        return _arrays.sparse(self.gauges, self.cases, dict.fromkeys(self.pairs, True), "bool")
 
 
 Chain = Union[Pairs, Iterable[Pair]]

@@ -3,6 +3,7 @@
 from __future__ import annotations
 
 import ctypes
+import numbers
 from typing import Any, Dict, Tuple
 
 from . import _arrays
@@ -60,7 +61,7 @@ class Test:
         gauges, cases, entries = _arrays.entries_of(array)
         test, readings = blank()
         test[h.RG_TEST_KIND], test[h.RG_TEST_GAUGES], test[h.RG_TEST_CASES] = h.RG_INTEGER, word(gauges), word(cases)
-        for (gauge, case), value in entries.items() if gauges <= h.RG_MOST and cases <= h.RG_MOST else ():
+        for (gauge, case), value in entries.items():
             test[h.RG_TEST_ROWS + gauge] |= 1 << case
             readings[place_of(gauge + 1, case + 1)] = reading_of(gauge + 1, case + 1, value)
         return cls(written(test, readings))
@@ -83,6 +84,20 @@ class Test:
         """The reading at each entry, by gauge, then case; 0 at all of a pattern test."""
         rows = self._test[h.RG_TEST_ROWS : h.RG_TEST_ROWS + self.gauges]
         return {pair: self._readings[place_of(*pair)] for pair in pairs_of(rows)}
+
+    def to_array(self) -> Any:
+        """The readings as a NumPy array of whole numbers, gauges down and cases across; 0 also where there is no entry. NumPy must be installed."""
+        return _arrays.dense(self.gauges, self.cases, self._held(), "int64")
+
+    def to_sparse(self) -> Any:
+        """The same as a sparse matrix of SciPy, in coordinates, which holds every entry, a listed zero too: `Test.from_array` makes the same test of it. SciPy
+        must be installed."""
+        return _arrays.sparse(self.gauges, self.cases, self._held(), "int64")
+
+    def _held(self) -> Dict[Pair, int]:
+        if self.kind != KINDS[h.RG_INTEGER]:
+            raise ValueError("a pattern test has no readings: its pairs are an array by table(1).to_array()")
+        return self.readings
 
     def table(self, cutoff: int) -> Table:
         """The table at a cutoff from 1 to 1,000,000."""
@@ -118,6 +133,8 @@ class Test:
 
 def reading_of(gauge: int, case: int, value: Any) -> int:
     """A reading, cut towards zero. One that no memory holds is refused as one that is out of range."""
+    if isinstance(value, numbers.Complex) and not isinstance(value, numbers.Real):
+        raise ValueError("gauge %d, case %d: %r is no reading" % (gauge, case, value))
     cut = int(value) if abs(value) < 2**31 else 2**31
     if cut == 2**31:
         raise Refused(h.RG_BAD_READING, "gauge %d, case %d" % (gauge, case))

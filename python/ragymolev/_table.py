@@ -26,10 +26,10 @@ def row_of(row: Row) -> int:
     """A row as a number: a number as it is, cases by number as their bits."""
     if not hasattr(row, "__iter__"):
         return operator.index(row)
-    cases = [operator.index(case) for case in row]
-    if any(case < 1 for case in cases):
-        raise ValueError("cases are numbered from 1")
-    return sum(1 << (case - 1) for case in set(cases))
+    cases = list(row)
+    if any(isinstance(case, bool) or operator.index(case) < 1 for case in cases):
+        raise ValueError("a row has the numbers of its cases, from 1; Table.from_array takes zeros and ones")
+    return sum(1 << (case - 1) for case in set(map(operator.index, cases)))
 
 
 class Table(Pairs):
@@ -62,14 +62,22 @@ class Table(Pairs):
     def from_rows(cls, rows: Iterable[Row], cases: Optional[int] = None) -> "Table":
         """The table of rows, one for each gauge: a number whose bit c - 1 stands for case c, or the cases by number. Without `cases` the highest case of
         all rows is the last."""
+        if isinstance(rows, Pairs):
+            return cls(rows.gauges, rows.cases if cases is None else operator.index(cases), rows.rows)
+        if len(getattr(rows, "shape", ())) > 1:
+            raise ValueError("rows are numbers or cases by number; Table.from_array takes an array of gauges by cases")
         numbers = tuple(row_of(row) for row in rows)
         highest = max((row.bit_length() for row in numbers), default=0)
         return cls(len(numbers), highest if cases is None else operator.index(cases), numbers)
 
     @classmethod
     def from_array(cls, array: Any) -> "Table":
-        """The table of an array of NumPy, a sparse array or matrix of SciPy, or lists of lists: gauges down, cases across, a pair where the value is not
-        zero."""
+        """The table of an array of NumPy, a sparse array or matrix of SciPy, or lists of lists: gauges down, cases across.
+
+        A pair is where the value is not zero, be it true, negative or infinite. A value that is no number (NaN, None of a masked array, a text) is a
+        `ValueError`. Readings are made a table by `Test.from_array` and a cutoff."""
+        if isinstance(array, Pairs):
+            return cls(array.gauges, array.cases, array.rows)
         gauges, cases, entries = _arrays.entries_of(array)
         rows = [0] * gauges
         for (gauge, case), value in entries.items():

@@ -15,15 +15,6 @@ from ragymolev import Refused, Table, comments, make
 from . import plain
 from .stand_ins import Array, Frame, NumPy, Sparse
 
-try:
-    import numpy
-except ImportError:
-    numpy = None
-try:
-    import scipy.sparse as scipy_sparse
-except ImportError:
-    scipy_sparse = None
-
 K3 = Table.from_rows([{1, 2}, {1, 2}, {2, 3}])
 FILE = b"%%MatrixMarket matrix coordinate pattern general\n3 3 6\n1 1\n1 2\n2 1\n2 2\n3 2\n3 3\n"
 
@@ -160,36 +151,31 @@ class Arrays(unittest.TestCase):
         self.assertEqual(Table.from_array(Sparse((2, 5), [])), Table.from_rows([0, 0], 5))
 
     def test_wrong_arrays(self):
-        for given in (Array((3,), [1, 2, 3]), Array((1, 1, 1), [[[1]]]), [[1, 2], [1]], [[float("nan")]], Sparse((2,), [])):
+        for given in (Array((3,), [1, 2, 3]), Array((1, 1, 1), [[[1]]]), [[1, 2], [1]], Sparse((2,), []), [1, 0], 3, ["11"], [{1, 2}, {1, 2}], {1: 2}, {1}):
             with self.assertRaises(ValueError):
                 Table.from_array(given)
-        for given in (Array((0, 3), []), Array((3, 0), [[], [], []]), [], [[]], [[1] * 65], [[1]] * 65, Sparse((65, 65), [(64, 64, 1)])):
+        for value in (float("nan"), None, "1", [1], object()):
+            for given in ([[1, 0], [0, value]], Array((2, 2), [[1, 0], [0, value]]), Sparse((2, 2), [(1, 1, value)])):
+                with self.assertRaisesRegex(ValueError, "gauge 2, case 2: .* is no number"):
+                    Table.from_array(given)
+
+    def test_wrong_sizes(self):
+        """Of an array that is too large nothing but the shape is looked at."""
+        for given in (Array((0, 3), []), Array((3, 0), [[], [], []]), [], [[]], [[1] * 65], [[1]] * 65, Array((65, 1), None), Sparse((1, 65), None)):
             with self.assertRaises(Refused) as refused:
                 Table.from_array(given)
             self.assertEqual(refused.exception.number, 10)
 
+    def test_sets_of_pairs(self):
+        ladder = next(K3.ladders())
+        for again in (Table.from_array(ladder), Table.from_rows(ladder), Table.from_rows(ladder, 3)):
+            self.assertEqual((type(again), again.pairs, again.cases), (Table, ladder.pairs, 3))
+        self.assertEqual(Table.from_rows(K3, 4).cases, 4)
+
     def test_given(self):
         with mock.patch.dict(sys.modules, {"numpy": NumPy()}):
             array = K3.to_array()
-        self.assertEqual((array.shape, array.dtype, set(array)), ((3, 3), bool, {(g - 1, c - 1) for g, c in K3}))
-
-    @unittest.skipUnless(numpy, "NumPy is not installed")
-    def test_numpy(self):
-        for table in [plain.made(table) for table in plain.random_tables(30, 22)]:
-            array = table.to_array()
-            self.assertEqual((array.shape, array.dtype), ((table.gauges, table.cases), numpy.dtype(bool)))
-            self.assertEqual(Table.from_array(array), table)
-            self.assertEqual(Table.from_array(array * -2.5), table)
-            self.assertEqual(Table.from_rows([numpy.uint64(row) for row in table.rows], numpy.int64(table.cases)), table)
-            for ladder in table.ladders(order=numpy.arange(table.gauges) + 1):
-                self.assertEqual(int(ladder.to_array().sum()), len(ladder))
-
-    @unittest.skipUnless(scipy_sparse, "SciPy is not installed")
-    def test_scipy(self):
-        for table in [plain.made(table) for table in plain.random_tables(30, 23)]:
-            held = table.to_sparse()
-            for form in (held, held.tocsr(), held.tocsc(), held.tolil(), held.todok()):
-                self.assertEqual(Table.from_array(form), table)
+        self.assertEqual((array.shape, array.dtype, set(array)), ((3, 3), "bool", {(g - 1, c - 1) for g, c in K3}))
 
 
 class Samples(unittest.TestCase):
