@@ -1,8 +1,8 @@
 """What `pip install .` calls: it makes a wheel of the package `ragymolev` with the shared library in it. A wheel is a zip file with three files about itself,
 so that neither setuptools nor any other package is needed, and nothing has to be fetched.
 
-The library is linked from the archive of the checkout (target/staticlib/libragymolev.a) by `cc`; where there is no archive it is the one that the package
-would load. The version is that of the file VERSION."""
+The library is linked from the archive of the checkout (target/staticlib/libragymolev.a) by `cc`; where there is no archive, as in an installed prefix, it is
+the one that the package would load. One that does not go with the package is not put into a wheel. The version is that of the file VERSION."""
 
 import base64
 import hashlib
@@ -12,7 +12,7 @@ import sysconfig
 import tempfile
 import zipfile
 
-from ragymolev import _find
+from ragymolev import _find, _library
 
 HERE = os.path.dirname(os.path.abspath(__file__))
 ROOT = os.path.dirname(HERE)
@@ -88,7 +88,16 @@ def library_bytes():
         path = _find.library_path()
     except ImportError:
         raise SystemExit("ragymolev: there is no library: `rt staticlib ragymolev` proves and builds it")
-    return bytes_of(path) if os.path.isfile(path) else None
+    return checked(path) if os.path.isfile(path) else None
+
+
+def checked(path):
+    """A library that the package can load: an archive may be older than the header."""
+    try:
+        _library.loaded(path)
+    except ImportError as wrong:
+        raise SystemExit("ragymolev: %s" % wrong)
+    return bytes_of(path)
 
 
 def linked():
@@ -97,7 +106,7 @@ def linked():
         path = os.path.join(folder, _find.NAME)
         whole = ["-Wl,--whole-archive", ARCHIVE, "-Wl,--no-whole-archive"]
         subprocess.run([os.environ.get("CC", "cc"), "-shared", "-o", path, *whole], check=True)
-        return bytes_of(path)
+        return checked(path)
 
 
 def record_of(files, itself):
