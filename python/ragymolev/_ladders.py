@@ -7,10 +7,11 @@ import itertools
 from typing import Any, Iterator, List, NamedTuple, Tuple
 
 from . import _layout as h
-from ._lend import Rows, words
-from ._library import word
+from ._lend import Rows, table_rows, up_to_zero, words
+from ._library import MAJOR, release, word
 from ._lists import Listing, begins
 from ._pairs import Pairs
+from ._refused import Refused
 
 AT_ONCE = 64  # ladders in a batch
 
@@ -63,16 +64,14 @@ class State(NamedTuple):
 
 
 class Ladders(Iterator[Ladder]):
-    """The ladders of a list, or of a part of it, one after the other.
+    """The ladders of a list, or of a part of it, one after the other. `Table.ladders` and `Table.parts` give them.
 
     Nothing is listed ahead but one batch. Between two ladders it can be left alone for any time, copied (`copy.copy`) and pickled: what comes of it goes on
-    exactly where it was. `picks` are those that the ladders of a part begin with, none of the whole list."""
+    exactly where it was, in another process too. `picks` are those that the ladders of a part begin with, none of the whole list."""
 
-    def __init__(self, listing: Listing, run: Any, picks: Tuple[int, ...] = (), left: Tuple[Rows, ...] = (), over: bool = False) -> None:
-        if len(run) != h.RG_RUN_WORDS:
-            raise ValueError("a paused run has %d words, not %d" % (h.RG_RUN_WORDS, len(run)))
+    def __init__(self, listing: Listing, run: Any, picks: Tuple[int, ...] = ()) -> None:
         self._listing = listing
-        self._state = State(words(h.RG_RUN_WORDS, map(word, run)), list(left)[::-1], over)
+        self._state = State(run, [], False)
         self.picks = picks
 
     def __iter__(self) -> "Ladders":
@@ -96,6 +95,41 @@ class Ladders(Iterator[Ladder]):
     def _is_of_part(self, rows: Rows) -> bool:
         return self._listing.sequence(rows)[: len(self.picks)] == self.picks
 
-    def __reduce__(self) -> Tuple[Any, ...]:
+    def __repr__(self) -> str:
+        """The table's size, the side, and the picks of a part."""
+        by_cases = ", by cases" if self._listing.by_cases else ""
+        part = ", those that begin with picks %s" % " ".join(map(str, self.picks)) if self.picks else ""
+        return "<Ladders of a table %d by %d%s%s>" % (self._listing.table.gauges, self._listing.table.cases, by_cases, part)
+
+    def __getstate__(self) -> Tuple[Any, ...]:
+        """Numbers alone: the release, which is the first in every release, and the words of the run, which have the table, the side and the preference."""
         state = self._state
-        return Ladders, (self._listing, tuple(state.run), self.picks, tuple(state.left[::-1]), state.over)
+        return h.RG_VERSION, tuple(state.run), self.picks, tuple(state.left[::-1]), state.over
+
+    def __setstate__(self, stored: Tuple[Any, ...]) -> None:
+        """Goes on from what another process stored, where the library takes it."""
+        check_release(stored[0])
+        _, run, self.picks, left, over = stored
+        if len(run) != h.RG_RUN_WORDS:
+            raise ValueError("a paused run has %d words, not %d" % (h.RG_RUN_WORDS, len(run)))
+        self._state = State(words(h.RG_RUN_WORDS, map(word, run)), list(left)[::-1], over)
+        self._listing = listing_of(self._state.run)
+
+
+def check_release(version: int) -> None:
+    """That runs of this release have the layout that they have here: the first number goes up where a layout is no longer what it was."""
+    if version // MAJOR != h.RG_VERSION // MAJOR:
+        raise ValueError("this list was paused by ragymolev %s, and %s does not know its layout" % (release(version), release(h.RG_VERSION)))
+
+
+def listing_of(run: Any) -> Listing:
+    """The list that a run is of, where the library takes it as one. Its first word tells another layout from this one."""
+    from ._table import Table  # which stands above this file
+
+    side = run[h.RG_RUN_SIDE]
+    if side not in (h.RG_SIDE_GAUGES, h.RG_SIDE_CASES):
+        raise Refused(h.RG_PAUSED, "its first word is %d, and that of this layout is %d or %d" % (side, h.RG_SIDE_GAUGES, h.RG_SIDE_CASES))
+    table = Table(*table_rows(run[h.RG_RUN_TABLE :][: h.RG_TABLE_WORDS]))
+    listing = Listing.of(table, up_to_zero(run[h.RG_RUN_ORDER :][: h.RG_ORDER_WORDS]), side == h.RG_SIDE_CASES)
+    listing.judge(run)
+    return listing

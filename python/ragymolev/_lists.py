@@ -30,9 +30,12 @@ class Listing(NamedTuple):
 
     @classmethod
     def of(cls, table: Pairs, order: Optional[Iterable[int]] = None, by_cases: bool = False) -> "Listing":
-        """Without an order it is the plain one: 1, 2, 3 and on."""
+        """Without an order it is the plain one: 1, 2, 3 and on. Zeros behind an order say nothing, as in the layout."""
         last = table.cases if by_cases else table.gauges
-        return cls(table, bool(by_cases), tuple(range(1, last + 1)) if order is None else tuple(map(operator.index, order)))
+        chosen = list(range(1, last + 1) if order is None else map(operator.index, order))
+        while chosen and chosen[-1] == 0:
+            chosen.pop()
+        return cls(table, bool(by_cases), tuple(chosen))
 
     def lent(self) -> Tuple[Any, Any]:
         """The words of the table and of the preference."""
@@ -43,6 +46,10 @@ class Listing(NamedTuple):
         run = words(h.RG_RUN_WORDS)
         call(START[self.by_cases], *self.lent(), int(bool(needed)), run)
         return run
+
+    def judge(self, run: Any) -> None:
+        """That a run is one, as a call without a move finds; what no moves lead to is refused."""
+        call(RUN[self.by_cases], words(h.RG_RUN_WORDS, run), 0, words(h.RG_STEP_WORDS))
 
     def refusal_of(self, rows: Rows) -> int:
         """The refusal of a set of pairs as a ladder; 0 where it is one."""

@@ -44,4 +44,4 @@ def parts_of(listing: Listing, needed: bool, number: int) -> List[Ladders]:
     number, parts = operator.index(number), [part_of(listing, (), listing.start(needed))]
     while len(parts) < number and any(part.candidates for part in parts):
         parts = split_shortest(listing, parts, number)
-    return [Ladders(listing, tuple(part.run), part.picks) for part in parts]
+    return [Ladders(listing, part.run, part.picks) for part in parts]

@@ -3,10 +3,14 @@
 import copy
 import itertools
 import pickle
+import pickletools
+import subprocess
+import sys
 import unittest
 from unittest import mock
 
-from ragymolev import Refused, Table, _layout, _lists, make
+import ragymolev
+from ragymolev import Refused, Table, _layout, _library, _lists, make
 
 from . import plain
 
@@ -35,14 +39,47 @@ class Pauses(unittest.TestCase):
             got.append(ladder)
         self.assertEqual(got, list(plain.lacks_diagonal(5).ladders()))
 
+    def test_every_protocol(self):
+        for protocol in range(pickle.HIGHEST_PROTOCOL + 1):
+            run = plain.lacks_diagonal(5).ladders(order=[5, 4, 1, 2, 3])
+            listed = [next(run) for _ in range(70)]
+            again = pickle.loads(pickle.dumps(run, protocol))
+            self.assertEqual(listed + list(again), list(plain.lacks_diagonal(5).ladders(order=[5, 4, 1, 2, 3])))
+
+    def test_in_another_process(self):
+        """Bytes alone go over, and what is left comes back by pick sequences."""
+        table = plain.lacks_diagonal(5)
+        going_on = "import pickle, sys; print([ladder.picks for run in pickle.load(sys.stdin.buffer) for ladder in run])"
+        for way in ({}, {"by_cases": True, "order": [2, 4, 1, 5, 3], "needed": True}):
+            run, parts = table.ladders(**way), table.parts(3, **way)
+            for one in (run, parts[1]):
+                next(one)
+            ended = subprocess.run([sys.executable, "-c", going_on], input=pickle.dumps([run, *parts]), stdout=subprocess.PIPE, check=True)
+            self.assertEqual(ended.stdout.decode().strip(), str([ladder.picks for one in (run, *parts) for ladder in one]))
+
     def test_a_copy_goes_its_own_way(self):
-        run = plain.K2.ladders()
-        next(run)
-        other = copy.copy(run)
-        self.assertEqual(next(run), next(other))
-        rest = list(run)
-        self.assertEqual(list(other), rest)
-        self.assertEqual(len(rest), 4)
+        for copied in (copy.copy, copy.deepcopy):
+            for taken in (1, 63, 64, 65):
+                run = plain.lacks_diagonal(5).ladders()
+                list(itertools.islice(run, taken))
+                other = copied(run)
+                self.assertEqual(next(run), next(other))
+                rest = list(run)
+                self.assertEqual(list(other), rest)
+                self.assertEqual(len(rest), 119 - taken)
+
+    def test_what_comes_of_a_pickle_is_of_the_same_list(self):
+        run = plain.K2.ladders(order=[3, 1, 2, 0], by_cases=True)
+        first, again = next(run), pickle.loads(pickle.dumps(run))
+        self.assertEqual(repr(again), repr(run))
+        second = next(again)
+        self.assertTrue(first < second)
+        self.assertEqual((second.table, second), (plain.K2, next(run)))
+
+    def test_pickles_name_nothing_but_the_package(self):
+        named = [argument for _, argument, _ in pickletools.genops(pickle.dumps(plain.K2.ladders())) if isinstance(argument, str)]
+        self.assertIn("ragymolev", named)
+        self.assertFalse([name for name in named if name.startswith("ragymolev.")])
 
     def test_over_stays_over(self):
         run = plain.K2.ladders()
@@ -64,17 +101,46 @@ class Pauses(unittest.TestCase):
             next(run)
         self.assertEqual(got + list(run), whole)
 
-    def test_a_damaged_run_is_refused(self):
+    def stored(self, change):
+        """An iterator that is paused within the list, as stored, with its words changed."""
         run = plain.K2.ladders()
         next(run)
-        kind, (listing, words, picks, left, over) = run.__reduce__()
-        for place, value in ((_layout.RG_RUN_COUNT, 1), (_layout.RG_RUN_PHASE, 7), (_layout.RG_RUN_PICKS, 2**64), (_layout.RG_RUN_SIDE, 2)):
-            damaged = words[:place] + (value,) + words[place + 1 :]
+        version, words, *others = run.__getstate__()
+        return run, (version, change(words), *others)
+
+    def test_a_damaged_run_is_refused_at_once(self):
+        places = _layout.RG_RUN_COUNT, _layout.RG_RUN_PHASE, _layout.RG_RUN_PICKS, _layout.RG_RUN_TABLE, _layout.RG_RUN_TABLE + 2, _layout.RG_RUN_ORDER
+        for place, value, number in zip(places, (1, 7, 2**64, 65, 2**63, 2), (15, 15, 15, 10, 11, 27)):
+            run, stored = self.stored(lambda words: words[:place] + (value,) + words[place + 1 :])
             with self.assertRaises(Refused) as refused:
-                next(kind(listing, damaged, picks, (), False))
-            self.assertEqual(refused.exception.number, 15, place)
-        with self.assertRaises(ValueError):
-            kind(listing, words[:-1], picks, left, over)
+                run.__setstate__(stored)
+            self.assertEqual(refused.exception.number, number, place)
+        run, stored = self.stored(lambda words: words[:-1])
+        with self.assertRaisesRegex(ValueError, "a paused run has 199 words, not 198"):
+            run.__setstate__(stored)
+
+    def test_a_run_of_another_layout(self):
+        """Its first word tells it."""
+        run, stored = self.stored(lambda words: (3,) + words[1:])
+        with self.assertRaises(Refused) as refused:
+            run.__setstate__(stored)
+        self.assertEqual((refused.exception.number, refused.exception.reason), (15, "its first word is 3, and that of this layout is 1 or 2"))
+
+    def test_a_pickle_of_another_release(self):
+        """Of what stands behind the number of the release nothing is looked at."""
+        run, here = plain.K2.ladders(), ragymolev.__version__
+        with mock.patch.object(ragymolev.Ladders, "__getstate__", lambda run: (_layout.RG_VERSION + 20300, "other", "things")):
+            stored = pickle.dumps(run)
+        other = _library.release(_layout.RG_VERSION + 20300)
+        with self.assertRaises(ValueError) as refused:
+            pickle.loads(stored)
+        self.assertEqual(str(refused.exception), "this list was paused by ragymolev %s, and %s does not know its layout" % (other, here))
+        run.__setstate__((_layout.RG_VERSION // 10000 * 10000 + 9999, *run.__getstate__()[1:]))
+        self.assertEqual(len(list(run)), 6)
+
+    def test_shown(self):
+        self.assertEqual(repr(plain.K2.ladders()), "<Ladders of a table 3 by 3>")
+        self.assertEqual(repr(plain.K2.parts(4, by_cases=True)[0]), "<Ladders of a table 3 by 3, by cases, those that begin with picks 1 2>")
 
     def test_a_long_list_begins_at_once(self):
         table = Table.from_rows([(2**64 - 1) ^ 1 << i for i in range(64)])

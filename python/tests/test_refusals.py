@@ -18,8 +18,9 @@ def flip_twice():
 
 
 def damaged_run():
-    kind, (listing, words, *_) = plain.K2.ladders().__reduce__()
-    next(kind(listing, words[:-2] + (1, 0)))
+    ladders = plain.K2.ladders()
+    version, words, *others = ladders.__getstate__()
+    ladders.__setstate__((version, words[:-2] + (1, 0), *others))
 
 
 # What is refused with each number. 16, 17 and 100 come from memory that is too short and from comments that are not there, which the package does not ask for.
