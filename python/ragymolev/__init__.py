@@ -23,5 +23,6 @@ __all__ = ["Count", "Cover", "Fault", "Ladder", "Ladders", "Pairs", "Proposal", 
 
 for _public in (Count, Cover, Fault, Ladder, Ladders, Pairs, Proposal, Refused, Report, Rivals, Table, Test):
     _public.__module__ = __name__  # what is pickled, and what a traceback says, does not name the file that a class stands in
+del _public
 
 __version__ = _library.release(_layout.RG_VERSION)

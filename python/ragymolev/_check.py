@@ -55,6 +55,7 @@ class Report(NamedTuple):
         return self.complete
 
     def of_kind(self, kind: str) -> Tuple[Fault, ...]:
+        """The faults of one kind, by the entries' numbers."""
         return tuple(fault for fault in self.faults if fault.kind == kind)
 
     @property
@@ -131,18 +132,15 @@ class Entries:
         return Fault(self.count, *self.kind_of(refusal, rows))
 
     def kind_of(self, refusal: int, rows: Rows) -> Tuple[str, str]:
-        table = self.listing.table
-        if refusal == h.RG_ROW_COUNT:
-            return NOT_OF_TABLE, "it has %d gauges, the table %d" % (len(rows), table.gauges)
-        if refusal == h.RG_NOT_IN_TABLE:
-            return NOT_OF_TABLE, _witness.foreign_pair(table, rows)
+        """What kind of fault a refusal is, and what shows it."""
+        table, answer = self.listing.table, one()
+        reason = _witness.reason_of_set(table, rows, refusal)
+        if refusal in (h.RG_ROW_COUNT, h.RG_NOT_IN_TABLE):
+            return NOT_OF_TABLE, reason
         if refusal != h.RG_NO_LADDER:
             raise Refused(refusal)
-        answer = one()
         call("rg_judge_chain", table._words(), chain_words(rows), answer)
-        if answer[0] == h.RG_YES:
-            return ONLY_CHAIN, _witness.pair_to_add(table, rows)
-        return NO_CHAIN, _witness.clashing_pairs(rows)
+        return ONLY_CHAIN if answer[0] == h.RG_YES else NO_CHAIN, reason
 
     def left_over(self, found: Dict[Rows, int]) -> List[Fault]:
         """The ladders that the run, at its end, has not handed out."""

@@ -41,10 +41,17 @@ class Listing(NamedTuple):
         """The words of the table and of the preference."""
         return self.table._words(), order_words(self.order)
 
+    def why(self, number: int) -> str:
+        """The preference, where that is refused."""
+        if number != h.RG_PREFERENCE:
+            return ""
+        numbered = "%d cases" % self.table.cases if self.by_cases else "%d gauges" % self.table.gauges
+        return "%s for %s" % (",".join(map(str, self.order)) or "none", numbered)
+
     def start(self, needed: bool) -> Any:
         """A fresh run of all ladders, or of those that hold a deciding pair."""
         run = words(h.RG_RUN_WORDS)
-        call(START[self.by_cases], *self.lent(), int(bool(needed)), run)
+        call(START[self.by_cases], *self.lent(), int(bool(needed)), run, why=self.why)
         return run
 
     def judge(self, run: Any) -> None:
@@ -95,7 +102,7 @@ class Listing(NamedTuple):
     def explain(self, rows: Rows, pair: Pair) -> int:
         """The pick that leaves a pair out of a ladder."""
         pick = one()
-        call(EXPLAIN[self.by_cases], self.at_ladder(rows), *pair, pick)
+        call(EXPLAIN[self.by_cases], self.at_ladder(rows), *pair, pick, why=lambda number: "%d:%d" % pair)
         return pick[0]
 
 

@@ -12,6 +12,7 @@ from ._lend import Rows, one, room, table_words
 from ._refused import Refused, call
 
 Pair = Tuple[int, int]
+MOST_SHOWN = 30  # pairs that a set is shown with; one of more is shown by how many they are
 
 
 def cases_of(row: int) -> Iterator[int]:
@@ -28,11 +29,19 @@ def pairs_of(rows: Iterable[int]) -> Tuple[Pair, ...]:
     return tuple((gauge, case) for gauge, row in enumerate(rows, 1) for case in cases_of(row))
 
 
+def pair_of(pair: Pair) -> Pair:
+    """A pair that is handed in: two whole numbers."""
+    try:
+        gauge, case = pair
+    except (TypeError, ValueError):
+        raise TypeError("a pair is (gauge, case), not %r" % (pair,)) from None
+    return operator.index(gauge), operator.index(case)
+
+
 def rows_of(pairs: Iterable[Pair], gauges: int) -> Rows:
     """The rows of pairs, at least as many as there are gauges. A pair that no table can have is refused as one that this table does not have."""
     rows: Dict[int, int] = {}
-    for gauge, case in pairs:
-        gauge, case = operator.index(gauge), operator.index(case)
+    for gauge, case in map(pair_of, pairs):
         if not (1 <= gauge <= h.RG_MOST and 1 <= case <= h.RG_MOST):
             raise Refused(h.RG_NOT_IN_TABLE, "%d:%d" % (gauge, case))
         rows[gauge] = rows.get(gauge, 0) | 1 << (case - 1)
@@ -70,7 +79,7 @@ class Pairs:
         return table_words(self.gauges, self.cases, self.rows)
 
     def __contains__(self, pair: Pair) -> bool:
-        gauge, case = map(operator.index, pair)
+        gauge, case = pair_of(pair)
         return 1 <= gauge <= len(self.rows) and 1 <= case <= self.cases and bool(self.rows[gauge - 1] >> (case - 1) & 1)
 
     def __iter__(self) -> Iterator[Pair]:
@@ -98,7 +107,9 @@ class Pairs:
         return " ".join("%d:%d" % pair for pair in self.pairs)
 
     def __repr__(self) -> str:
-        return "<%s %d by %d: %s>" % (type(self).__name__, self.gauges, self.cases, self)
+        """Its size and its pairs, or how many they are."""
+        pairs = str(self) if len(self) <= MOST_SHOWN else "%d pairs" % len(self)
+        return "<%s %d by %d: %s>" % (type(self).__name__, self.gauges, self.cases, pairs)
 
     def __bytes__(self) -> bytes:
         """The file of these pairs, as the library writes it."""

@@ -4,7 +4,7 @@ from __future__ import annotations
 
 import ctypes
 import numbers
-from typing import Any, Dict, Tuple
+from typing import Any, Callable, Dict, Tuple
 
 from . import _arrays
 from . import _layout as h
@@ -12,7 +12,7 @@ from ._files import Path, bytes_of, call_on_file
 from ._lend import one, room, table_rows, words
 from ._library import word
 from ._pairs import Pair, pairs_of
-from ._refused import Refused, call
+from ._refused import Refused, call, nothing_more
 from ._table import Table
 
 ANY_CUTOFF = 1  # a test is the same at every cutoff
@@ -24,10 +24,10 @@ def blank() -> Tuple[Any, Any]:
     return words(h.RG_TEST_WORDS), (ctypes.c_int32 * h.RG_READINGS)()
 
 
-def written(test: Any, readings: Any) -> bytes:
+def written(test: Any, readings: Any, why: Callable[[int], str] = nothing_more) -> bytes:
     """The file of a test, where the library takes it."""
     put, length = room(h.RG_TEST_BYTES), one()
-    call("rg_write_test", test, readings, put, length)
+    call("rg_write_test", test, readings, put, length, why=why)
     return bytes(put[: length[0]])
 
 
@@ -43,6 +43,7 @@ class Test:
     Tests are equal where they are of one kind and shape, with the same entries and the same readings; a listed zero differs from an absent entry."""
 
     __slots__ = ("_file", "_test", "_readings")
+    __test__ = False  # pytest takes it for no test of its own
 
     def __init__(self, file: bytes, name: str = "bytes") -> None:
         self._test, self._readings = blank()
@@ -63,8 +64,8 @@ class Test:
         test[h.RG_TEST_KIND], test[h.RG_TEST_GAUGES], test[h.RG_TEST_CASES] = h.RG_INTEGER, word(gauges), word(cases)
         for (gauge, case), value in entries.items():
             test[h.RG_TEST_ROWS + gauge] |= 1 << case
-            readings[place_of(gauge + 1, case + 1)] = reading_of(gauge + 1, case + 1, value)
-        return cls(written(test, readings))
+            readings[place_of(gauge + 1, case + 1)] = cut((gauge, case), value)
+        return cls(written(test, readings, lambda number: "%d by %d" % (gauges, cases) if number == h.RG_SHAPE else largest(entries)))
 
     @property
     def kind(self) -> str:
@@ -73,10 +74,12 @@ class Test:
 
     @property
     def gauges(self) -> int:
+        """How many gauges it has."""
         return self._test[h.RG_TEST_GAUGES]
 
     @property
     def cases(self) -> int:
+        """How many cases it has."""
         return self._test[h.RG_TEST_CASES]
 
     @property
@@ -102,7 +105,7 @@ class Test:
     def table(self, cutoff: int) -> Table:
         """The table at a cutoff from 1 to 1,000,000."""
         table = words(h.RG_TABLE_WORDS)
-        call("rg_read_test", self._file, cutoff, *blank(), table)
+        call("rg_read_test", self._file, cutoff, *blank(), table, why=lambda number: str(cutoff))
         return Table(*table_rows(table))
 
     def __bytes__(self) -> bytes:
@@ -131,11 +134,20 @@ class Test:
         return Test, (self._file,)
 
 
-def reading_of(gauge: int, case: int, value: Any) -> int:
+def shown(place: _arrays.Place, value: Any) -> str:
+    return "gauge %d, case %d: %r" % (place[0] + 1, place[1] + 1, value)
+
+
+def largest(entries: Dict[_arrays.Place, Any]) -> str:
+    """The first of the readings with the greatest magnitude: where some are out of range, it is."""
+    place = max(entries, key=lambda place: abs(entries[place]))
+    return shown(place, entries[place])
+
+
+def cut(place: _arrays.Place, value: Any) -> int:
     """A reading, cut towards zero. One that no memory holds is refused as one that is out of range."""
     if isinstance(value, numbers.Complex) and not isinstance(value, numbers.Real):
-        raise ValueError("gauge %d, case %d: %r is no reading" % (gauge, case, value))
-    cut = int(value) if abs(value) < 2**31 else 2**31
-    if cut == 2**31:
-        raise Refused(h.RG_BAD_READING, "gauge %d, case %d" % (gauge, case))
-    return cut
+        raise ValueError(shown(place, value) + " is no reading")
+    if not abs(value) < 2**31:
+        raise Refused(h.RG_BAD_READING, shown(place, value))
+    return int(value)

@@ -2,7 +2,7 @@
 
 from __future__ import annotations
 
-from typing import Any, Optional
+from typing import Any, Callable, Optional
 
 from . import _layout as h
 from ._lend import one, room
@@ -39,8 +39,12 @@ class Refused(ValueError):
         return "%srefused %d: %s%s" % (place, self.number, self.words, ": " + self.reason if self.reason else "")
 
 
-def call(name: str, *given: Any) -> None:
-    """Calls an entry, and raises its refusal."""
+def nothing_more(number: int) -> str:
+    return ""
+
+
+def call(name: str, *given: Any, why: Callable[[int], str] = nothing_more) -> None:
+    """Calls an entry, and raises its refusal. `why` says more about a number: which value or which pair it is; the library has decided before."""
     number = ask(name, *given)
     if number != h.RG_ACCEPTED:
-        raise Refused(number)
+        raise Refused(number, why(number))

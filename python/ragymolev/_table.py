@@ -2,10 +2,11 @@
 
 from __future__ import annotations
 
+import functools
 import operator
-from typing import Any, Iterable, List, Optional, Tuple, Union
+from typing import Any, Callable, Iterable, List, Optional, Tuple, Union
 
-from . import _arrays
+from . import _arrays, _witness
 from . import _layout as h
 from ._answers import Count, Cover, Proposal, Rivals
 from ._check import MOST_MISSING, Report, check_list
@@ -14,9 +15,9 @@ from ._ladders import Ladder, Ladders
 from ._lend import Rows, chain_rows, chain_words, one, room, table_rows, table_words, words
 from ._library import GREATEST_WORD, word
 from ._lists import Listing
-from ._pairs import Chain, Pair, Pairs, pairs_of, rows_in
+from ._pairs import Chain, Pair, Pairs, pair_of, pairs_of, rows_in
 from ._parts import parts_of
-from ._refused import call
+from ._refused import Refused, call
 
 Row = Union[int, Iterable[int]]
 Order = Optional[Iterable[int]]
@@ -32,6 +33,15 @@ def row_of(row: Row) -> int:
     return sum(1 << (case - 1) for case in set(map(operator.index, cases)))
 
 
+def reason_of_table(gauges: int, cases: int, rows: Rows, number: int) -> str:
+    """Its size, where that is refused; else what lies outside of it."""
+    if number == h.RG_SHAPE:
+        return "%d by %d" % (gauges, cases)
+    if any(rows[gauges:]):
+        return "%d rows for %d gauges" % (len(rows), gauges)
+    return next(("%d:%d of %d cases" % (gauge, case, cases) for gauge, case in pairs_of(rows) if case > cases), "")
+
+
 class Table(Pairs):
     """A response table: G gauges and L cases, each 1 to 64, and the pairs of a gauge and a case that it responds to.
 
@@ -40,8 +50,9 @@ class Table(Pairs):
     __slots__ = ()
 
     def __init__(self, gauges: int, cases: int, rows: Rows) -> None:
-        table = table_words(gauges, cases, tuple(rows))
-        call("rg_write", table, room(h.RG_TABLE_BYTES), one())
+        rows = tuple(rows)
+        table = table_words(gauges, cases, rows)
+        call("rg_write", table, room(h.RG_TABLE_BYTES), one(), why=lambda number: reason_of_table(gauges, cases, rows, number))
         super().__init__(*table_rows(table))
 
     # --- where tables come from
@@ -109,7 +120,8 @@ class Table(Pairs):
         """How many ladders there are, without listing them: by one call for each pick sequence that a gauge run can come to, at most as many as the budget
         has, which is 1,000,000 where none is given. The number is the same under every preference, the calls are not."""
         count = words(h.RG_COUNT_WORDS)
-        call("rg_count", *Listing.of(self, order).lent(), h.RG_BUDGET if budget is None else budget, count)
+        listing = Listing.of(self, order)
+        call("rg_count", *listing.lent(), h.RG_BUDGET if budget is None else budget, count, why=lambda number: listing.why(number) or str(budget))
         counted = count[h.RG_COUNT_OUTCOME] == h.RG_COUNTED
         return Count(count[h.RG_COUNT_LADDERS] if counted else None, count[h.RG_COUNT_CALLS])
 
@@ -117,7 +129,8 @@ class Table(Pairs):
         """The fewest ladders that together hold every pair, of a table up to 8 by 8 with at most 1,024 ladders. The budget is one of ladders to try,
         1,000,000 where none is given. A thread that asks this should have 2 MB of stack."""
         cover = words(h.RG_COVER_WORDS)
-        call("rg_cover", self._words(), h.RG_BUDGET if budget is None else budget, cover)
+        more = {h.RG_OVER_BUDGET: str(budget), h.RG_ABOVE_EIGHT: "%d by %d" % (self.gauges, self.cases)}
+        call("rg_cover", self._words(), h.RG_BUDGET if budget is None else budget, cover, why=lambda number: more.get(number, ""))
         if cover[h.RG_COVER_OUTCOME] != h.RG_COVERED:
             return Cover(None, cover[h.RG_COVER_TRIED])
         starts = [h.RG_COVER_CHAINS + i * h.RG_CHAIN_WORDS for i in range(cover[h.RG_COVER_NUMBER])]
@@ -134,35 +147,40 @@ class Table(Pairs):
 
     def judge(self, chain: Chain) -> str:
         """What a set of pairs of the table is: `ladder`, `chain` (and no ladder) or `no chain`."""
-        set_of_pairs, answer = self._chain(chain), one()
-        call("rg_judge_ladder", self._words(), set_of_pairs, answer)
+        rows, answer = rows_in(chain, self.gauges), one()
+        call("rg_judge_ladder", self._words(), chain_words(rows), answer, why=self._why(rows))
         if answer[0] == h.RG_YES:
             return "ladder"
-        call("rg_judge_chain", self._words(), set_of_pairs, answer)
+        call("rg_judge_chain", self._words(), chain_words(rows), answer)
         return "chain" if answer[0] == h.RG_YES else "no chain"
 
     def grow(self, chain: Chain, order: Order = None) -> Ladder:
         """The first ladder that contains a chain, in gauge order under a preference."""
-        ladder, listing = words(h.RG_CHAIN_WORDS), Listing.of(self, order)
-        call("rg_grow", *listing.lent(), self._chain(chain), ladder)
+        ladder, listing, rows = words(h.RG_CHAIN_WORDS), Listing.of(self, order), rows_in(chain, self.gauges)
+        call("rg_grow", *listing.lent(), chain_words(rows), ladder, why=lambda number: listing.why(number) or self._why(rows)(number))
         return Ladder(listing, chain_rows(ladder))
 
     def order(self, chain: Chain, ladder: Chain) -> Tuple[Pair, ...]:
         """The pairs that a chain lacks of a ladder, in an order to wire them: after each of them the set is still a chain."""
-        put, count = room(h.RG_PAIR_BYTES), one()
-        call("rg_wiring", self._words(), self._chain(chain), self._chain(ladder), put, count)
+        put, count, first, last = room(h.RG_PAIR_BYTES), one(), rows_in(chain, self.gauges), rows_in(ladder, self.gauges)
+        why = functools.partial(_witness.reason_of_wiring, self, first, last)
+        call("rg_wiring", self._words(), chain_words(first), chain_words(last), put, count, why=why)
         return tuple((put[2 * i], put[2 * i + 1]) for i in range(count[0]))
 
     def explain(self, ladder: Chain, pair: Pair, order: Order = None, by_cases: bool = False) -> int:
         """Why a pair of the table is left out of a ladder: by the first picked gauge that does not respond under the pair's case. By cases it is the first
         picked case that the pair's gauge does not respond under."""
-        return Listing.of(self, order, by_cases).explain(rows_in(ladder, self.gauges), pair)
+        listing, rows = Listing.of(self, order, by_cases), rows_in(ladder, self.gauges)
+        refusal = listing.refusal_of(rows)
+        if refusal != h.RG_ACCEPTED:
+            raise Refused(refusal, listing.why(refusal) or self._why(rows)(refusal))
+        return listing.explain(rows, pair_of(pair))
 
     def rivals(self, pair: Pair) -> Rivals:
         """The rivals of a pair g:c, which are the pairs h:d such that the table has neither g:d nor h:c: no ladder holds a pair and a rival of it. And
         whether the pair decides: no other pair's rivals strictly contain its own."""
-        found, answer = words(h.RG_PAIRS_WORDS), one()
-        call("rg_rivals", self._words(), *pair, found)
+        found, answer, pair = words(h.RG_PAIRS_WORDS), one(), pair_of(pair)
+        call("rg_rivals", self._words(), *pair, found, why=lambda number: "%d:%d" % pair)
         call("rg_decides", self._words(), *pair, answer)
         return Rivals(pairs_of(found), answer[0] == h.RG_YES)
 
@@ -170,18 +188,20 @@ class Table(Pairs):
 
     def trial(self, ladder: Chain, place: Pair) -> Proposal:
         """What flipping the entry at a place (gauge, case) would do to a ladder."""
-        proposed = words(h.RG_PROPOSAL_WORDS)
-        call("rg_trial", self._words(), self._chain(ladder), *place, proposed)
+        proposed, rows, place = words(h.RG_PROPOSAL_WORDS), rows_in(ladder, self.gauges), pair_of(place)
+        why = lambda number: "%d:%d" % place if number == h.RG_PLACE else self._why(rows)(number)
+        call("rg_trial", self._words(), chain_words(rows), *place, proposed, why=why)
         return Proposal(self, tuple(proposed))
 
     def commit(self, proposal: Proposal) -> "Table":
         """The table with the entry of a proposal flipped, where that is what the trial on this table gives."""
-        flipped = words(h.RG_TABLE_WORDS)
-        call("rg_commit", words(h.RG_PROPOSAL_WORDS, map(word, proposal._words)), self._words(), flipped)
+        flipped, other = words(h.RG_TABLE_WORDS), "" if proposal.table == self else "the trial was made on another table"
+        call("rg_commit", words(h.RG_PROPOSAL_WORDS, map(word, proposal._words)), self._words(), flipped, why=lambda number: other)
         return Table(*table_rows(flipped))
 
-    def _chain(self, chain: Chain) -> Any:
-        return chain_words(rows_in(chain, self.gauges))
+    def _why(self, rows: Rows) -> Callable[[int], str]:
+        """Why a set of pairs is refused, by number."""
+        return functools.partial(_witness.reason_of_set, self, rows)
 
     def _ladder(self, chain: Any) -> Ladder:
         return Ladder(Listing.of(self), chain_rows(chain))
@@ -192,6 +212,6 @@ def make(gauges: int, cases: int, start: int, density: int) -> Table:
     average."""
     if not 0 <= operator.index(start) <= GREATEST_WORD:
         raise ValueError("a start has 64 bits")
-    table = words(h.RG_TABLE_WORDS)
-    call("rg_sample", gauges, cases, start, density, table)
+    table, four = words(h.RG_TABLE_WORDS), (gauges, cases, start, density)
+    call("rg_sample", *four, table, why=lambda number: "%d by %d" % four[:2] if number == h.RG_SHAPE else "start %d, density %d" % four[2:])
     return Table(*table_rows(table))

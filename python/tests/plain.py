@@ -1,10 +1,12 @@
-"""The second implementation, .ci/plain_planner.py, and tables to compare with it: there a table is G, L and a set of pairs."""
+"""The second implementation, .ci/plain_planner.py, and tables to compare with it: there a table is G, L and a set of pairs. And the examples of documents."""
 
+import doctest
 import importlib.machinery
 import importlib.util
 import itertools
 import os
 import random
+import re
 import sys
 
 from ragymolev import Table
@@ -63,3 +65,27 @@ K2 = Table.from_rows([{2, 3}, {1, 3}, {1, 2}])
 def lacks_diagonal(n):
     """The table of which gauge g lacks case g alone: n! ladders."""
     return Table.from_rows([set(range(1, n + 1)) - {g} for g in range(1, n + 1)], n)
+
+
+def text_of(name):
+    with open(os.path.join(ROOT, name), encoding="utf-8") as file:
+        return file.read()
+
+
+def section_of(text, title):
+    """A section of a document, up to the next; nothing where it has none of this title."""
+    found = re.search(r"(?ms)^## %s$.*?(?=^## |\Z)" % title, text)
+    return found[0] if found else ""
+
+
+def said_of_examples(name, text):
+    """What is said of the examples in a text, run in the repository: nothing where all of them give what stands there, and there are some."""
+    test = doctest.DocTestParser().get_doctest(re.sub(r"(?m)^```.*$", "", text), {}, name, name, 0)
+    said = [] if test.examples else ["%s has no examples" % name]
+    before = os.getcwd()
+    os.chdir(ROOT)
+    try:
+        doctest.DocTestRunner(verbose=False).run(test, out=said.append)
+    finally:
+        os.chdir(before)
+    return "".join(said)

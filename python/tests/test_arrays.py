@@ -146,6 +146,12 @@ class Dense(Case):
             Test.read(plain.of_example("k2.mtx")).to_array()
 
 
+@unittest.skipUnless(numpy and scipy_sparse, "NumPy or SciPy is not installed")
+class Documents(unittest.TestCase):
+    def test_examples(self):
+        self.assertEqual(plain.said_of_examples("python/README.md", plain.section_of(plain.text_of("python/README.md"), "Arrays")), "")
+
+
 @unittest.skipUnless(scipy_sparse, "SciPy is not installed")
 class Sparse(Case):
     def forms_of(self, array):

@@ -1,9 +1,9 @@
 """The package is documented and its types are annotated; the examples in the documents give what stands there."""
 
-import doctest
+import importlib
 import inspect
 import os
-import re
+import pkgutil
 import typing
 import unittest
 
@@ -11,33 +11,52 @@ import ragymolev
 
 from . import plain
 
+# Where a table comes from and goes to, and what it is asked.
+METHODS = (
+    "read from_bytes from_rows from_array write to_array to_sparse ladders parts count grow judge rivals explain cover order trial commit check".split()
+)
+
 
 def functions_of(thing):
-    """A function, or the functions and properties that a class has of its own."""
+    """A function, or by name the functions and properties that a class has of its own."""
     if not inspect.isclass(thing):
-        return [thing]
-    found = []
-    for name, member in vars(thing).items():
-        member = member.fget if isinstance(member, property) else getattr(member, "__func__", member)
-        if inspect.isfunction(member) and member.__module__.startswith("ragymolev") and not (name.startswith("_") and name != "__init__"):
-            found.append(member)
-    return found
+        return {thing.__name__: thing}
+    members = {name: member.fget if isinstance(member, property) else getattr(member, "__func__", member) for name, member in vars(thing).items()}
+    return {name: member for name, member in members.items() if inspect.isfunction(member) and member.__module__.startswith("ragymolev")}
+
+
+def modules():
+    """Every file of the package."""
+    return [ragymolev] + [importlib.import_module("ragymolev." + found.name) for found in pkgutil.iter_modules(ragymolev.__path__)]
+
+
+def defined_in(module):
+    """The functions and classes that stand in a file."""
+    things = [thing for thing in vars(module).values() if inspect.isfunction(thing) or inspect.isclass(thing)]
+    return [thing for thing in things if thing.__module__ == module.__name__ or module is ragymolev]
 
 
 class Package(unittest.TestCase):
     def test_every_name_is_documented(self):
         for name in ragymolev.__all__:
-            self.assertTrue(inspect.getdoc(getattr(ragymolev, name)), name)
-        for name in ("read", "from_rows", "from_array", "write", "ladders", "count", "grow", "judge", "rivals", "explain", "cover", "order", "trial", "commit",
-                     "check", "parts", "to_array"):
-            self.assertTrue(inspect.getdoc(getattr(ragymolev.Table, name)), name)
+            thing = getattr(ragymolev, name)
+            self.assertTrue(inspect.getdoc(thing), name)
+            for method, function in functions_of(thing).items():
+                self.assertTrue(method.startswith("_") or inspect.getdoc(function), "%s.%s" % (name, method))
+
+    def test_every_method_is_there(self):
+        for name in METHODS:
+            self.assertTrue(callable(getattr(ragymolev.Table, name)), name)
 
     def test_every_type_is_annotated(self):
-        for name in ragymolev.__all__:
-            for function in functions_of(getattr(ragymolev, name)):
+        seen = 0
+        for thing in [thing for module in modules() for thing in defined_in(module)]:
+            for function in functions_of(thing).values():
                 hints = typing.get_type_hints(function, vars(inspect.getmodule(function)))
-                wanted = {p for p in inspect.signature(function).parameters if p not in ("self", "cls")} | {"return"}
-                self.assertEqual(set(hints), wanted, function)
+                parameters = inspect.signature(function).parameters
+                self.assertEqual(set(hints), {p for p in parameters if p not in ("self", "cls")} | {"return"}, function)
+                seen += 1
+        self.assertGreater(seen, 150)
         self.assertTrue(os.path.isfile(os.path.join(os.path.dirname(ragymolev.__file__), "py.typed")))
 
     def test_every_file_says_what_it_is(self):
@@ -52,14 +71,7 @@ class Package(unittest.TestCase):
 
 class Examples(unittest.TestCase):
     def test_documents(self):
-        before = os.getcwd()
-        self.addCleanup(os.chdir, before)
-        os.chdir(plain.ROOT)
+        """What needs NumPy and SciPy stands in a section of its own, which test_arrays runs."""
         for name in ("README.md", "python/README.md"):
-            with open(name, encoding="utf-8") as file:
-                text = re.sub(r"(?m)^```.*$", "", file.read())
-            test = doctest.DocTestParser().get_doctest(text, {}, name, name, 0)
-            self.assertTrue(test.examples, name)
-            said = []
-            doctest.DocTestRunner(verbose=False).run(test, out=said.append)
-            self.assertEqual("".join(said), "", name)
+            text = plain.text_of(name)
+            self.assertEqual(plain.said_of_examples(name, text.replace(plain.section_of(text, "Arrays"), "")), "")
