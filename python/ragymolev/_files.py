@@ -3,14 +3,15 @@
 from __future__ import annotations
 
 import os
-from typing import Any, List, Tuple, Union
+from typing import Any, Callable, List, Tuple, Union
 
 from . import _layout as h
-from ._lend import one, words
+from ._lend import blank_test, one, words
 from ._library import ask
-from ._refused import Refused, call
+from ._refused import Refused, call, nothing_more
 
 Path = Union[str, os.PathLike]
+ANY_CUTOFF = 1  # a test is the same at every cutoff
 
 
 def bytes_of(path: Path) -> bytes:
@@ -26,11 +27,16 @@ def line_of(file: bytes, either: bool) -> int:
     return line[0]
 
 
-def call_on_file(name: str, source: str, either: bool, file: bytes, *given: Any) -> None:
+def call_on_file(name: str, source: str, either: bool, file: bytes, *given: Any, why: Callable[[int], str] = nothing_more) -> None:
     """Calls an entry that reads a file; a refusal of the file names it, and its line."""
     number = ask(name, file, *given)
     if number != h.RG_ACCEPTED:
-        raise Refused(number, file=source, line=line_of(file, either))
+        raise Refused(number, why(number), file=source, line=line_of(file, either))
+
+
+def is_test(file: bytes) -> bool:
+    """Whether a file is one of a recorded test."""
+    return ask("rg_read_test", file, ANY_CUTOFF, *blank_test(), words(h.RG_TABLE_WORDS)) == h.RG_ACCEPTED
 
 
 def comments(path: Path) -> Tuple[bytes, ...]:

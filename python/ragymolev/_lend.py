@@ -29,6 +29,11 @@ def numbers() -> Any:
     return words(h.RG_NUMBERS_WORDS)
 
 
+def blank_test() -> Tuple[Any, Any]:
+    """The words of a recorded test, and its readings."""
+    return words(h.RG_TEST_WORDS), (ctypes.c_int32 * h.RG_READINGS)()
+
+
 def up_to_zero(found: Sequence[int]) -> Tuple[int, ...]:
     """Numbers by place, without the zeros behind them."""
     count = next((i for i, number in enumerate(found) if number == 0), len(found))

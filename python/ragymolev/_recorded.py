@@ -2,26 +2,19 @@
 
 from __future__ import annotations
 
-import ctypes
 import numbers
 from typing import Any, Callable, Dict, Tuple
 
 from . import _arrays
 from . import _layout as h
-from ._files import Path, bytes_of, call_on_file
-from ._lend import one, room, table_rows, words
+from ._files import ANY_CUTOFF, Path, bytes_of, call_on_file
+from ._lend import blank_test, one, room, table_rows, words
 from ._library import word
 from ._pairs import Pair, pairs_of
 from ._refused import Refused, call, nothing_more
 from ._table import Table
 
-ANY_CUTOFF = 1  # a test is the same at every cutoff
 KINDS = {h.RG_PATTERN: "pattern", h.RG_INTEGER: "integer"}
-
-
-def blank() -> Tuple[Any, Any]:
-    """The words of a test, and its readings."""
-    return words(h.RG_TEST_WORDS), (ctypes.c_int32 * h.RG_READINGS)()
 
 
 def written(test: Any, readings: Any, why: Callable[[int], str] = nothing_more) -> bytes:
@@ -46,7 +39,7 @@ class Test:
     __test__ = False  # pytest takes it for no test of its own
 
     def __init__(self, file: bytes, name: str = "bytes") -> None:
-        self._test, self._readings = blank()
+        self._test, self._readings = blank_test()
         call_on_file("rg_read_test", name, True, bytes(file), ANY_CUTOFF, self._test, self._readings, words(h.RG_TABLE_WORDS))
         self._file = written(self._test, self._readings)
 
@@ -56,11 +49,16 @@ class Test:
         return cls(bytes_of(path), str(path))
 
     @classmethod
+    def from_bytes(cls, file: bytes, name: str = "bytes") -> "Test":
+        """The test of a file that is in memory; a refusal calls it by the name."""
+        return cls(file, name)
+
+    @classmethod
     def from_array(cls, array: Any) -> "Test":
         """The test of an array of readings, of NumPy, SciPy or lists of lists: gauges down, cases across. Of a sparse array the entries are those that it
         holds, of any other all places. A reading is cut towards zero: its magnitude reaches a whole cutoff exactly where its whole part does."""
         gauges, cases, entries = _arrays.entries_of(array)
-        test, readings = blank()
+        test, readings = blank_test()
         test[h.RG_TEST_KIND], test[h.RG_TEST_GAUGES], test[h.RG_TEST_CASES] = h.RG_INTEGER, word(gauges), word(cases)
         for (gauge, case), value in entries.items():
             test[h.RG_TEST_ROWS + gauge] |= 1 << case
@@ -105,7 +103,7 @@ class Test:
     def table(self, cutoff: int) -> Table:
         """The table at a cutoff from 1 to 1,000,000."""
         table = words(h.RG_TABLE_WORDS)
-        call("rg_read_test", self._file, cutoff, *blank(), table, why=lambda number: str(cutoff))
+        call("rg_read_test", self._file, cutoff, *blank_test(), table, why=lambda number: str(cutoff))
         return Table(*table_rows(table))
 
     def __bytes__(self) -> bytes:

@@ -10,7 +10,7 @@ from . import _arrays, _witness
 from . import _layout as h
 from ._answers import Count, Cover, Proposal, Rivals
 from ._check import MOST_MISSING, Report, check_list
-from ._files import Path, bytes_of, call_on_file
+from ._files import Path, bytes_of, call_on_file, is_test
 from ._ladders import Ladder, Ladders
 from ._lend import Rows, chain_rows, chain_words, one, room, table_rows, table_words, words
 from ._library import GREATEST_WORD, word
@@ -59,14 +59,14 @@ class Table(Pairs):
 
     @classmethod
     def read(cls, path: Path) -> "Table":
-        """The table of a file of pairs."""
+        """The table of a file of pairs. A file of readings is one of `Test.read`, and has a table at each cutoff."""
         return cls.from_bytes(bytes_of(path), str(path))
 
     @classmethod
     def from_bytes(cls, file: bytes, name: str = "bytes") -> "Table":
         """The table of a file of pairs that is in memory; a refusal calls it by the name."""
         table = words(h.RG_TABLE_WORDS)
-        call_on_file("rg_read", name, False, bytes(file), table)
+        call_on_file("rg_read", name, False, bytes(file), table, why=lambda number: "it has readings: Test.read takes it" if is_test(bytes(file)) else "")
         return cls(*table_rows(table))
 
     @classmethod
@@ -90,7 +90,7 @@ class Table(Pairs):
         if isinstance(array, Pairs):
             return cls(array.gauges, array.cases, array.rows)
         gauges, cases, entries = _arrays.entries_of(array)
-        rows = [0] * gauges
+        rows = [0] * min(gauges, h.RG_MOST)
         for (gauge, case), value in entries.items():
             rows[gauge] |= bool(value) << case
         return cls(gauges, cases, tuple(rows))

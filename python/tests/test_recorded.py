@@ -57,7 +57,7 @@ class Files(unittest.TestCase):
 
     def test_refused(self):
         with self.assertRaises(Refused) as refused:
-            Test(b"%%MatrixMarket matrix coordinate integer general\n1 1 1\n1 1 -1000001\n", "log")
+            Test.from_bytes(b"%%MatrixMarket matrix coordinate integer general\n1 1 1\n1 1 -1000001\n", "log")
         self.assertEqual(str(refused.exception), "log:3: refused 20: reading outside -1,000,000..1,000,000")
 
 

@@ -53,6 +53,12 @@ class Files(unittest.TestCase):
         self.assertEqual((refused.exception.number, refused.exception.line), (7, 5))
         self.assertEqual(str(refused.exception), "%s:5: refused 7: g or c outside 1..G, 1..L" % plain.of_example("malformed.mtx"))
 
+    def test_a_file_of_readings(self):
+        with self.assertRaises(Refused) as refused:
+            Table.read(plain.of_example("logger.mtx"))
+        said = "%s:1: refused 2: first line is not the banner: it has readings: Test.read takes it" % plain.of_example("logger.mtx")
+        self.assertEqual((refused.exception.number, str(refused.exception)), (2, said))
+
     def test_damaged_files(self):
         any_ = random.Random(21)
         for _ in range(400):
