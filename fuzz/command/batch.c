@@ -54,6 +54,7 @@ static void run_many(Make make, void *with, const uint8_t *seen) {
 Batch run_batch(Make make, void *with, const uint8_t *seen, const volatile sig_atomic_t *stopped) {
     int ended;
     *shared = (Batch){.end = BY_DEATH, .state = state_of_numbers()};
+    continued = 0;
     pid_t child = fork();
     if (child < 0) {
         fputs("fuzz-command: starting a process failed\n", stderr);
@@ -63,5 +64,6 @@ Batch run_batch(Make make, void *with, const uint8_t *seen, const volatile sig_a
     while (waitpid(child, &ended, 0) != child)
         if (*stopped) kill(child, SIGKILL);
     distrust_layout();
+    shared->stood_still = stood_still(ended);
     return *shared;
 }

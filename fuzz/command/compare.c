@@ -21,7 +21,7 @@ typedef struct {
 
 static void take(const char *path, const Input *input, void *with) {
     (void)path;
-    keep(&((Comparison *)with)->kept, input);
+    keep(&((Comparison *)with)->kept, input, 0);
 }
 
 static void *shared_room(size_t length) {

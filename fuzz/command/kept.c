@@ -45,13 +45,14 @@ bool each_file(const char *folder, Take take, void *with) {
     return count >= 0;
 }
 
-void keep(Kept *kept, const Input *input) {
+void keep(Kept *kept, const Input *input, uint64_t cost) {
     if (kept->count == kept->room) {
         kept->room = kept->room ? 2 * kept->room : 64;
         kept->inputs = realloc(kept->inputs, kept->room * sizeof *kept->inputs);
         if (!kept->inputs) stop("kept inputs", "no memory");
     }
-    copy_input(input, &kept->inputs[kept->count++]);
+    copy_input(input, &kept->inputs[kept->count]);
+    kept->inputs[kept->count++].cost = cost;
 }
 
 void let_go(Kept *kept) {

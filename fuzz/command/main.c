@@ -1,7 +1,7 @@
 /* What is done with the targets: `fuzz` changes inputs until no new path comes, `unreached` runs what is kept and names what it does not reach, `compare` runs
  * what is kept alone and among many, `replay` runs each seed once, `show` one input. usage:
  *
- *     fuzz SEEDS KEPT WORK SECONDS QUIET NUMBER TARGET..    SECONDS in all at most, 0 for no bound; QUIET without a new path in any target end it
+ *     fuzz SEEDS KEPT WORK SECONDS QUIET NUMBER TARGET..    SECONDS in all at most, 0 for no bound; QUIET without a path that is new to all targets end it
  *     unreached SEEDS KEPT WORK TARGET..
  *     compare SEEDS KEPT WORK TARGET..
  *     replay SEEDS WORK TARGET..

@@ -1,6 +1,6 @@
 /* One run of the command alone: it is started by a fork, and how it ends is judged. The contract is that it ends by itself, with an exit status from 0 to 5,
  * and that it says something on standard error where it ends with 1 to 4. What a run among many starts with is here too. */
-#define _GNU_SOURCE /* memfd_create, on_exit */
+#define _GNU_SOURCE /* memfd_create, on_exit, sigaction */
 #include "rim.h"
 #include <fcntl.h>
 #include <stdio.h>
@@ -26,6 +26,9 @@ const char *__asan_default_options(void) {
 }
 
 int said = -1, nothing = -1;
+volatile sig_atomic_t continued;
+
+static void note(int number) { continued = number; }
 
 static void stop(const char *what) {
     fprintf(stderr, "fuzz-command: %s failed\n", what);
@@ -34,6 +37,8 @@ static void stop(const char *what) {
 
 /* The folder becomes the current one. */
 void begin_running(const char *folder) {
+    struct sigaction noted = {.sa_handler = note, .sa_flags = SA_RESTART};
+    sigaction(SIGCONT, &noted, NULL);
     said = memfd_create("said", MFD_CLOEXEC);
     nothing = open("/dev/null", O_RDWR | O_CLOEXEC);
     if (said < 0 || nothing < 0) stop("opening /dev/null and a file in memory");
@@ -121,17 +126,27 @@ static const char *wrong_with(int ended) {
     return wrong_status(WEXITSTATUS(ended), !length);
 }
 
-Outcome run_once(const Input *input) {
-    Outcome outcome = {.left_out = saves_elsewhere(input)};
+/* A process that is stopped and continued may come to its bound on the clock by that. */
+bool stood_still(int ended) { return continued && WIFSIGNALED(ended) && WTERMSIG(ended) == SIGALRM; }
+
+static int ended_alone(const Input *input) {
     int ended;
-    clear_path();
-    if (outcome.left_out) return outcome;
     lay_out_all(input);
+    clear_path();
+    continued = 0;
     if (ftruncate(said, 0) || lseek(said, 0, SEEK_SET)) stop("emptying a file in memory");
     pid_t child = fork();
     if (child < 0) stop("starting a process");
     if (!child) run_command(input);
     while (waitpid(child, &ended, 0) != child) {}
+    return ended;
+}
+
+Outcome run_once(const Input *input) {
+    Outcome outcome = {.left_out = saves_elsewhere(input)};
+    if (outcome.left_out) return outcome;
+    int ended = ended_alone(input);
+    while (stood_still(ended)) ended = ended_alone(input);
     int by = WIFSIGNALED(ended) ? WTERMSIG(ended) : 0;
     outcome.slow = by == SIGPROF || by == SIGALRM || by == SIGXFSZ;
     outcome.status = WIFEXITED(ended) ? WEXITSTATUS(ended) : -1;

@@ -12,7 +12,8 @@ void __sanitizer_cov_trace_pc_guard(uint32_t *guard);
 void __sanitizer_cov_pcs_init(const uintptr_t *start, const uintptr_t *stop);
 void __sanitizer_symbolize_pc(void *pc, const char *format, char *room, size_t length) __attribute__((weak));
 
-static uint8_t *hits; /* of this run, by edge */
+static uint8_t *hits;   /* of this run, by edge */
+static uint64_t *passed; /* and of all edges, which are more than are counted by edge */
 static uint8_t often[UINT8_MAX + 1]; /* the bit of each count */
 static size_t edges;
 static const uintptr_t *places; /* where each edge is in the program, and whether a function begins there */
@@ -29,13 +30,16 @@ static void make_often(void) {
 void __sanitizer_cov_trace_pc_guard_init(uint32_t *start, uint32_t *stop) {
     if (start == stop || *start) return;
     if (!hits) make_often();
-    if (!hits) hits = mmap(NULL, MOST_EDGES, PROT_READ | PROT_WRITE, MAP_SHARED | MAP_ANONYMOUS, -1, 0);
+    if (!hits) hits = mmap(NULL, MOST_EDGES + sizeof *passed, PROT_READ | PROT_WRITE, MAP_SHARED | MAP_ANONYMOUS, -1, 0);
     if (hits == MAP_FAILED) hits = NULL;
+    else passed = (uint64_t *)(void *)(hits + MOST_EDGES);
     for (uint32_t *mark = start; hits && mark < stop && edges + 1 < MOST_EDGES; mark++) *mark = (uint32_t)++edges;
 }
 
 void __sanitizer_cov_trace_pc_guard(uint32_t *guard) {
-    if (*guard && hits[*guard] < UINT8_MAX) hits[*guard]++;
+    if (!*guard) return;
+    ++*passed;
+    if (hits[*guard] < UINT8_MAX) hits[*guard]++;
 }
 
 void __sanitizer_cov_pcs_init(const uintptr_t *start, const uintptr_t *stop) {
@@ -43,7 +47,9 @@ void __sanitizer_cov_pcs_init(const uintptr_t *start, const uintptr_t *stop) {
 }
 
 void clear_path(void) {
-    if (hits) memset(hits, 0, edges + 1);
+    if (!hits) return;
+    memset(hits, 0, edges + 1);
+    *passed = 0;
 }
 
 /* Whether the last run went a way that a map does not have. */
@@ -61,6 +67,9 @@ New new_path(const uint8_t *seen) {
 void add_path(uint8_t *seen) {
     for (size_t i = 1; hits && i <= edges; i++) seen[i] |= often[hits[i]];
 }
+
+/* How many edges it passed, one as often as it did. */
+uint64_t path_length(void) { return hits ? *passed : 0; }
 
 static size_t count(const uint8_t *reached, size_t from, size_t end) {
     size_t found = 0;

@@ -27,7 +27,7 @@ static size_t closed_count;
 /* Opens what is closed in a piece of memory. */
 static void open_piece(const uint8_t *bytes, size_t length) {
     for (size_t i = closed_count; i--;) {
-        if (closed[i].bytes < bytes || closed[i].bytes > bytes + length) continue;
+        if (closed[i].bytes + closed[i].length <= bytes || closed[i].bytes >= bytes + length) continue;
         __asan_unpoison_memory_region(closed[i].bytes, closed[i].length);
         closed[i] = closed[--closed_count];
     }

@@ -6,7 +6,8 @@
  * Here: what the files share. input.c has what an input is and its file; change.c and tokens.c how one is changed, sums.c the checksums that are put right
  * behind a change; reads.c closes what lies behind the bytes that were read; paths.c has the edges that were reached; layout.c the files that a run finds;
  * once.c a run alone and what is wrong with how it ended; within.c a run among many, statics.c the values that it starts with, batch.c the many; compare.c
- * whether both go the same ways; kept.c the inputs that are kept; rounds.c the targets and their turns; seeds.c the seeds run once each; main.c the words. */
+ * whether both go the same ways; kept.c the inputs that are kept; tries.c those that are tried; rounds.c the targets and their turns, report.c what is said
+ * of them, and rounds.h what these three share; seeds.c the seeds run once each; main.c the words. */
 #ifndef RIM_H
 #define RIM_H
 
@@ -33,6 +34,7 @@ typedef struct {
 
 typedef struct {
     size_t words, count; /* the words come first, the files behind them */
+    uint64_t cost;       /* of one that is kept, how many edges its run passed */
     Piece piece[MOST_PIECES];
 } Input;
 
@@ -51,17 +53,15 @@ void free_input(Input *input);
 extern const char *const tokens[];
 extern const size_t token_count;
 
-/* change.c */
+/* change.c. From a state of the random numbers on they are always the same. */
 void set_seed(uint64_t seed);
+uint64_t state_of_numbers(void);
 size_t below(size_t n);
 void change_input(Input *input, const Input *other, const char *focus);
 
 /* sums.c */
 uint64_t sum_of(const uint8_t *bytes, size_t length);
 void mend_sums(Input *input, const Input *before);
-
-/* change.c, of the random numbers: from a state on they are always the same. */
-uint64_t state_of_numbers(void);
 
 /* reads.c */
 void open_reads(void);
@@ -72,6 +72,7 @@ typedef enum { NOTHING_NEW, NEW_COUNT, NEW_EDGE } New;
 void clear_path(void);
 New new_path(const uint8_t *seen);
 void add_path(uint8_t *seen);
+uint64_t path_length(void);
 size_t edges_reached(const uint8_t *seen);
 size_t edges_in_all(void);
 void name_unreached(const uint8_t *seen);
@@ -99,7 +100,9 @@ size_t said_of_it(char *room, size_t length);
 const char *wrong_status(int status, bool silent);
 
 /* What a run starts with, alone or among many. */
-extern int said, nothing; /* descriptors: where standard error goes, and /dev/null */
+extern int said, nothing;               /* descriptors: where standard error goes, and /dev/null */
+extern volatile sig_atomic_t continued; /* this process was, by SIGCONT */
+bool stood_still(int ended);
 size_t words_of_input(const Input *input, char **words);
 void bound_process(void);
 void bound_run(void);
@@ -118,6 +121,7 @@ typedef enum { AT_ITS_END, A_NEW_PATH, SOMETHING_WRONG, BY_DEATH } End;
 typedef void (*Make)(Input *input, void *with);
 typedef struct {
     End end;
+    bool stood_still; /* the death was by the clock, while all of it was stopped */
     uint64_t state, inputs, ended[STATUSES];
 } Batch;
 void begin_batches(void);
@@ -131,7 +135,7 @@ typedef struct {
 typedef void (*Take)(const char *path, const Input *input, void *with);
 void read_input(const char *path, Input *input);
 bool each_file(const char *folder, Take take, void *with);
-void keep(Kept *kept, const Input *input);
+void keep(Kept *kept, const Input *input, uint64_t cost);
 void let_go(Kept *kept);
 void store(const char *folder, const char *front, const Input *input);
 

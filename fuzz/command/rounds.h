@@ -1,4 +1,4 @@
-/* What rounds.c and report.c share: the targets that take turns, and what came of each. */
+/* What rounds.c, tries.c and report.c share: the targets that take turns, and what came of each. */
 #ifndef ROUNDS_H
 #define ROUNDS_H
 
@@ -32,9 +32,20 @@ struct Rounds {
     uint8_t seen[MOST_EDGES];
     bool together;      /* many inputs are run in one process */
     double most, quiet; /* seconds, and seconds without a new path, until the end; no bound where the first is 0 */
+    double slice;       /* seconds of a target's turn */
     double began, said; /* the fuzzing, behind what is stored, and when something was said last */
-    Last last;
+    Last last;          /* a way that no target had gone */
 };
+
+/* rounds.c */
+extern volatile sig_atomic_t stopped; /* by a signal */
+double seconds(void);
+
+/* tries.c */
+typedef enum { NOT_TRIED, NOTHING_TO_IT, A_NEW_WAY, A_FAULT } Worth;
+Worth try_input(Round *round, const Input *input, bool stored);
+void change_alone(Round *round);
+void change_many(Round *round);
 
 /* report.c */
 void say_line(const Rounds *all, double now);
