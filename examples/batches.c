@@ -1,5 +1,5 @@
 /* Lists ladders in batches of 64, and says what each batch came to: those of a file of pairs, or without a file the 40,320 of the 8 by 8 table that lacks
- * its diagonal. README.md shows how it is built and what it writes. */
+ * its diagonal. docs/LINKING.md shows how it is built and what it writes. */
 #include "ragymolev.h"
 #include <stdio.h>
 
@@ -28,7 +28,7 @@ static void print_ladder(const uint64_t *rows, uint64_t gauges) {
 int main(int argc, char **argv) {
     static rg_batch_64 batch;
     rg_table table;
-    rg_order order = {{0}};
+    rg_order order;
     rg_run run;
     uint64_t why = 0;
     FILE *in = argc > 1 ? fopen(argv[1], "rb") : NULL;
@@ -36,7 +36,7 @@ int main(int argc, char **argv) {
     if (in) why = read_table(&table, in);
     else lacking_diagonal(&table, 8);
     if (why) return refused(why);
-    for (uint64_t g = 0; g < table.gauges; g++) order.numbers[g] = g + 1;
+    if ((why = rg_plain_order(table.gauges, RG_LEND(order)))) return refused(why);
     if ((why = rg_start_gauges(RG_LEND(table), RG_LEND(order), 0, RG_LEND(run)))) return refused(why);
     do {
         if ((why = rg_list_gauges(RG_LEND(run), RG_BUDGET, RG_LEND_BATCH(batch, ROOM, table.gauges)))) return refused(why);

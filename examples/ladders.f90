@@ -1,4 +1,4 @@
-! Lists the ladders of a file of pairs in batches of 64, from Fortran. README.md shows how it is built and what it writes.
+! Lists the ladders of a file of pairs in batches of 64, from Fortran. docs/LINKING.md shows how it is built and what it writes.
 !
 ! The numbers are those of include/ragymolev.h, and tools/python-layout compares them. A word of C has no sign; here it is a
 ! number with one and of the same bits, which btest looks at. A piece of lent memory goes as the array and its length, a number

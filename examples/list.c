@@ -1,4 +1,4 @@
-/* Lists the ladders of a file of pairs, at most 3 moves a call, and says where it pauses. README.md shows how it is built and what it writes. */
+/* Lists the ladders of a file of pairs, at most 3 moves a call, and says where it pauses. docs/LINKING.md shows how it is built and what it writes. */
 #include "ragymolev.h"
 #include <stdio.h>
 
@@ -7,16 +7,16 @@ static int refused(uint64_t why) { return printf("refused %d\n", (int)why) < 0 ?
 int main(int argc, char **argv) {
     static uint8_t file[RG_FILE_BYTES + 1]; /* one byte more than the longest file, so that a longer one is seen to be longer */
     rg_table table;
-    rg_order order = {{0}};
+    rg_order order;
     rg_run run;
     rg_step step;
     uint64_t why;
     FILE *in = argc > 1 ? fopen(argv[1], "rb") : stdin;
     if (!in) return 1;
     if ((why = rg_read(file, fread(file, 1, sizeof file, in), RG_LEND(table)))) return refused(why);
-    for (uint64_t g = 0; g < table.gauges; g++) order.numbers[g] = g + 1;
+    if ((why = rg_plain_order(table.gauges, RG_LEND(order)))) return refused(why);
     if ((why = rg_start_gauges(RG_LEND(table), RG_LEND(order), 0, RG_LEND(run)))) return refused(why);
-    do { /* between two calls the run is the 199 words of `run`: they can be stored, and gone on from another day */
+    do { /* between two calls the run is what stands in `run`: it can be stored as it is, and gone on from another day */
         if ((why = rg_run_gauges(RG_LEND(run), 3, RG_LEND(step)))) return refused(why);
         printf("%s", step.outcome == RG_SPENT ? "pause" : step.outcome == RG_END ? "end" : "ladder");
         for (int g = 0; g < RG_ROWS; g++)

@@ -1,4 +1,4 @@
-# Lists the ladders of a file of pairs with a pause behind each, as if it went on another day. README.md shows how it is run and what it writes.
+# Lists the ladders of a file of pairs with a pause behind each, as if it went on another day. docs/LINKING.md shows how it is run and what it writes.
 import pickle
 import sys
 

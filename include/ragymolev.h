@@ -9,7 +9,7 @@
  *
  * `rt staticlib ragymolev` writes the library, target/staticlib/libragymolev.a. It is for x86-64 Linux (ELF, the System V calling convention), and for
  * every such processor. Of the C library it needs memcpy, memmove and memset, and of any other library nothing. Its code is position independent, so that
- * it can be part of a shared object too. The archive stands behind the sources that call it:
+ * it can be part of a shared object too. The archive comes after the sources that call it:
  *
  *     cc -Iinclude -o program program.c target/staticlib/libragymolev.a
  *
@@ -83,7 +83,7 @@ typedef struct rg_chain {
     uint64_t count, rows[RG_ROWS];
 } rg_chain;
 
-/* ORDER: a preference. Each of 1..G once (1..L for the cases), the most trusted first, and zeros behind. A word above 255 is no number: it gets
+/* ORDER: a preference. Each of 1..G once (1..L for the cases), the most trusted first, padded with zeros. A word above 255 is no number: it gets
  * RG_PREFERENCE as any other wrong one does. */
 #define RG_ORDER_WORDS 64
 typedef struct rg_order {
@@ -96,7 +96,7 @@ typedef struct rg_pairs {
     uint64_t rows[RG_ROWS];
 } rg_pairs;
 
-/* NUMBERS: gauges or cases by number, zeros behind. */
+/* NUMBERS: gauges or cases by number, padded with zeros. */
 #define RG_NUMBERS_WORDS 64
 typedef struct rg_numbers {
     uint64_t numbers[RG_MOST];
@@ -109,12 +109,12 @@ typedef struct rg_numbers {
  * and is taken.
  *
  * How a stored RUN is told from a later layout: by word 0. In this layout, the first one, it is RG_SIDE_GAUGES or RG_SIDE_CASES, and in a later one it will
- * be another number. An entry takes the number of its own side alone: any other gets RG_PAUSED (15), unless what stands at the places of TABLE and ORDER
+ * be another number. An entry takes the number of its own side alone: any other gets RG_PAUSED (15), unless what is at the places of TABLE and ORDER
  * gets 10, 11 or 27 before. */
 #define RG_RUN_SIDE 0         /* RG_SIDE_GAUGES or RG_SIDE_CASES */
 #define RG_RUN_TABLE 1        /* TABLE */
 #define RG_RUN_ORDER 67       /* ORDER */
-#define RG_RUN_PICKS 131      /* 64 picks by number, in the order they were made, zeros behind */
+#define RG_RUN_PICKS 131      /* 64 picks by number, in the order they were made, padded with zeros */
 #define RG_RUN_COUNT 195      /* how many there are */
 #define RG_RUN_PHASE 196      /* RG_PHASE_DOWN, RG_PHASE_HANDED, RG_PHASE_BACK or RG_PHASE_ENDED */
 #define RG_RUN_FROM 197       /* the number that the run is back from, in phase RG_PHASE_BACK; else 0 */
@@ -133,11 +133,11 @@ typedef struct rg_run {
 #define RG_PHASE_BACK 2
 #define RG_PHASE_ENDED 3
 
-/* STEP: what a run call came to. */
+/* STEP: what a run call gave. */
 #define RG_STEP_OUTCOME 0     /* RG_HANDED_OUT, RG_SPENT or RG_END */
 #define RG_STEP_MOVES 1       /* the moves made */
 #define RG_STEP_CHAIN 2       /* CHAIN: the ladder by gauge rows, on both sides; zeros unless handed out */
-#define RG_STEP_PICKS 67      /* its pick sequence: gauges of a gauge run, cases of a case run; zeros behind, and unless handed out */
+#define RG_STEP_PICKS 67      /* its pick sequence: gauges of a gauge run, cases of a case run, padded with zeros; zeros unless handed out */
 #define RG_STEP_WORDS 131
 typedef struct rg_step {
     uint64_t outcome, moves;
@@ -148,14 +148,15 @@ typedef struct rg_step {
 #define RG_SPENT 2
 #define RG_END 3
 
-/* BATCH: what a batch of run calls came to: these words, and behind them its ladders, G words each, by gauge rows, one behind the other. A BATCH of
- * RG_BATCH_WORDS + k * G words has room for k ladders; words that are too few for one ladder more have no use.
+/* BATCH: what a batch of run calls gave: these words, and after them its ladders, G words each, by gauge rows, one after the other. A BATCH of
+ * RG_BATCH_WORDS + k * G words has room for k ladders; words that are too few for one ladder more have no use. With room for no ladder no move is made, and
+ * the outcome is RG_HANDED_OUT: a loop of such batches has no end.
  * rg_batch is the words ahead of the ladders, for a struct of the caller's own that goes on with their rows. rg_batch_64 has room for 64 ladders of any
  * table; gauge g of ladder i, from 0, has rows[i * G + g - 1]. */
 #define RG_BATCH_OUTCOME 0    /* RG_HANDED_OUT: as many ladders as have room; RG_SPENT or RG_END */
 #define RG_BATCH_LADDERS 1    /* how many ladders */
 #define RG_BATCH_MOVES 2      /* the moves made */
-#define RG_BATCH_WORDS 3      /* where the first ladder stands; the fewest words of a BATCH */
+#define RG_BATCH_WORDS 3      /* where the first ladder is; the fewest words of a BATCH */
 typedef struct rg_batch {
     uint64_t outcome, ladders, moves;
 } rg_batch;
@@ -177,7 +178,7 @@ typedef struct rg_count_answer {
 #define RG_COVER_OUTCOME 0    /* 1 covered, or RG_SPENT */
 #define RG_COVER_NUMBER 1     /* how many ladders; 0 where spent */
 #define RG_COVER_TRIED 2      /* the ladders tried; where spent, the budget */
-#define RG_COVER_CHAINS 3     /* 8 CHAINs, so many as the number says, and zeros behind */
+#define RG_COVER_CHAINS 3     /* 8 CHAINs, so many as the number says, padded with zeros */
 #define RG_COVER_WORDS 523
 typedef struct rg_cover_answer {
     uint64_t outcome, number, tried;
@@ -230,7 +231,7 @@ typedef struct rg_span {
 #define RG_NO 0
 #define RG_YES 1
 
-/* WORDS: a refusal in words. Bytes of ASCII, fewer than the layout has, and zeros behind: a text as C has it. */
+/* WORDS: a refusal in words. Bytes of ASCII, fewer than the layout has, padded with zeros: a text as C has it. */
 #define RG_WORDS_BYTES 80
 
 /* LENDING A STRUCT. RG_LEND makes the two arguments of a struct that is lent, its words and how many there are:
@@ -238,21 +239,23 @@ typedef struct rg_span {
  *     rg_run_gauges(RG_LEND(run), RG_BUDGET, RG_LEND(step))
  *
  * It takes the value and no pointer to it: where run is a pointer, RG_LEND(*run), since RG_LEND(run) would lend the pointer. A uint64_t and an array of
- * them are lent in the same way. RG_LEND_CONST lends what is const, to be read; RG_LEND_READINGS lends readings, and RG_LEND_BATCH of an rg_batch_64 the
- * room for so many ladders, up to 64, of a table with so many gauges.
+ * them are lent in the same way, but not an array that is a parameter of a function: that is a pointer too. RG_LEND_CONST lends what is const, to be read;
+ * RG_LEND_READINGS and RG_LEND_CONST_READINGS lend readings, and RG_LEND_BATCH of an rg_batch_64 the room for so many ladders, up to 64, of a table with so
+ * many gauges.
  *
  * Why the words of a struct may be lent: each of them is an object of type uint64_t, of a reading int32_t, and the entries read and write them as that, so
  * nothing is accessed as another type than its own (strict aliasing). The pointer is that of the whole struct, with no padding in it, so all of its words
  * are within reach. And an entry is machine code that no compiler of the caller's looks into: it must take any of them to be read and written there. */
 #ifdef __cplusplus
-#define RG_FIRST_OF(type, value) reinterpret_cast<type *>(&(value))
-#else
-#define RG_FIRST_OF(type, value) ((type *)&(value))
+#define RG_FIRST_OF(type, any, value) static_cast<type *>(static_cast<any *>(&(value)))
+#else /* the choice is none: it is there for -Wstrict-aliasing=2 of gcc, which warns of every address that is cast at once */
+#define RG_FIRST_OF(type, any, value) ((type *)(1 ? &(value) : (any *)0))
 #endif
-#define RG_LEND(value) RG_FIRST_OF(uint64_t, value), (sizeof(value) / sizeof(uint64_t))
-#define RG_LEND_CONST(value) RG_FIRST_OF(const uint64_t, value), (sizeof(value) / sizeof(uint64_t))
-#define RG_LEND_READINGS(value) RG_FIRST_OF(int32_t, value), (sizeof(value) / sizeof(int32_t))
-#define RG_LEND_BATCH(value, room, gauges) RG_FIRST_OF(uint64_t, value), (RG_BATCH_WORDS + (room) * (gauges))
+#define RG_LEND(value) RG_FIRST_OF(uint64_t, void, value), (sizeof(value) / sizeof(uint64_t))
+#define RG_LEND_CONST(value) RG_FIRST_OF(const uint64_t, const void, value), (sizeof(value) / sizeof(uint64_t))
+#define RG_LEND_READINGS(value) RG_FIRST_OF(int32_t, void, value), (sizeof(value) / sizeof(int32_t))
+#define RG_LEND_CONST_READINGS(value) RG_FIRST_OF(const int32_t, const void, value), (sizeof(value) / sizeof(int32_t))
+#define RG_LEND_BATCH(value, room, gauges) RG_FIRST_OF(uint64_t, void, value), (RG_BATCH_WORDS + (room) * (gauges))
 
 /* REFUSALS. In a file the first failing line decides, from the top. rg_words says each in words; docs/MANUAL.md, section 7, what to do about
  * it. */
@@ -347,9 +350,10 @@ uint64_t rg_judge_ladder(const uint64_t *table, size_t table_length, const uint6
                          uint64_t *answer, size_t answer_length);
 
 /* RUNS: a start, then run calls on the same RUN until one answers RG_END. The ladders handed out are all ladders of the table, each once; of a run that
- * omits, all that hold a deciding pair, each once. */
+ * omits, all that hold a deciding pair, each once. A budget of 0 makes no move, and the answer is RG_SPENT; of a RUN that has ended, and a budget above 0, it
+ * is RG_END again. */
 
-/* The plain order of a table with n gauges, or with n cases: 1, 2, 3 and on.
+/* The plain order of a table with n gauges, or with n cases: 1, 2, 3, .., padded with zeros.
  * Reads n, 1..64. Writes order: ORDER.
  * Refused: 100; 10. */
 uint64_t rg_plain_order(uint64_t n, uint64_t *order, size_t order_length);
@@ -380,7 +384,7 @@ uint64_t rg_run_cases(uint64_t *run, size_t run_length, uint64_t budget, uint64_
  * Refused: 100; 10 and 11 of its table; 27 of its order; 15; 18. */
 uint64_t rg_list_gauges(uint64_t *run, size_t run_length, uint64_t budget, uint64_t *batch, size_t batch_length);
 
-/* The same of a case run; its ladders stand by gauge rows too. */
+/* The same of a case run; its ladders are by gauge rows too. */
 uint64_t rg_list_cases(uint64_t *run, size_t run_length, uint64_t budget, uint64_t *batch, size_t batch_length);
 
 /* Why a pair of the table is left out of the ladder at which a gauge run is paused (phase RG_PHASE_HANDED): by the first picked gauge that does not respond
@@ -407,7 +411,7 @@ uint64_t rg_sequence_cases(const uint64_t *table, size_t table_length, const uin
 /* PARTS OF A LIST: a RUN in phase RG_PHASE_DOWN is a part, that of the ladders of its list whose pick sequence begins with its picks; a fresh one is the
  * whole list. Run calls from it hand these ladders out. The part is closed, and nothing of it comes later, by the first ladder whose sequence begins
  * otherwise, which is not of it; by RG_END; and by RG_SPENT where the first RG_RUN_COUNT of the RUN's picks no longer begin with the part's, which a run that
- * omits comes to long before its next ladder. As long as they do begin so, every ladder handed out so far is of the part, those of batches too. The parts of
+ * omits reaches long before its next ladder. As long as they do begin so, every ladder handed out so far is of the part, those of batches too. The parts of
  * its candidates, where it has some, one after the other, are the part. */
 
 /* The gauges that a gauge run can pick next, each of which makes a part of this one. Where there is none, the picks are the sequence of one ladder: the part
@@ -429,7 +433,7 @@ uint64_t rg_part_cases(const uint64_t *run, size_t run_length, uint64_t number, 
 
 /* COUNTING AND GROWING */
 
-/* How many ladders a table has, by one call for each pick sequence that a gauge run can come to.
+/* How many ladders a table has, by one call for each pick sequence that a gauge run can reach.
  * Reads table: TABLE; order: ORDER of the gauges; budget 0..1,000,000 calls. Writes count: COUNT.
  * Refused: 100; 10; 11; 27; 18. */
 uint64_t rg_count(const uint64_t *table, size_t table_length, const uint64_t *order, size_t order_length, uint64_t budget,

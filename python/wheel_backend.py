@@ -105,7 +105,10 @@ def linked():
     with tempfile.TemporaryDirectory() as folder:
         path = os.path.join(folder, _find.NAME)
         whole = ["-Wl,--whole-archive", ARCHIVE, "-Wl,--no-whole-archive"]
-        subprocess.run([os.environ.get("CC", "cc"), "-shared", "-o", path, *whole], check=True)
+        try:
+            subprocess.run([os.environ.get("CC", "cc"), "-shared", "-o", path, *whole], check=True)
+        except (OSError, subprocess.CalledProcessError) as wrong:
+            raise SystemExit("ragymolev: %s cannot be linked into a shared library: %s" % (ARCHIVE, wrong))
         return checked(path)
 
 

@@ -6,8 +6,8 @@
         print(ladder.picks, ladder.pairs)
 
 A table is read (`Table.read`), made from rows (`Table.from_rows`), from an array (`Table.from_array`), from a recorded test at a cutoff
-(`Test.read(path).table(200)`) or from four numbers (`make`). Its methods ask every question; what the library refuses is raised as `Refused`. The package
-decides nothing: it lends memory to the shared library, calls it, and gives its answers in types of Python."""
+(`Test.read(path).table(200)`) or from four numbers (`make`). Its methods put the questions; what the library refuses is raised as `Refused`. The package
+lends memory to the shared library, calls it, and gives its answers in types of Python; only a list that is checked is compared here."""
 
 from . import _layout, _library
 from ._answers import Count, Cover, Proposal, Rivals

@@ -101,7 +101,7 @@ class Report(NamedTuple):
 
 
 def numbered(number: int, single: str, several: str, more: str = "") -> str:
-    return "%d%s %s" % (number, more, single if number == 1 else several)
+    return "%d%s %s" % (number, more, single if number == 1 and not more else several)
 
 
 class Entries:

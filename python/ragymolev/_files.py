@@ -20,6 +20,11 @@ def bytes_of(path: Path) -> bytes:
         return file.read(h.RG_FILE_BYTES + 1)
 
 
+def plain_bytes(file: Any) -> bytes:
+    """Bytes that are handed in. A number is none: `bytes` would make so many zeros of it."""
+    return bytes(memoryview(file))
+
+
 def line_of(file: bytes, either: bool) -> int:
     """The line for which a file is refused, one without readings or one of either kind."""
     line = one()

@@ -28,6 +28,7 @@ class Ladder(Pairs):
     _listing: Listing
 
     def __init__(self, listing: Listing, rows: Rows) -> None:
+        listing = listing if isinstance(listing, Listing) else Listing(*listing)  # what is pickled has three values in its place, and no name of a file
         super().__init__(listing.table.gauges, listing.table.cases, rows)
         object.__setattr__(self, "_listing", listing)
 
@@ -51,16 +52,24 @@ class Ladder(Pairs):
         return self._places() < other._places()
 
     def __reduce__(self) -> Tuple[Any, ...]:
-        return Ladder, (self._listing, self.rows)
+        return Ladder, (tuple(self._listing), self.rows)
 
 
 class State(NamedTuple):
-    """Where an iterator stands: the words of its run, the ladders of the last batch that are still to come, the last of them first, and whether the run is
-    over behind them. It is put in place whole, so that a call that is interrupted leaves it as it was."""
+    """Where an iterator stands: the words of its run ahead of the last batch and behind it, how many ladders the batch has, those of them that are still to
+    come, the last of them first, and whether the list is over behind them. It is put in place whole, so that a call that is interrupted leaves it as it
+    was."""
 
+    ahead: Any
     run: Any
+    size: int
     left: List[Rows]
     over: bool
+
+
+def fresh(run: Any) -> State:
+    """Where an iterator stands that has listed nothing ahead."""
+    return State(run, run, 0, [], False)
 
 
 class Ladders(Iterator[Ladder]):
@@ -71,7 +80,7 @@ class Ladders(Iterator[Ladder]):
 
     def __init__(self, listing: Listing, run: Any, picks: Tuple[int, ...] = ()) -> None:
         self._listing = listing
-        self._state = State(run, [], False)
+        self._state = fresh(run)
         self.picks = picks
 
     def __iter__(self) -> "Ladders":
@@ -86,11 +95,12 @@ class Ladders(Iterator[Ladder]):
 
     def _next_batch(self) -> State:
         """Of a part, a batch that leaves the run in the part is all of the part; else it closes the part, and its first ladders may be of it."""
-        run = words(h.RG_RUN_WORDS, self._state.run)
+        ahead = self._state.run
+        run = words(h.RG_RUN_WORDS, ahead)
         over, found = self._listing.batch(run, AT_ONCE)
         if not begins(run, self.picks):
             over, found = True, tuple(itertools.takewhile(self._is_of_part, found))
-        return State(run, list(found)[::-1], over)
+        return State(ahead, run, len(found), list(found)[::-1], over)
 
     def _is_of_part(self, rows: Rows) -> bool:
         return self._listing.sequence(rows)[: len(self.picks)] == self.picks
@@ -102,18 +112,30 @@ class Ladders(Iterator[Ladder]):
         return "<Ladders of a table %d by %d%s%s>" % (self._listing.table.gauges, self._listing.table.cases, by_cases, part)
 
     def __getstate__(self) -> Tuple[Any, ...]:
-        """Numbers alone: the release, which is the first in every release, and the words of the run, which have the table, the side and the preference."""
+        """Numbers alone: the release, which is the first in every release, and the words of the run behind the last ladder that was taken, which have the
+        table, the side and the preference. Ladders that were listed ahead are not stored: what is stored can all be judged."""
+        return h.RG_VERSION, tuple(self._run_here()), self.picks
+
+    def _run_here(self) -> Any:
+        """The run behind the last ladder that was taken: ladders of the last batch are listed again, where some are left of it or the list is over."""
         state = self._state
-        return h.RG_VERSION, tuple(state.run), self.picks, tuple(state.left[::-1]), state.over
+        if not state.left and not state.over:
+            return state.run
+        run, taken = words(h.RG_RUN_WORDS, state.ahead), state.size - len(state.left)
+        if taken:
+            self._listing.batch(run, taken)
+        return run
 
     def __setstate__(self, stored: Tuple[Any, ...]) -> None:
         """Goes on from what another process stored, where the library takes it."""
         check_release(stored[0])
-        _, run, self.picks, left, over = stored
+        _, run, picks = stored
         if len(run) != h.RG_RUN_WORDS:
             raise ValueError("a paused run has %d words, not %d" % (h.RG_RUN_WORDS, len(run)))
-        self._state = State(words(h.RG_RUN_WORDS, map(word, run)), list(left)[::-1], over)
+        self._state, self.picks = fresh(words(h.RG_RUN_WORDS, map(word, run))), tuple(picks)
         self._listing = listing_of(self._state.run)
+        if not begins(self._state.run, self.picks):
+            raise Refused(h.RG_PAUSED, "its picks do not begin with %s, as those of its part do" % " ".join(map(str, self.picks)))
 
 
 def check_release(version: int) -> None:

@@ -3,6 +3,7 @@
 from __future__ import annotations
 
 import ctypes
+import operator
 from typing import Any, Iterable, Sequence, Tuple
 
 from . import _layout as h
@@ -41,6 +42,7 @@ def up_to_zero(found: Sequence[int]) -> Tuple[int, ...]:
 
 
 def check_row(row: int) -> int:
+    row = operator.index(row)
     if not 0 <= row <= GREATEST_WORD:
         raise ValueError("%d is no row: a row has a bit for each of %d cases" % (row, h.RG_MOST))
     return row
@@ -51,6 +53,8 @@ def table_words(gauges: int, cases: int, rows: Rows) -> Any:
     made = words(h.RG_TABLE_WORDS)
     made[h.RG_TABLE_GAUGES], made[h.RG_TABLE_CASES] = word(gauges), word(cases)
     if gauges <= h.RG_MOST and cases <= h.RG_MOST:
+        if len(rows) > h.RG_ROWS:
+            raise ValueError("a table has at most %d rows, not %d" % (h.RG_ROWS, len(rows)))
         made[h.RG_TABLE_ROWS : h.RG_TABLE_ROWS + len(rows)] = [check_row(row) for row in rows]
     return made
 

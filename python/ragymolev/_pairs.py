@@ -30,12 +30,11 @@ def pairs_of(rows: Iterable[int]) -> Tuple[Pair, ...]:
 
 
 def pair_of(pair: Pair) -> Pair:
-    """A pair that is handed in: two whole numbers."""
-    try:
-        gauge, case = pair
-    except (TypeError, ValueError):
-        raise TypeError("a pair is (gauge, case), not %r" % (pair,)) from None
-    return operator.index(gauge), operator.index(case)
+    """A pair that is handed in: two whole numbers, and no truth values, which are those of an array."""
+    values = _arrays.plain(pair)
+    if not isinstance(values, (list, tuple)) or len(values) != 2 or any(isinstance(value, bool) for value in map(_arrays.plain, values)):
+        raise TypeError("a pair is (gauge, case), not %r" % (pair,))
+    return operator.index(values[0]), operator.index(values[1])
 
 
 def rows_of(pairs: Iterable[Pair], gauges: int) -> Rows:
@@ -139,6 +138,8 @@ def rows_in(chain: Chain, gauges: int) -> Rows:
     gauge that the table does not have is refused as one that it does not have, and not for the row count, which nobody has given."""
     if isinstance(chain, Pairs):
         return chain.rows
+    if isinstance(chain, (str, bytes)):
+        raise TypeError("a set of pairs is a Table, a Ladder or pairs (gauge, case), not %r; Table.read reads a file" % (chain,))
     rows = rows_of(chain, gauges)
     if len(rows) > gauges:
         raise Refused(h.RG_NOT_IN_TABLE, "%d:%d" % pairs_of(rows)[-1])

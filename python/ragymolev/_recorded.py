@@ -7,10 +7,10 @@ from typing import Any, Callable, Dict, Tuple
 
 from . import _arrays
 from . import _layout as h
-from ._files import ANY_CUTOFF, Path, bytes_of, call_on_file
+from ._files import ANY_CUTOFF, Path, bytes_of, call_on_file, plain_bytes
 from ._lend import blank_test, one, room, table_rows, words
 from ._library import word
-from ._pairs import Pair, pairs_of
+from ._pairs import Pair, Pairs, pairs_of
 from ._refused import Refused, call, nothing_more
 from ._table import Table
 
@@ -40,7 +40,7 @@ class Test:
 
     def __init__(self, file: bytes, name: str = "bytes") -> None:
         self._test, self._readings = blank_test()
-        call_on_file("rg_read_test", name, True, bytes(file), ANY_CUTOFF, self._test, self._readings, words(h.RG_TABLE_WORDS))
+        call_on_file("rg_read_test", name, True, plain_bytes(file), ANY_CUTOFF, self._test, self._readings, words(h.RG_TABLE_WORDS))
         self._file = written(self._test, self._readings)
 
     @classmethod
@@ -57,6 +57,8 @@ class Test:
     def from_array(cls, array: Any) -> "Test":
         """The test of an array of readings, of NumPy, SciPy or lists of lists: gauges down, cases across. Of a sparse array the entries are those that it
         holds, of any other all places. A reading is cut towards zero: its magnitude reaches a whole cutoff exactly where its whole part does."""
+        if isinstance(array, Pairs):
+            raise ValueError("a %s has pairs and no readings" % type(array).__name__)
         gauges, cases, entries = _arrays.entries_of(array)
         test, readings = blank_test()
         test[h.RG_TEST_KIND], test[h.RG_TEST_GAUGES], test[h.RG_TEST_CASES] = h.RG_INTEGER, word(gauges), word(cases)

@@ -1,16 +1,17 @@
-"""Tables, and every question that can be asked of one. The library answers; here are only the words that are lent to it, and what is made of its answers."""
+"""Tables, and the questions that can be asked of one. The library answers; here are only the words that are lent to it, and what is made of its answers."""
 
 from __future__ import annotations
 
 import functools
 import operator
+from collections.abc import Mapping, Set
 from typing import Any, Callable, Iterable, List, Optional, Tuple, Union
 
 from . import _arrays, _witness
 from . import _layout as h
 from ._answers import Count, Cover, Proposal, Rivals
 from ._check import MOST_MISSING, Report, check_list
-from ._files import Path, bytes_of, call_on_file, is_test
+from ._files import Path, bytes_of, call_on_file, is_test, plain_bytes
 from ._ladders import Ladder, Ladders
 from ._lend import Rows, chain_rows, chain_words, one, room, table_rows, table_words, words
 from ._library import GREATEST_WORD, word
@@ -24,12 +25,13 @@ Order = Optional[Iterable[int]]
 
 
 def row_of(row: Row) -> int:
-    """A row as a number: a number as it is, cases by number as their bits."""
+    """A row as a number: a number as it is, cases by number as their bits. Truth values are neither."""
+    row = _arrays.plain(row)
+    cases = [_arrays.plain(case) for case in row] if hasattr(row, "__iter__") else []
+    if isinstance(row, bool) or any(isinstance(case, bool) or operator.index(case) < 1 for case in cases):
+        raise ValueError("a row has the numbers of its cases, from 1; Table.from_array takes zeros and ones")
     if not hasattr(row, "__iter__"):
         return operator.index(row)
-    cases = list(row)
-    if any(isinstance(case, bool) or operator.index(case) < 1 for case in cases):
-        raise ValueError("a row has the numbers of its cases, from 1; Table.from_array takes zeros and ones")
     return sum(1 << (case - 1) for case in set(map(operator.index, cases)))
 
 
@@ -66,7 +68,8 @@ class Table(Pairs):
     def from_bytes(cls, file: bytes, name: str = "bytes") -> "Table":
         """The table of a file of pairs that is in memory; a refusal calls it by the name."""
         table = words(h.RG_TABLE_WORDS)
-        call_on_file("rg_read", name, False, bytes(file), table, why=lambda number: "it has readings: Test.read takes it" if is_test(bytes(file)) else "")
+        file = plain_bytes(file)
+        call_on_file("rg_read", name, False, file, table, why=lambda number: "it has readings: Test.read takes it" if is_test(file) else "")
         return cls(*table_rows(table))
 
     @classmethod
@@ -77,6 +80,8 @@ class Table(Pairs):
             return cls(rows.gauges, rows.cases if cases is None else operator.index(cases), rows.rows)
         if len(getattr(rows, "shape", ())) > 1:
             raise ValueError("rows are numbers or cases by number; Table.from_array takes an array of gauges by cases")
+        if isinstance(rows, (Mapping, Set)):
+            raise ValueError("rows stand one after the other, one for each gauge, and not in a %s" % type(rows).__name__)
         numbers = tuple(row_of(row) for row in rows)
         highest = max((row.bit_length() for row in numbers), default=0)
         return cls(len(numbers), highest if cases is None else operator.index(cases), numbers)
@@ -195,6 +200,8 @@ class Table(Pairs):
 
     def commit(self, proposal: Proposal) -> "Table":
         """The table with the entry of a proposal flipped, where that is what the trial on this table gives."""
+        if not isinstance(proposal, Proposal):
+            raise TypeError("a commit takes what a trial gave, a Proposal, not %r" % (proposal,))
         flipped, other = words(h.RG_TABLE_WORDS), "" if proposal.table == self else "the trial was made on another table"
         call("rg_commit", words(h.RG_PROPOSAL_WORDS, map(word, proposal._words)), self._words(), flipped, why=lambda number: other)
         return Table(*table_rows(flipped))

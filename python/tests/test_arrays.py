@@ -109,9 +109,18 @@ class Dense(Case):
         for array in (K3.to_array(), K3.to_array().astype(int), numpy.ones((2, 2), dtype=int)):
             with self.assertRaisesRegex(ValueError, "Table.from_array"):
                 Table.from_rows(array)
-        for rows in ([[True, False]], [[1, 0]], [[True, True]]):
+        true = numpy.array([True, True])
+        for rows in ([[True, False]], [[1, 0]], [[True, True]], [true], true, [list(true)], true.astype(object)):
             with self.assertRaisesRegex(ValueError, "Table.from_array"):
                 Table.from_rows(rows)
+
+    def test_an_array_is_no_pairs(self):
+        """One of two cases has rows of two values, as pairs have."""
+        ladder = Table.from_rows([3]).grow([])
+        for array in (ladder.to_array(), [[True, True]], list(ladder.to_array()), [list(ladder.to_array()[0])]):
+            with self.assertRaisesRegex(TypeError, r"a pair is \(gauge, case\), not "):
+                ladder.table.judge(array)
+        self.assertEqual(ladder.table.judge(Table.from_array(ladder.to_array())), "ladder")
 
     def test_single_numbers(self):
         rows, array = numpy.array(K3.rows, dtype="uint64"), K3.to_array()

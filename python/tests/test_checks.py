@@ -115,3 +115,4 @@ class Checks(unittest.TestCase):
         self.assertEqual((report.ended, report.complete, len(report.missing), report.ladders, report.matched), (False, False, 100, 101, 1))
         verdict = "not complete: 101 or more ladders, 2 entries: 100 or more missing, 1 a chain and no ladder"
         self.assertEqual(report.verdict, verdict)
+        self.assertEqual(table.check([], most_missing=1).verdict, "not complete: 1 or more ladders, 0 entries: 1 or more missing")

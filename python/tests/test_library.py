@@ -8,6 +8,7 @@ import unittest
 from unittest import mock
 
 import ragymolev
+import wheel_backend
 from ragymolev import _find, _layout, _library
 
 from . import plain
@@ -89,3 +90,13 @@ class Loaded(unittest.TestCase):
                 last = ended.stderr.decode().strip().split("\n")[-1]
                 self.assertEqual(ended.returncode, 1)
                 self.assertTrue(last.startswith("ImportError: ") and said in last, last)
+
+
+class Wheel(unittest.TestCase):
+    def test_an_archive_that_cannot_be_linked(self):
+        """No traceback, but what is wrong: no compiler, and one that fails."""
+        for compiler, said in (("/none/cc", "No such file or directory: '/none/cc'"), ("false", "returned non-zero exit status 1.")):
+            with mock.patch.dict(os.environ, {"CC": compiler}), self.assertRaises(SystemExit) as ended:
+                wheel_backend.linked()
+            self.assertIn("libragymolev.a cannot be linked into a shared library: ", str(ended.exception))
+            self.assertTrue(str(ended.exception).endswith(said), str(ended.exception))

@@ -77,9 +77,21 @@ class Pauses(unittest.TestCase):
         self.assertEqual((second.table, second), (plain.K2, next(run)))
 
     def test_pickles_name_nothing_but_the_package(self):
-        named = [argument for _, argument, _ in pickletools.genops(pickle.dumps(plain.K2.ladders())) if isinstance(argument, str)]
-        self.assertIn("ragymolev", named)
-        self.assertFalse([name for name in named if name.startswith("ragymolev.")])
+        table, ladder = plain.K2, next(plain.K2.ladders())
+        for given in (table, ladder, table.ladders(), table.check([]), table.cover(), table.rivals((1, 2)), table.trial(ladder, (1, 1))):
+            named = [argument for _, argument, _ in pickletools.genops(pickle.dumps(given)) if isinstance(argument, str)]
+            self.assertIn("ragymolev", named)
+            self.assertFalse([name for name in named if name.startswith("ragymolev.")], given)
+
+    def test_what_is_pickled_can_all_be_judged(self):
+        """The release, the words of a run that the library takes, and the picks of a part that the run is in: no ladder that was listed ahead."""
+        for taken in (0, 1, 5, 6, 24, 25):  # of 120 ladders in 5 parts
+            run = plain.lacks_diagonal(5).parts(5)[1]
+            last = [*itertools.islice(run, taken)][-1:]
+            version, words, picks = run.__getstate__()
+            self.assertEqual((version, picks), (_layout.RG_VERSION, (2,)))
+            at = words[_layout.RG_RUN_PICKS :][: words[_layout.RG_RUN_COUNT]]
+            self.assertEqual(at, last[0].picks if last else (2,))
 
     def test_over_stays_over(self):
         run = plain.K2.ladders()
@@ -118,6 +130,12 @@ class Pauses(unittest.TestCase):
         run, stored = self.stored(lambda words: words[:-1])
         with self.assertRaisesRegex(ValueError, "a paused run has 199 words, not 198"):
             run.__setstate__(stored)
+
+    def test_a_part_that_its_run_is_not_in(self):
+        run, (version, words, _) = self.stored(lambda words: words)
+        with self.assertRaises(Refused) as refused:
+            run.__setstate__((version, words, (3, 1)))
+        self.assertEqual((refused.exception.number, refused.exception.reason), (15, "its picks do not begin with 3 1, as those of its part do"))
 
     def test_a_run_of_another_layout(self):
         """Its first word tells it."""

@@ -82,5 +82,6 @@ class Arrays(unittest.TestCase):
     def test_refused(self):
         given = [[[1000001]], [[-1000001]], [[2**31]], [[-(2**31)]], [[1e300]], [[float("inf")]], [[1] * 65], []]
         self.assertEqual([number_of(Test.from_array, rows) for rows in given], [20] * 6 + [10] * 2)
-        with self.assertRaises(ValueError):
-            Test.from_array([[float("nan")]])
+        for given, said in (([[float("nan")]], "gauge 1, case 1: nan is no number"), ([[1j]], "gauge 1, case 1: 1j is no reading"), (plain.K2, "no readings")):
+            with self.assertRaisesRegex(ValueError, said):
+                Test.from_array(given)

@@ -127,10 +127,17 @@ class Reasons(unittest.TestCase):
             self.assertEqual(str(raised.exception), "refused " + said)
 
     def test_pairs_that_are_none(self):
-        for pair in (1, (1,), (1, 2, 3), "1:2", None):
+        for pair in (1, (1,), (1, 2, 3), "1:2", "12", None, (True, 2), {1, 2}):
             for asked in (plain.K2.rivals, lambda pair: plain.K2.trial(LADDER, pair), lambda pair: plain.K2.judge([pair]), lambda pair: pair in plain.K2):
                 with self.assertRaisesRegex(TypeError, r"a pair is \(gauge, case\), not "):
                     asked(pair)
+
+    def test_sets_and_proposals_that_are_none(self):
+        for asked in (plain.K2.judge, plain.K2.grow, lambda name: plain.K2.order([], name), lambda name: plain.K2.check([name])):
+            with self.assertRaisesRegex(TypeError, "not 'k6.mtx'; Table.read reads a file"):
+                asked("k6.mtx")
+        with self.assertRaisesRegex(TypeError, "a commit takes what a trial gave, a Proposal, not 'proposal'"):
+            plain.K2.commit("proposal")
 
     def test_a_traceback_names_the_package(self):
         self.assertEqual(Refused.__module__, "ragymolev")

@@ -10,7 +10,7 @@ import unittest
 from pathlib import Path
 from unittest import mock
 
-from ragymolev import Refused, Table, comments, make
+from ragymolev import Refused, Table, Test, comments, make
 
 from . import plain
 from .stand_ins import Array, Frame, NumPy, Sparse
@@ -83,6 +83,13 @@ class Files(unittest.TestCase):
         self.assertEqual((refused.exception.number, refused.exception.line), (1, 0))
         self.assertEqual(str(refused.exception), name + ": refused 1: file longer than 65,536 bytes")
 
+    def test_what_is_no_file_in_memory(self):
+        for given in (5, "text", [1, 2], None):  # `bytes` would make five zeros of the first
+            for take in (Table.from_bytes, Test.from_bytes):
+                with self.assertRaisesRegex(TypeError, "a bytes-like object is required"):
+                    take(given)
+        self.assertEqual(Table.from_bytes(memoryview(FILE)), Table.from_bytes(FILE))
+
     def test_a_file_that_is_not_there(self):
         with self.assertRaises(FileNotFoundError):
             Table.read(plain.of_example("none.mtx"))
@@ -127,9 +134,13 @@ class Rows(unittest.TestCase):
         self.assertEqual(refused.exception.number, 11)
 
     def test_no_rows(self):
-        for rows in ([{0}], [{-1}], [[65]], [-1], [2**64]):
+        for rows in ([{0}], [{-1}], [[65]], [-1], [2**64], [True, False], {1: [2]}, {3, 6}):
             with self.assertRaises(ValueError):
                 Table.from_rows(rows, 64)
+        with self.assertRaisesRegex(ValueError, "a table has at most 64 rows, not 65"):
+            Table(1, 2, [1] + [0] * 64)
+        with self.assertRaisesRegex(TypeError, "'str' object cannot be interpreted as an integer"):
+            Table(1, 2, ["1"])
         for rows in ([1.5], ["x"], [None], 3):
             with self.assertRaises(TypeError):
                 Table.from_rows(rows)
