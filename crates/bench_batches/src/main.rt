@@ -1,7 +1,8 @@
-// What bench/run measures of batches: a table from standard input is listed whole, by gauges or by cases, in batches, some times over. Arguments: the
-// side, `gauges` or `cases`, the budget of a batch with the number of repeats and the words of its buffer, at most 65,536, as one word of three numbers,
-// and `omit` or `reversed` as for crate `bench_runs`. It writes what that one writes: the number of ladders and a sum that depends on every row of each
-// and on their order.
+// What bench/run measures of batches: a table from standard input is listed whole, by gauges or by cases, in batches,
+// some times over. Arguments: the side, `gauges` or `cases`, the budget of a batch with the number of repeats and the
+// words of its buffer, at most 65,536, as one word of three numbers, and `omit` or `reversed` as for crate
+// `bench_runs`. It writes what that one writes: the number of ladders and a sum that depends on every row of each and
+// on their order.
 use file_text::Fields;
 use libc::STDIN_FILENO;
 use libc::STDOUT_FILENO;
@@ -107,7 +108,7 @@ fn repeat_cases(
     tally
 }
 
-// The numbers of an order: 1, 2, 3 and on, or from the last to the first.
+// The numbers of an order: 1, 2, 3, .., or from the last to the first.
 fn numbers(n: u64) -> [u8; 64] {
     if is_given(3, b"reversed") {
         return reversed(n);

@@ -1,8 +1,8 @@
-// What bench/run measures: a table from standard input is listed whole, by gauges or by cases, one public run call a ladder, some times over.
-// Arguments: the side, `gauges` or `cases`, the budget of a call with the number of repeats, as one word of two numbers, and `omit` for a run
-// that omits the ladders with no essential pair, or `reversed` for one that prefers the last number to the first. It writes the number of
-// ladders and a sum that depends on every row of each and on their order. The plain lister in bench/plain.rs writes the same, never omits and
-// goes by number.
+// What bench/run measures: a table from standard input is listed whole, by gauges or by cases, one public run call a
+// ladder, some times over. Arguments: the side, `gauges` or `cases`, the budget of a call with the number of repeats,
+// as one word of two numbers, and `omit` for a run that omits the ladders with no essential pair, or `reversed` for
+// one that prefers the last number to the first. It writes the number of ladders and a sum that depends on every row
+// of each and on their order. The plain lister in bench/plain.rs writes the same, never omits and goes by number.
 use file_text::Fields;
 use libc::STDIN_FILENO;
 use libc::STDOUT_FILENO;
@@ -91,7 +91,7 @@ fn repeat_cases(t: Table, omit: bool, budget: u64, repeats: u64) -> Tally {
     tally
 }
 
-// The numbers of an order: 1, 2, 3 and on, or from the last to the first.
+// The numbers of an order: 1, 2, 3, .., or from the last to the first.
 fn numbers(n: u64) -> [u8; 64] {
     if is_given(3, b"reversed") {
         return reversed(n);
@@ -196,7 +196,8 @@ fn with(tally: Tally, ladder: Chain) -> Tally {
     }
 }
 
-// The first rows as one number, each shifted by another multiple of 7: gauges and cases cannot be mistaken for each other.
+// The first rows as one number, each shifted by another multiple of 7: gauges and cases cannot be mistaken for each
+// other.
 fn folded(rows: &[u64; 64], gauges: u64) -> u64 {
     let mut x: u64 = 0;
     let mut i: u64 = 0;

@@ -1,9 +1,9 @@
--- A batch with the greatest budget is so many calls with the greatest budget each: what it comes to (`batch-made`), its ladders as words
--- (`ladders-joined`), and how long their files are.
+-- A batch with the greatest budget is so many calls with the greatest budget each: what it gives (`batch-made`), its
+-- ladders as words (`ladders-joined`), and how long their files are.
 --
--- In order: a call that is not spent is the same with every larger budget (`call-larger`); a batch as calls (`Made`), of a run that omits nothing
--- (`made-many`) and of one call (`made-one`); the words of ladders; the sets handed out are the table's (`handed-all`), so their files are legal and short
--- (`all-legal`, `files-most`, `files-first`).
+-- In order: a call that is not spent is the same with every larger budget (`call-larger`); a batch as calls (`Made`),
+-- of a run that omits nothing (`made-many`) and of one call (`made-one`); the words of ladders; the sets handed out
+-- are the table's (`handed-all`), so their files are legal and short (`all-legal`, `files-most`, `files-first`).
 --
 -- Elsewhere: the turn that a batch is, OneTurn.antt.
 use mathlib.Core.Path.{_≡_, refl, sym, ap, _∙_, subst}
@@ -76,7 +76,8 @@ ended full = false
 ended used = false
 ended over = true
 
--- what a batch with room for k ladders comes to is so many calls, each with the greatest budget: all but the last hand a set out
+-- what a batch with room for k ladders gives is so many calls, each with the greatest budget: all but the last hand a
+-- set out
 pub record Made (t : Table) (order : List ℕ) (omit : Bool) (s : State) (k : ℕ) (u : Tale) : Type 0 where
   pub many : ℕ
   pub most : many ≤ k

@@ -1,8 +1,8 @@
 -- Turns one after another are what `Fills` says of a block, and each return of `fill` is what `Filled` says.
 --
--- In order: a block so far (`UpTo`), as it starts and after a turn (`upto-start`, `upto-turn`); where it stops it is `Fills` (`full-on`, `stop-on`),
--- and elsewhere it goes on (`going-on`); a turn in which each call hands something out has a file (`some-on`), so the turns come to an end; what `fill`
--- answers.
+-- In order: a block so far (`UpTo`), as it starts and after a turn (`upto-start`, `upto-turn`); where it stops it is
+-- `Fills` (`full-on`, `stop-on`), and elsewhere it goes on (`going-on`); a turn in which each call hands something
+-- out has a file (`some-on`), so the turns reach an end; what `fill` answers.
 use mathlib.Core.Path.{_≡_, refl, sym, ap, ap₂, _∙_, subst}
 use mathlib.Core.Logic.{inl, inr}
 use mathlib.Core.Bool.{Bool, true, false}

@@ -1,10 +1,10 @@
 -- One law for each return of the steps.
 --
--- In order: what the rules give for a call (`same-answer`, `never-refused`); the check of a value (`checked-refused`, `checked-passed`); a file put at a
--- place (`put-fits`, `put-length`, `put-refused`), and files one after another (`put-none`, `put-more`); a turn: the ladders of its batch
--- (`ladders-there`), and what it adds (`turned-batch`).
+-- In order: what the rules give for a call (`same-answer`, `never-refused`); the check of a value (`checked-refused`,
+-- `checked-passed`); a file put at a place (`put-fits`, `put-length`, `put-refused`), and files one after another
+-- (`put-none`, `put-more`); a turn: the ladders of its batch (`ladders-there`), and what it adds (`turned-batch`).
 --
--- Elsewhere: what a batch comes to, Batching.antt; turns one after another, Fillings.antt.
+-- Elsewhere: what a batch gives, Batching.antt; turns one after another, Fillings.antt.
 use mathlib.Core.Path.{_≡_, refl, sym, ap, ap₂, _∙_, subst}
 use mathlib.Core.Logic.{_⊎_, inl, inr}
 use mathlib.Core.Bool.{Bool, true, false}

@@ -1,12 +1,14 @@
--- A lent buffer filled with the files of successive hand-outs of the gauge run, and the blocks so made, one after another. A ladder's file is
--- that of the table of its pairs, with the table's G and L.
+-- A lent buffer filled with the files of successive hand-outs of the gauge run, and the blocks so made, one after
+-- another. A ladder's file is that of the table of its pairs, with the table's G and L.
 --
--- In order: files; one block (`Filled`: which calls are made and what the buffer then holds, for every value and every buffer); blocks one
--- after another (`Listed`: from a fresh start on they are the files of the gauge list under the run's preference, each member's in turn).
+-- In order: files; one block (`Filled`: which calls are made and what the buffer then holds, for every value and
+-- every buffer); blocks one after another (`Listed`: from a fresh start on they are the files of the gauge list under
+-- the run's preference, each member's in turn).
 --
--- Elsewhere: that `Filled` can be met for every input and leaves one answer, `filled-exists` and `filled-unique` in proofs/Deciding.antt; that
--- the longest file is attained, `longest-attained` there; that lists of blocks exist and come to the list's end, proofs/Existence.antt; that in
--- plain order the list is the gauge list, `plain-list` in proofs/PlainBlocks.antt.
+-- Elsewhere: that `Filled` can be met for every input and leaves one answer, `filled-exists` and `filled-unique` in
+-- proofs/Deciding.antt; that the longest file is attained, `longest-attained` there; that lists of blocks exist and
+-- reach the list's end, proofs/Existence.antt; that in plain order the list is the gauge list, `plain-list` in
+-- proofs/PlainBlocks.antt.
 use mathlib.Core.Path.{_≡_}
 use mathlib.Core.Logic.{_⊎_}
 use mathlib.Core.Bool.{Bool, true, false, _||_}
@@ -42,7 +44,8 @@ abbrev pub longest : ℕ
 longest = 23484
 
 -- ---- a block
--- 01's number, 0 where nothing is refused; the value after the calls made; how many bytes were filled; and whether a call answered end
+-- 01's number, 0 where nothing is refused; the value after the calls made; how many bytes were filled; and whether a
+-- call answered end
 pub record Filling : Type 0 where
   pub refusal : ℕ
   pub value : Value
@@ -53,8 +56,8 @@ pub record Filling : Type 0 where
 abbrev pub block : Block → Filling
 block b = record { refusal = verdict (b .verdict); value = gaugeValue (b .run); used = b .used; over = b .over }
 
--- the first n calls of the gauge run on t with the preference in the 64 numbers of order (02, R-12), one that omits or does not, from the state s
--- on, each with the greatest budget, and the state after them
+-- the first n calls of the gauge run on t with the preference in the 64 numbers of order (02, R-12), one that omits
+-- or does not, from the state s on, each with the greatest budget, and the state after them
 abbrev pub calls : Table → List ℕ → Bool → ℕ → State → List Call
 calls t order omit n s = callsBy (movesOf t (gaugeSide t) (arrangement (gaugeSide t) order) omit) (handOut (gaugeSide t)) (replicate n mostBudget) s
 
@@ -65,7 +68,8 @@ after t order omit n s = stateBy (movesOf t (gaugeSide t) (arrangement (gaugeSid
 abbrev pub text : Table → List ℕ → Bool → ℕ → State → List ℕ
 text t order omit n s = files t (handouts (calls t order omit n s))
 
--- an answer of end; and one that hands nothing out, which a run that omits nothing gives to the greatest budget at the end alone
+-- an answer of end; and one that hands nothing out, which a run that omits nothing gives to the greatest budget at
+-- the end alone
 abbrev pub isEnd : Reply → Bool
 isEnd (refused n) = false
 isEnd spent = false
@@ -92,9 +96,10 @@ pub record Untouched (n : ℕ) (before : List ℕ) (f : Filling) (now : List ℕ
 abbrev pub Stops : Table → List ℕ → Bool → State → ℕ → ℕ → Type 0
 Stops t order omit s room n = (has isNone (calls t order omit n s) ≡ true) ⊎ (room < length (text t order omit n s) + longest)
 
--- the block from the state s on, of a run with the preference in order, one that omits or does not: calls are made until they stop, no sooner and no
--- later. The buffer's front is the files of what they handed out, in turn, and behind it is what was there; the value is that after the calls, and
--- keeps the preference; over says whether one of them answered end.
+-- the block from the state s on, of a run with the preference in order, one that omits or does not: calls are made
+-- until they stop, no sooner and no later. The buffer's front is the files of what they handed out, in turn, and
+-- behind it is what was there; the value is that after the calls, and keeps the preference; over says whether one of
+-- them answered end.
 pub record Fills (t : Table) (order : List ℕ) (omit : Bool) (s : State) (before : List ℕ) (f : Filling) (now : List ℕ) : Type 0 where
   pub accepted : f .refusal ≡ 0
   pub count : ℕ
@@ -105,8 +110,8 @@ pub record Fills (t : Table) (order : List ℕ) (omit : Bool) (s : State) (befor
   pub value : f .value ≡ paused t order omit (after t order omit count s)
   pub over : f .over ≡ has isEnd (calls t order omit count s)
 
--- f is the answer for the value v and the buffer before, and now is the buffer after: 10, 11, 27 and 15 as a run call has them, then 16 for
--- a buffer shorter than the longest file
+-- f is the answer for the value v and the buffer before, and now is the buffer after: 10, 11, 27 and 15 as a run call
+-- has them, then 16 for a buffer shorter than the longest file
 pub record Filled (v : Value) (before : List ℕ) (f : Filling) (now : List ℕ) : Type 0 where
   pub table : 0 < valueRefusal gaugeSide v → Untouched (valueRefusal gaugeSide v) before f now
   pub value : valueRefusal gaugeSide v ≡ 0 → ((s : State) → PausedAt gaugeSide v s → ⊥) → Untouched 15 before f now
@@ -145,8 +150,8 @@ isOver (i ∷ is) = i .answer .over || isOver is
 abbrev pub ListOf : Table → List ℕ → List (List ℕ) → Type 0
 ListOf t order xs = PreferredList t (gaugeSide t) (arrangement (gaugeSide t) order) xs
 
--- what blocks from a fresh start on t with that preference, of a run that omits nothing, put out: the files of a front of the list, and of all of it
--- once a block is over, which one of any (min G L)! + 1 blocks is
+-- what blocks from a fresh start on t with that preference, of a run that omits nothing, put out: the files of a
+-- front of the list, and of all of it once a block is over, which one of any (min G L)! + 1 blocks is
 pub record Listed (t : Table) (order : List ℕ) (is : List Item) : Type 0 where
   pub front : (xs : List (List ℕ)) → ListOf t order xs → (rest : List (List ℕ)) × (output is ++ files t rest ≡ files t xs)
   pub complete : (xs : List (List ℕ)) → ListOf t order xs → isOver is ≡ true → output is ≡ files t xs

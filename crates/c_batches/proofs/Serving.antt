@@ -1,6 +1,6 @@
--- A batch on words, from what the library promises of it (`batch-at`): the words ahead of its ladders stand over the front of the slice (`put-batch`), a
--- refusal leaves the slice as it was (`batch-kept`), and what is left reads as the batch (`batch-back`), which makes the contract (`lists-of`). One proof
--- for either side.
+-- A batch on words, from what the library promises of it (`batch-at`): the words ahead of its ladders are over the
+-- front of the slice (`put-batch`), a refusal leaves the slice as it was (`batch-kept`), and what is left reads as
+-- the batch (`batch-back`), which makes the contract (`lists-of`). One proof for either side.
 use mathlib.Core.Path.{_≡_, refl, sym, ap, ap₂, _∙_, subst}
 use mathlib.Core.Logic.{_⊎_, inl, inr}
 use mathlib.Core.Bool.{Bool}

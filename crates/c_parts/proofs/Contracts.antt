@@ -1,5 +1,5 @@
--- The contracts of the entries, from what each gives by value, on either side (`candidates-of`, `part-of`): what the words come to is in Reading.antt, and any
--- choice of parts in Whole.antt.
+-- The contracts of the entries, from what each gives by value, on either side (`candidates-of`, `part-of`): what the
+-- words give is in Reading.antt, and any choice of parts in Whole.antt.
 use mathlib.Core.List.{List}
 use Prim.Native.Nat.{ℕ}
 use Rattle.table.specs.declared.Table.{Table}

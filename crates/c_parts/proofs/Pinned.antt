@@ -1,7 +1,9 @@
--- The contracts of the entries pin what they give, on either side: for every slices there is a number with the words left (`candidates-words-exist`,
--- `part-words-exist`), and no other (`candidates-words-unique`, `part-words-unique`). What a caller is promised of run calls, put to use, holds of calls that
--- there are (`part-words-run`), and enough of them close the part (`part-words-closed`). Parts from C split again: the words that a part was put into are
--- those of a part (`part-words-are`), of which the entries give the candidates (`candidates-words-again`) and the part of each (`part-words-again`).
+-- The contracts of the entries pin what they give, on either side: for every slices there is a number with the words
+-- left (`candidates-words-exist`, `part-words-exist`), and no other (`candidates-words-unique`, `part-words-unique`).
+-- What a caller is promised of run calls, put to use, holds of calls that there are (`part-words-run`), and enough of
+-- them close the part (`part-words-closed`). Parts from C split again: the words that a part was put into are those
+-- of a part (`part-words-are`), of which the entries give the candidates (`candidates-words-again`) and the part of
+-- each (`part-words-again`).
 --
 -- In order: the candidates; the part of one; run calls; splitting again.
 use mathlib.Core.Path.{_≡_, refl, sym, ap, _∙_, subst}
@@ -69,7 +71,8 @@ module _ (side : Table → Side) (n : ℕ) (w : List ℕ) where
     part-words-unique a b r s g f =
         gives-unique out shortPart (λ x y p q. part-unique side v k x y (p .part) (q .part)) a b r s (g .gives) (f .gives)
 
-    -- the library's promise can be met: a part keeps the 64 rows and numbers that were read, and what stands beside a refusal has as many
+    -- the library's promise can be met: a part keeps the 64 rows and numbers that were read, and what is beside a
+    -- refusal has as many
     promised : Startable side → (a : Answer Value) × Part side v k a
     promised all = go (chosen-or-refused side v k (read-starts side all n w))
       where
@@ -121,7 +124,8 @@ module _ (side : Table → Side) (all : Startable side) (n : ℕ) (w : List ℕ)
             (record { reached = more-reached side (valueAt n w) k (read-starts side all n w) c; stands = refl });
       }
 
-  -- what the entry left: the words of a part, whose picks are those of w and a candidate more, the one with the number k
+  -- what the entry left: the words of a part, whose picks are those of w and a candidate more, the one with the
+  -- number k
   pub part-words-are : (k : ℕ) (out out′ : List ℕ) (r : ℕ) → GivesPart side n w k out out′ r → r ≡ 0
       → (p : List ℕ) × PausedAt side (valueAt n w) (at p Down) × (i : ℕ) × List·Memᴰ i (nextPicks side (valueAt n w) p) × (k ≡ suc i)
       × PartWords side n out′ (p ++ (i ∷ []))

@@ -1,8 +1,8 @@
--- What the words of a part come to, on either side: run calls on them list the part (`lists-part-words`), and the words that a part was put into read as the
--- part (`part-back`, `part-read`).
+-- What the words of a part give, on either side: run calls on them list the part (`lists-part-words`), and the words
+-- that a part was put into read as the part (`part-back`, `part-read`).
 --
--- Elsewhere: run calls by value, split/proofs/PartRuns.antt; a list of calls on words is one of calls by value, c_runs/proofs/WordCalls.antt; what was put
--- is read back, run_words/proofs/ReadingBack.antt.
+-- Elsewhere: run calls by value, split/proofs/PartRuns.antt; a list of calls on words is one of calls by value,
+-- c_runs/proofs/WordCalls.antt; what was put is read back, run_words/proofs/ReadingBack.antt.
 use mathlib.Core.Path.{_≡_, sym, ap, _∙_, subst}
 use mathlib.Core.Logic.{_⊎_, inl, inr}
 use mathlib.Core.List.{List}

@@ -1,5 +1,5 @@
--- Whether a paused value of either side is one that has handed out a ladder is decided (`handed-decided`), and it is so by one list of picks only
--- (`picks-one`).
+-- Whether a paused value of either side is one that has handed out a ladder is decided (`handed-decided`), and it is
+-- so by one list of picks only (`picks-one`).
 --
 -- Elsewhere: the same in any phase, `paused-decided` in runs/proofs/Deciding.antt.
 use mathlib.Core.Path.{_≡_, refl, sym, ap, _∙_, subst}
@@ -23,7 +23,7 @@ is-handed (Back k) = no (λ e. clash cc)
 is-handed Ended = no (λ e. clash cc)
 
 module _ (side : Table → Side) (v : Value) where
-  -- a value stands for one state
+  -- a value represents one state
   state-one : (s z : State) → PausedAt side v s → PausedAt side v z → s ≡ z
   state-one s z h k = paused-state (v .table) (v .order) (v .omit) s z (sym (h .stands) ∙ k .stands)
 

@@ -1,6 +1,7 @@
--- The entries one after another: what a call of the reader leaves in the slices is what the writer and the comparison take, the test that the file holds
--- (`read-back`, `read-passes`), and its table at the cutoff stands beside it (`read-table`); what the writer left reads back as the test
--- (`write-test-back`); and both refuse a word that is no kind with 10, or else 11 (`no-kind-written`, `no-kind-compared`).
+-- The entries one after another: what a call of the reader leaves in the slices is what the writer and the comparison
+-- take, the test that the file holds (`read-back`, `read-passes`), and its table at the cutoff is beside it
+-- (`read-table`); what the writer left reads back as the test (`write-test-back`); and both refuse a word that is no
+-- kind with 10, or else 11 (`no-kind-written`, `no-kind-compared`).
 --
 -- Pins, which nothing else cites: `read-table`, `no-kind-written`, `no-kind-compared`.
 use mathlib.Core.Path.{_≡_, refl, ap, sym, _∙_, subst}

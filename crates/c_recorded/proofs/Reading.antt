@@ -1,5 +1,5 @@
--- A test by what was read, and what reading says of it: what is put reads back (`test-words`, `test-back`), and a word that is no kind gets 10, or else 11
--- (`no-kind-shape`, `no-kind-rest`, `no-kind-refused`).
+-- A test by what was read, and what reading says of it: what is put reads back (`test-words`, `test-back`), and a
+-- word that is no kind gets 10, or else 11 (`no-kind-shape`, `no-kind-rest`, `no-kind-refused`).
 --
 -- Pins, which nothing else cites: `test-words`.
 use mathlib.Core.Path.{_≡_, refl, ap, sym, _∙_}
@@ -52,7 +52,7 @@ pub test-is : (w : List ℕ) (v : List ℤ) (x g l : ℕ) (k : Kind) (r : List �
     → _≡_ {A = Test} (record { kind = k; gauges = g; cases = l; entries = r; readings = s }) (testAt w v)
 test-is w v x g l k r s ex eg el er es ek = rw (ek, eg, el, er, es, ex)
 
--- ---- what is put reads back, whatever stands behind it
+-- ---- what is put reads back, whatever comes after it
 same-test : (t : Test) (k : Kind) (r : List ℕ) (s : List ℤ) → k ≡ t .kind → r ≡ t .entries → s ≡ t .readings
     → _≡_ {A = Test} (record { kind = k; gauges = t .gauges; cases = t .cases; entries = r; readings = s }) t
 same-test t k r s ek er es = rw (ek, er, es)

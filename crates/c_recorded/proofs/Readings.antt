@@ -1,4 +1,5 @@
--- Laws of lent readings: the first 4,096 of a slice, and readings put over its front, as a loop reads or puts them one after the other.
+-- Laws of lent readings: the first 4,096 of a slice, and readings put over its front, as a loop reads or puts them
+-- one after the other.
 --
 -- Elsewhere: the same of words, sets/proofs/Tabulated and words/proofs/Storing.
 use mathlib.Core.Path.{_≡_, refl, ap, sym, _∙_}
@@ -33,7 +34,7 @@ readings-length v = length-take-le 4096 (v ++ noReadings) (omega (arith, length-
 reading-there : (v : List ℤ) (i : ℕ) → i < 4096 → reading (readingsAt v) i ≡ reading v i
 reading-there v i h = getD-take 4096 (v ++ noReadings) i (pos 0) h ∙ behind 4096 v i
 
--- what stands in front of others reads back
+-- what is in front of others reads back
 pub readings-front : (vs more : List ℤ) → length vs ≡ 4096 → readingsAt (vs ++ more) ≡ vs
 readings-front vs more e = ap (take 4096) (append-assoc vs more noReadings) ∙ take-at vs (more ++ noReadings) 4096 e
 

@@ -24,7 +24,7 @@ pub side-start : (b : Bool) → Startable (sideOf b)
 side-start false = gauge-started
 side-start true = case-started
 
--- an arrangement of a side stands in 64 numbers, and so the side has at most 64
+-- an arrangement of a side is in 64 numbers, and so the side has at most 64
 pub few : (side : Table → Side) (t : Table) (k : List ℕ) → length k ≡ 64 → Started side t k → side t .count ≤ 64
 few side t k long g =
     omega (arith, g .arranged .size, length-map (take (side t .count) k) (λ x. x - 1), length-take (side t .count) k, long)

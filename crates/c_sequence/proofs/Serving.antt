@@ -1,5 +1,5 @@
--- What the library promises, of the words that were read: the table, the preference and the set by the equations of reading (`sequenced-at`);
--- and of the side that a mark stands for (`at-mark`).
+-- What the library promises, of the words that were read: the table, the preference and the set by the equations of
+-- reading (`sequenced-at`); and of the side that a mark names (`at-mark`).
 use mathlib.Core.Path.{_≡_}
 use mathlib.Core.Bool.{Bool}
 use mathlib.Core.List.{List}

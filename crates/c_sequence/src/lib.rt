@@ -1,5 +1,6 @@
-// The pick sequence of a ladder, on lent words: what the C library's entries of these names do. One function of either side stands below both. Any slices are
-// taken: a slice shorter than its layout is refused with 100 before anything else, and a refusal leaves every word as it was. No function has a `requires`.
+// The pick sequence of a ladder, on lent words: what the C library's entries of these names do. One function of
+// either side is below both. Any slices are taken: a slice shorter than its layout is refused with 100 before
+// anything else, and a refusal leaves every word as it was. No function has a `requires`.
 use preference::CaseOrder;
 use preference::GaugeOrder;
 use refusals::Verdict;

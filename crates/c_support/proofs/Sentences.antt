@@ -1,11 +1,13 @@
 -- What a caller reads off the promises, sentence by sentence (specs/Serving and specs/Words).
 --
--- In order: the number of a release: which it is (`this-release`), that it tells releases apart (`release-one`) and orders them (`release-later`); which
--- numbers have words (`texts-numbered`, `words-other`), some of these (`words-known`, `words-byte`), and that all are of ASCII, not empty and shorter than
--- their layout (`words-plain`, `words-fit`); what asking for words leaves: 100 and everything as it was (`words-short`), or 0 (`words-number`), the bytes
--- (`words-bytes`), a zero behind them (`words-end`), what stands behind the layout (`words-behind`) and the length (`words-length`); what asking for the plain
--- order leaves: 100 (`plain-short`), 10 (`plain-range`), or 0 (`plain-accepted`), 1, 2, 3 and on (`plain-number-at`), zeros (`plain-zero-at`) and what stands
--- behind the layout (`plain-behind`), which 27 refuses for no table of so many gauges or cases (`plain-taken`).
+-- In order: the number of a release: which it is (`this-release`), that it tells releases apart (`release-one`) and
+-- orders them (`release-later`); which numbers have words (`texts-numbered`, `words-other`), some of these
+-- (`words-known`, `words-byte`), and that all are of ASCII, not empty and shorter than their layout (`words-plain`,
+-- `words-fit`); what asking for words leaves: 100 and everything as it was (`words-short`), or 0 (`words-number`),
+-- the bytes (`words-bytes`), a zero behind them (`words-end`), what comes after the layout (`words-behind`) and the
+-- length (`words-length`); what asking for the plain order leaves: 100 (`plain-short`), 10 (`plain-range`), or 0
+-- (`plain-accepted`), 1, 2, 3, .. (`plain-number-at`), zeros (`plain-zero-at`) and what is behind the layout
+-- (`plain-behind`), which 27 refuses for no table of so many gauges or cases (`plain-taken`).
 --
 -- Elsewhere: one answer for every input, Answers.antt.
 use mathlib.Core.Path.{_≡_, refl, sym, ap, _∙_, subst}

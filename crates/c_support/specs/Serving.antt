@@ -1,7 +1,9 @@
--- What the entries give that a caller asks beside the library's questions: the number of the release, words, and the plain order.
+-- What the entries give that a caller asks beside the library's questions: the number of the release, words, and the
+-- plain order.
 --
--- Elsewhere: the words of each number, Words.antt; the number returned and what a slice is left with, words/specs/Serving; the plain arrangement as 64
--- numbers, preference/specs/Preferences; that there is one answer for every input, proofs/Answers.antt.
+-- Elsewhere: the words of each number, Words.antt; the number returned and what a slice is left with,
+-- words/specs/Serving; the plain arrangement as 64 numbers, preference/specs/Preferences; that there is one answer
+-- for every input, proofs/Answers.antt.
 use mathlib.Core.Path.{_≡_}
 use mathlib.Core.Bool.{cond}
 use mathlib.Core.Logic.{_⊎_}
@@ -23,7 +25,7 @@ releaseNumber major minor patch = major * 10000 + minor * 100 + patch
 abbrev pub thisRelease : ℕ
 thisRelease = releaseNumber 1 0 0
 
--- a text as lent memory has it: 80 bytes, those of the text and zeros behind
+-- a text as lent memory has it: 80 bytes, those of the text, padded with zeros
 abbrev pub lent : List ℕ → List ℕ
 lent text = tabulate (λ i. getD text i 0) 80
 
@@ -41,7 +43,8 @@ SaysWords n text len text′ len′ r =
     len′
     r
 
--- "the arrangement 1, 2, 3 and on" of n numbers (02, R-12), zeros behind, or 10: "G or L not in 1..64", so that no table has n gauges or n cases
+-- "the arrangement 1, 2, 3 and on" of n numbers (02, R-12), padded with zeros, or 10: "G or L not in 1..64", so that
+-- no table has n gauges or n cases
 abbrev pub plainAnswer : ℕ → Answer (List ℕ)
 plainAnswer n = answer (cond (inRange 64 n) 0 10) (plainNumbers n) []
 

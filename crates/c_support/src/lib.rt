@@ -1,6 +1,6 @@
-// What a caller of the C library asks for beside its questions: the number of the release, a refusal in words, and the plain order. Any slices are taken:
-// a slice shorter than its layout is refused with 100 before anything else, and a refusal leaves all lent memory as it was. The public functions have no
-// `requires`.
+// What a caller of the C library asks for beside its questions: the number of the release, a refusal in words, and
+// the plain order. Any slices are taken: a slice shorter than its layout is refused with 100 before anything else,
+// and a refusal leaves all lent memory as it was. The public functions have no `requires`.
 use preference::GaugeOrder;
 use refusals;
 use refusals::Refusal;
@@ -29,7 +29,7 @@ const BYTES: usize = 80;
 
 const LENGTH: usize = 1;
 
-// Words as lent memory has them, zeros behind, and how many bytes they are.
+// Words as lent memory has them, padded with zeros, and how many bytes they are.
 struct Text {
     pub bytes: [u8; 80],
     pub length: u64,
@@ -42,7 +42,8 @@ pub fn version() -> u64
     MAJOR * 10000 + MINOR * 100 + PATCH
 }
 
-// Puts the words of a number that an entry returns into `text`, zeros behind, and how many bytes they are into `length`.
+// Puts the words of a number that an entry returns into `text`, padded with zeros, and how many bytes they are into
+// `length`.
 pub fn say(number: u64, text: &mut [u8], length: &mut [u64]) -> u64
     ensures { λ r. ⌜ SaysWords number (now (text .entry)) (now (length .entry)) (now (text .exit)) (now (length .exit)) r ⌝ }
 {
@@ -59,7 +60,7 @@ pub fn say(number: u64, text: &mut [u8], length: &mut [u64]) -> u64
     0
 }
 
-// Puts "1, 2, 3 and on" up to `n` into `order`, zeros behind.
+// Puts the plain order 1, 2, 3, .. up to `n` into `order`, padded with zeros.
 pub fn plain_order(n: u64, order: &mut [u64]) -> u64
     ensures { λ r. ⌜ GivesPlain n (now (order .entry)) (now (order .exit)) r ⌝ }
 {
@@ -75,8 +76,9 @@ pub fn plain_order(n: u64, order: &mut [u64]) -> u64
     0
 }
 
-// The words of a number, as `texts` of specs/Words.antt has them. A further number is one arm below, one line there, three lines of the proof of its function,
-// and a row of docs/MANUAL.md. Two functions share the arms: their checks take less time than that of one.
+// The words of a number, as `texts` of specs/Words.antt has them. A further number is one arm below, one line there,
+// three lines of the proof of its function, and a row of docs/MANUAL.md. Two functions share the arms: their checks
+// take less time than that of one.
 fn text_of(number: u64) -> Text
     ensures { λ r. ⌜ r ≡ textOf (wordsOf number) ⌝ }
 {
@@ -124,7 +126,7 @@ fn later_text(number: u64) -> Text
     }
 }
 
-// Bytes as lent memory has them: the first 80, zeros behind, and how many they are.
+// Bytes as lent memory has them: the first 80, padded with zeros, and how many they are.
 fn filled(s: &[u8]) -> Text
     ensures { λ r. ⌜ r ≡ textOf (now (s .entry)) ⌝ }
 {

@@ -1,12 +1,15 @@
--- What the entries on trials give is there for every input, and is one thing only; and what a trial left in a slice can be committed.
+-- What the entries on trials give is there for every input, and is one thing only; and what a trial left in a slice
+-- can be committed.
 --
--- In order: one answer (`tries-unique`, `tries-exists`, `commits-unique`, `commits-exists`), with slices no longer than their layouts (`tries-served`,
--- `commits-served`); a proposal of 64 rows each is read back from its words (`proposal-back`), so what a trial that returned 0 left reads as its proposal
--- (`tries-proposal`); what a commit that returned 0 left reads as its table, a legal one (`commits-table`, `commits-legal`); the commit of what a trial
--- left, on the same table, returns 0 and leaves the table with the entry flipped (`trial-commits`); a proposal whose word of the effect is none gets 26,
--- after 10 and 11 (`no-effect-refused`).
+-- In order: one answer (`tries-unique`, `tries-exists`, `commits-unique`, `commits-exists`), with slices no longer
+-- than their layouts (`tries-served`, `commits-served`); a proposal of 64 rows each is read back from its words
+-- (`proposal-back`), so what a trial that returned 0 left reads as its proposal (`tries-proposal`); what a commit
+-- that returned 0 left reads as its table, a legal one (`commits-table`, `commits-legal`); the commit of what a trial
+-- left, on the same table, returns 0 and leaves the table with the entry flipped (`trial-commits`); a proposal whose
+-- word of the effect is none gets 26, after 10 and 11 (`no-effect-refused`).
 --
--- Elsewhere: what holds of every entry, words/proofs/Answers and Back; R-10's laws of trials and commits, trials/proofs/Answers and Commits.
+-- Elsewhere: what holds of every entry, words/proofs/Answers and Back; R-10's laws of trials and commits,
+-- trials/proofs/Answers and Commits.
 use mathlib.Core.Path.{_≡_, refl, sym, ap, ap₂, _∙_, subst}
 use mathlib.Core.Bool.{Bool, cond}
 use mathlib.Core.Logic.{_⊎_, inl, inr}
@@ -99,7 +102,7 @@ module _ (w : List ℕ) (p : Proposal) (long : 134 ≤ length w) (n : length (p 
   front : after ≡ tableWords (p .table) ++ chainWords (p .chain) ++ ends ++ rest
   front = front-is w (proposalWords p) (omega (arith, proposal-size))
 
-  -- the three parts, each with what stands behind it
+  -- the three parts, each with what comes after it
   at-table : after ≡ [] ++ (tableWords (p .table) ++ (chainWords (p .chain) ++ (ends ++ rest)))
   at-table =
       front ∙ append-assoc (tableWords (p .table) ++ chainWords (p .chain)) ends rest

@@ -1,6 +1,7 @@
--- The run that omits, on both sides of every legal table and under every preference (`omits-gauges`, `omits-cases`): one theorem over a whole list
--- of calls. It leaves one list of calls (`omits-unique`), some list of calls comes to the end (`omitting-ends`), "on a table without pairs it
--- hands out nothing" (`nothing-handed`), and where every maximal chain holds an essential pair the calls are those of demand 3 (`nothing-omitted`).
+-- The run that omits, on both sides of every legal table and under every preference (`omits`):
+-- one theorem over a whole list of calls. It leaves one list of calls (`omits-unique`), some list of calls reaches
+-- the end (`omitting-ends`), "on a table without pairs it hands out nothing" (`nothing-handed`), and where every
+-- maximal chain holds an essential pair the calls are those of demand 3 (`nothing-omitted`).
 use mathlib.Core.Path.{_≡_, refl, _∙_}
 use mathlib.Core.Logic.{_↔_}
 use mathlib.Core.Bool.{true}

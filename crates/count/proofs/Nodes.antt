@@ -1,5 +1,5 @@
--- The nodes of a tree of number sequences, in order: they ascend, so each stands once, and they are the valid sequences; there are at least
--- as many as leaves. What they are for a table is in Reached.antt.
+-- The nodes of a tree of number sequences, in order: they ascend, so each is there once, and they are the valid
+-- sequences; there are at least as many as leaves. What they are for a table is in Reached.antt.
 use mathlib.Core.Path.{refl, sym, _∙_}
 use mathlib.Core.Logic.{inr, _↔_, _≢_}
 use mathlib.Core.List.{List, [], _∷_, _++_, append-assoc, append-nil, List·Memᴰ, List·Memᴰ·head, List·Memᴰ·tail}

@@ -1,5 +1,6 @@
--- The recursive step, as its code makes it: what is known in each turn of its loop (`Turn`), and what each answer says of the definitions in
--- specs/private/Below.antt. The rows of the unpicked gauges are u here, and there are k such gauges.
+-- The recursive step, as its code makes it: what is known in each turn of its loop (`Turn`), and what each answer
+-- says of the definitions in specs/private/Below.antt. The rows of the unpicked gauges are u here, and there are k
+-- such gauges.
 use mathlib.Core.Path.{_≡_, refl, sym, ap, ap₂, _∙_}
 use mathlib.Core.Bool.{Bool, true, false, not, cond}
 use mathlib.Core.List.{List}
@@ -162,8 +163,8 @@ module _ (rows : List ℕ) (s left : ℕ) where
   no-more : (g : ℕ) → laddersOf g ≤ callsOf g
   no-more g = ladders-calls (ones s - 1) (set (within s rows) g 0) (meet (row (within s rows) g) left)
 
--- what is known where the loop comes to g: it is a candidate or past the last, the calls and the leaves are those below the candidates before g,
--- and the budget is not passed
+-- what is known where the loop reaches g: it is a candidate or past the last, the calls and the leaves are those
+-- below the candidates before g, and the budget is not passed
 pub record Turn (rows : List ℕ) (s left b ladders calls g : ℕ) : Type 0 where
   pub place : g ≤ 64
   pub here : g < 64 → can rows s left g ≡ true

@@ -1,4 +1,4 @@
--- A cover in its places can be read again: from place `at` on it stands as it was put (`take-put`).
+-- A cover in its places can be read again: from place `at` onward it is as it was put (`take-put`).
 use mathlib.Core.Path.{_≡_, sym, ap, _∙_}
 use mathlib.Core.List.{List, [], _∷_, _++_, append-assoc, append-nil}
 use Prim.Native.Nat.{ℕ, suc, _+_, _≤_}

@@ -1,8 +1,8 @@
--- What a search with a budget comes to.
+-- What a search with a budget gives.
 --
--- In order: within the budget or past it (`Tried`, `whole-is`, `is-whole`, `spent-is`); one search after another, with what is left
--- (`spend-after`); a ladder, under which the search goes on (`under-empty`, `under-spent`, `under-covers`, `under-nothing`); the numbers k, one
--- after another (`up-spent`, `up-found`, `up-next`).
+-- In order: within the budget or past it (`Tried`, `whole-is`, `is-whole`, `spent-is`); one search after another,
+-- with what is left (`spend-after`); a ladder, under which the search goes on (`under-empty`, `under-spent`,
+-- `under-covers`, `under-nothing`); the numbers k, one after another (`up-spent`, `up-found`, `up-next`).
 use mathlib.Core.Path.{_≡_, refl, sym, ap, ap₂, _∙_}
 use mathlib.Core.Option.{Option, none, some}
 use mathlib.Core.List.{List, _∷_}

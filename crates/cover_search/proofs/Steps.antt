@@ -1,8 +1,10 @@
--- The steps of the code: one law for each return and each turn. The facts of the code are the premises as they stand there.
+-- The steps of the code: one law for each return and each turn. The facts of the code are the premises as they are
+-- there.
 --
--- In order: what an answer says (`told-spent`, `told-nothing`, `told-cover`); one uncovered set (`left-empty`, `none-allowed`, `first-pair`); one next ladder
--- (`ladders-over`, `ladder-skipped`, `none-left`, `ladder-spent`, `ladder-covers`, `ladder-nothing`); the numbers k (`Deepening` and its laws); the measure of
--- the two functions (`falls-to-next`, `falls-on`, `falls-to-left`).
+-- In order: what an answer says (`told-spent`, `told-nothing`, `told-cover`); one uncovered set (`left-empty`,
+-- `none-allowed`, `first-pair`); one next ladder (`ladders-over`, `ladder-skipped`, `none-left`, `ladder-spent`,
+-- `ladder-covers`, `ladder-nothing`); the numbers k (`Deepening` and its laws); the measure of the two functions
+-- (`falls-to-next`, `falls-on`, `falls-to-left`).
 use mathlib.Core.Path.{_≡_, refl, sym, ap, ap₂, _∙_, subst}
 use mathlib.Core.Bool.{Bool, true, false, not}
 use mathlib.Core.Option.{none, some}

@@ -1,5 +1,6 @@
--- The search of R-7 with a budget, on boards (02: "The budget is 0 to 1,000,000 ladders tried .. "spent" is answered exactly when the rule
--- needs more"): what a search that may try at most b ladders comes to, from what it comes to without one.
+-- The search of R-7 with a budget, on boards (02: "The budget is 0 to 1,000,000 ladders tried .. "spent" is answered
+-- exactly when the rule needs more"): what a search that may try at most b ladders finds, from what it finds without
+-- a budget.
 --
 -- In order: the budget; the search from k on; the cover in its places; how the code's answer reads.
 --

@@ -1,7 +1,8 @@
-// The search for a cover of least number (02, R-7), on boards: "For k = 0, 1, 2 and on, the search tries each ladder that holds the first
-// uncovered pair, none at k = 0, and under it starts over with what is still uncovered and k - 1; it stops as soon as nothing is uncovered."
-// One function for each uncovered set, one for each next ladder; they call each other, falling on k and on the ladders. Any boards and any
-// budget are taken, nothing is refused, and no memory that is lent to the public function changes.
+// The search for a cover of least number (02, R-7), on boards: "For k = 0, 1, 2 and on, the search tries each ladder
+// that holds the first uncovered pair, none at k = 0, and under it starts over with what is still uncovered and k -
+// 1; it stops as soon as nothing is uncovered." One function for each uncovered set, one for each next ladder; they
+// call each other, falling on k and on the ladders. Any boards and any budget are taken, nothing is refused, and no
+// memory that is lent to the public function changes.
 use sets;
 ghost use Prim.Native.Nat.{_+_, _≤_, _<_};
 ghost use Rattle.cover_search.specs.Spending.{spend, noBoards, upTo, Finds};
@@ -10,7 +11,7 @@ ghost use Rattle.cover_search.specs.private.Trying.{covering, trying};
 // The ladders that a cover can have.
 const MOST: usize = 8;
 
-// What a search that may try so many ladders comes to.
+// What a search that may try so many ladders finds.
 pub enum Search {
     // a cover: how many ladders may still be tried, and the ladders that it has
     Cover(u64, usize),
@@ -20,7 +21,7 @@ pub enum Search {
     Spent,
 }
 
-// What the search came to, and the cover, with zeros behind it.
+// What the search found, and the cover, padded with zeros.
 pub struct Found {
     pub search: Search,
     pub cover: [u64; 8],
@@ -83,7 +84,8 @@ fn cover_left(
     next_ladder(ladders, 0, first as u64, left, k - 1, at, cover, budget)
 }
 
-// One next ladder: the boards from place `i` on, each that holds the first uncovered pair in turn, and under it at most `k` more.
+// One next ladder: the boards from place `i` on, each that holds the first uncovered pair in turn, and under it at
+// most `k` more.
 fn next_ladder(
     ladders: &[u64],
     i: usize,

@@ -1,5 +1,6 @@
--- R-7 on a table: the search over its gauge list gives the first cover of least number (`fewest-ladders`); every cover of that number has
--- the same ladders as one that the search could meet (`least-arranged`); and every table has a least number (`least-exists`).
+-- R-7 on a table: the search over its gauge list gives the first cover of least number (`fewest-ladders`); every
+-- cover of that number has the same ladders as one that the search could meet (`least-arranged`); and every table has
+-- a least number (`least-exists`).
 use mathlib.Core.Path.{_≡_, sym, ap, _∙_, subst}
 use mathlib.Core.Logic.{_⊎_, inl, inr}
 use mathlib.Core.Option.{some, Option·some-injective}
@@ -108,7 +109,7 @@ first-least-unique w r k j c d a b = (
     go (inr h) (inr k) =
         absurd (ahead-apart Precedes (λ x. before-irrefl (baseKey x)) (λ x y z p q. before-trans (baseKey x) (baseKey y) (baseKey z) p q) c d h k)
 
--- the least number of a table, from what the rule comes to
+-- the least number of a table, from what the rule gives
 pub least-of : (w : ℕ) (r : List ℕ) → Cases w r → (n : ℕ) (c : List (List ℕ)) → fewestLadders w r (chainsInOrder r) ≡ record { tried = n; cover = some c }
     → LeastNumber r (length c)
 least-of w r h n c e =

@@ -1,8 +1,8 @@
--- What the search finds, over any ladders and pairs. At k: the first arranged sequence of at most k ladders, or none where there is none
--- (`search-right`). Every list of ladders that covers the pairs can be arranged, with no more of them (`arrange`), so none is missed
--- (`none-covers`). Over all k: a cover is found wherever each pair is held by a ladder (`fewest-rule`), it has the number k at which it is
--- found (`rule-number`), no cover has fewer (`rule-least`), and it is the first of those (`found-first`). "First" is by an order in which the
--- ladders ascend.
+-- What the search finds, over any ladders and pairs. At k: the first arranged sequence of at most k ladders, or none
+-- where there is none (`search-right`). Every list of ladders that covers the pairs can be arranged, with no more of
+-- them (`arrange`), so none is missed (`none-covers`). Over all k: a cover is found wherever each pair is held by a
+-- ladder (`fewest-rule`), it has the number k at which it is found (`rule-number`), no cover has fewer
+-- (`rule-least`), and it is the first of those (`found-first`). "First" is by an order in which the ladders ascend.
 use mathlib.Core.Path.{_≡_, refl, sym, ap, ap₂, _∙_, subst}
 use mathlib.Core.Logic.{_⊎_, inl, inr, _↔_}
 use mathlib.Core.Bool.{Bool, not}
@@ -140,7 +140,8 @@ module _ {P L : Type 0} (holds : L → P → Bool) where
       go (inl t) ih = (l, List·Memᴰ·head refl, t)
       go (inr t) ih = let r = ih (mem-uncovered l (q ∷ left) p .1 (m, t)) in (r .0, List·Memᴰ·tail (r .1), r .2)
 
-  -- a list that covers the pairs, arranged: no more ladders, none that the list has not, and all of it where they are as many
+  -- a list that covers the pairs, arranged: no more ladders, none that the list has not, and all of it where they are
+  -- as many
   pub record ArrangedOf (left : List P) (c d : List L) : Type 0 where
     pub arranged : Arranged holds left d
     pub from : From c d
@@ -524,7 +525,7 @@ module _ {P L : Type 0} (holds : L → P → Bool) where
             covers : some d ≡ some c
             covers = sym (r .found) ∙ ap (λ (x : ℕ). search holds ls x left .cover) same ∙ e
 
-    -- so up to any n at which there is a cover the search comes to the same
+    -- so up to any n at which there is a cover the search finds the same
     pub from-fewest : Covered left ls → (n k : ℕ) (c : List L) → k ≤ n → search holds ls k left .cover ≡ some c
         → searchFrom holds ls left 0 n ≡ fewest holds ls left
     from-fewest h n k c l e =

@@ -1,8 +1,9 @@
-// Conflicts and essential pairs of a table (02, R-2: rivals and deciding pairs): the conflicts of a pair, whether a pair is essential, and
-// all essential pairs at once. Any table and any numbers are taken; 10, 11 and then 19 are refused, with blank values beside a refusal, and
-// nothing is lent. Two pairs' conflicts are compared by one union of rows for each pair (specs/private/Unions.antt), kept in a store: at
-// most 64 * 64 * 64 steps on sets for the store and as many for a pair's comparisons; for all pairs at most 64 * 64 * 64 * 64 of a few
-// operations each, and no more than there are pairs with at least the same conflicts.
+// Conflicts and essential pairs of a table (02, R-2: rivals and deciding pairs): the conflicts of a pair, whether a
+// pair is essential, and all essential pairs at once. Any table and any numbers are taken; 10, 11 and then 19 are
+// refused, with blank values beside a refusal, and nothing is lent. Two pairs' conflicts are compared by one union of
+// rows for each pair (specs/private/Unions.antt), kept in a store: at most 64 * 64 * 64 steps on sets for the store
+// and as many for a pair's comparisons; for all pairs at most 64 * 64 * 64 * 64 of a few operations each, and no more
+// than there are pairs with at least the same conflicts.
 use judge::Judgement;
 use refusals::Refusal;
 use refusals::Verdict;
@@ -158,7 +159,7 @@ fn minus(a: u64, b: u64) -> u64
     a - (a & b)
 }
 
-// The unions of all pairs of the first `n` rows: that of place `k` of row `i` stands at 64 * i + k.
+// The unions of all pairs of the first `n` rows: that of place `k` of row `i` is at 64 * i + k.
 fn unions(rows: &[u64; 64], n: usize) -> [u64; 4096]
     requires { ⌜ n ≤ 64 ⌝ }
     ensures { λ r. ⌜ Stored (now (rows .entry)) n n r ⌝ }
@@ -269,7 +270,8 @@ fn outdone_in(store: &[u64; 4096], rows: &[u64; 64], n: usize, g: usize, k: u64,
     false
 }
 
-// Whether the conflicts of place `k` of the row `outer` include those of a pair of the row `inner` whose union is `union`.
+// Whether the conflicts of place `k` of the row `outer` include those of a pair of the row `inner` whose union is
+// `union`.
 fn included(union: u64, k: u64, outer: u64, inner: u64) -> bool
     ensures { λ r. ⌜ r ≡ includes union k outer inner ⌝ }
 {

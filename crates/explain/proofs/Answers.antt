@@ -1,8 +1,9 @@
--- What the entries answer, for either side: the checks, of the value and then of the pair (`asks-refused`, `asks-pair`), and an answer that they refuse
--- (`refused-explained`); of a value that passes, the picks are numbers of rows (`numbers`); the answer that the search gives (`named-explained`), and the
--- claim of R-6 beside it (`has-reasons`). What differs between the sides goes by their mark (`side-sees`, `own-is`, `rows-few`, `gauge-rows`, `case-rows`),
--- and what holds of either holds of one (`explained-at-side`). Last, one answer (`explained-unique`), for every value (`explained-made`), and no two
--- answers of the code read alike.
+-- What the entries answer, for either side: the checks, of the value and then of the pair (`asks-refused`,
+-- `asks-pair`), and an answer that they refuse (`refused-explained`); of a value that passes, the picks are numbers
+-- of rows (`numbers`); the answer that the search gives (`named-explained`), and the claim of R-6 beside it
+-- (`has-reasons`). What differs between the sides goes by their mark (`side-sees`, `own-is`, `rows-few`,
+-- `gauge-rows`, `case-rows`), and what holds of either holds of one (`explained-at-side`). Last, one answer
+-- (`explained-unique`), for every value (`explained-made`), and no two answers of the code read alike.
 use mathlib.Core.Path.{_≡_, refl, sym, ap, ap₂, _∙_, subst}
 use mathlib.Core.Logic.{⊎-elim, _↔_}
 use mathlib.Core.Bool.{Bool, true, false, cond}
@@ -230,7 +231,7 @@ module _ (side : Table → Side) (v : Value) (starts : Starts side v) where
             (omega (arith, number-at p h i l, leaf-at (side t .rows) [] p (leaf-of passes p h .whole) i (omega (arith, count-is p h))))));
       }
 
-      -- the pick that the search found on the side's rows, which stand in the array R
+      -- the pick that the search found on the side's rows, which are in the array R
       module _ (question : Table → ℕ → ℕ → Question) (other : ℕ) (sees : Sees t (side t) (question t g c) g c other) (R : List ℕ)
           (rows-are : RowsOf (side t) R) (x : ℕ) (is : x ≡ foundIn R (other - 1) (v .picks) (v .count) (question t g c .own)) where
         abbrev q : Question

@@ -1,12 +1,14 @@
--- Why a pair is left out (02, R-6: "For a table pair outside the ladder, name the first picked gauge whose table row lacks that case; in a case run,
--- the first picked case that the pair's gauge does not respond under"). *Ladder* is 02's word for a maximal chain; that of a paused value whose
--- phase is Handed is the chain of its picks, `handOut` of crate `lists`, by gauge rows. Picks stand by number here, in the order of the picks.
+-- Why a pair is left out (02, R-6: "For a table pair outside the ladder, name the first picked gauge whose table row
+-- lacks that case; in a case run, the first picked case that the pair's gauge does not respond under"). *Ladder* is
+-- 02's word for a maximal chain; that of a paused value whose phase is Handed is the chain of its picks, `handOut` of
+-- crate `lists`, by gauge rows. Picks are given by number here, in the order of the picks.
 --
--- In order: the question as each side puts it; the pick named; what the entries answer (`Explained`); the claim of R-6 on the picks before the
--- pair's own (`Reasoned`), which each entry promises of the ladder that it is asked about (`HasReasons`); how the structs read.
+-- In order: the question as each side puts it; the pick named; what the entries answer (`Explained`); the claim of
+-- R-6 on the picks before the pair's own (`Reasoned`), which each entry promises of the ladder that it is asked about
+-- (`HasReasons`); how the structs read.
 --
--- Elsewhere: that `Explained` leaves one answer and can be met, `explained-unique` and `explained-made` in proofs/Answers.antt; the claim,
--- `reasoned` in proofs/Reasoning.antt.
+-- Elsewhere: that `Explained` leaves one answer and can be met, `explained-unique` and `explained-made` in
+-- proofs/Answers.antt; the claim, `reasoned` in proofs/Reasoning.antt.
 use mathlib.Core.Path.{_≡_}
 use mathlib.Core.Bool.{Bool, true, false, cond}
 use mathlib.Core.List.{List, [], _∷_, _++_, map, List·Memᴰ}
@@ -28,7 +30,8 @@ use Rattle.explain.specs.declared.CaseReason.{CaseReason}
 use Rattle.explain.specs.declared.side.SideReason.{SideReason}
 
 -- ---- the question
--- a pair as a side's run is asked about it: its own number on that side, and whether a pick has the pair's other number in the table
+-- a pair as a side's run is asked about it: its own number on that side, and whether a pick has the pair's other
+-- number in the table
 pub record Question : Type 0 where
   pub own : ℕ
   pub meets : ℕ → Bool
@@ -61,8 +64,8 @@ pub record IsFirstLacking (meets : ℕ → Bool) (p : List ℕ) (x : ℕ) : Type
   pub none : (y : ℕ) → List·Memᴰ y sooner → meets y ≡ true
 
 -- ---- the answer
--- the number for the pair g:c after the value, or 0, in the run of the side s whose picks are p: "then 19 if the pair is not in the table, then 22:
--- the pair is in the ladder"
+-- the number for the pair g:c after the value, or 0, in the run of the side s whose picks are p: "then 19 if the pair
+-- is not in the table, then 22: the pair is in the ladder"
 unfoldable pub reasonRefusal : Table → Side → List ℕ → ℕ → ℕ → ℕ
 reasonRefusal t s p g c = cond (eqb (pairRefusal t g c) 0) (cond (hasPair (handOut s p) g c) 22 0) (pairRefusal t g c)
 
@@ -70,9 +73,10 @@ reasonRefusal t s p g c = cond (eqb (pairRefusal t g c) 0) (cond (hasPair (handO
 abbrev pub noPick : ℕ → Answer ℕ
 noPick n = record { refusal = n; value = 0 }
 
--- a answers the question why the pair g:c is not in the ladder of the value v: 10 and 11 for the table, and right after them 27 for the preference
--- that it keeps (R-12); then 15 for a value that no number of moves leads to, "also for another phase"; then 19 and 22; and else the first pick
--- that lacks the pair's other number: by the run's own picks, in their own order
+-- a answers the question why the pair g:c is not in the ladder of the value v: 10 and 11 for the table, and right
+-- after them 27 for the preference that it keeps (R-12); then 15 for a value that no number of moves leads to, "also
+-- for another phase"; then 19 and 22; and else the first pick that lacks the pair's other number: by the run's own
+-- picks, in their own order
 pub record Explained (side : Table → Side) (question : Table → ℕ → ℕ → Question) (v : Value) (g c : ℕ) (a : Answer ℕ) : Type 0 where
   pub table : 0 < valueRefusal side v → a ≡ noPick (valueRefusal side v)
   pub value : valueRefusal side v ≡ 0 → ((p : List ℕ) → PausedAt side v (at p Handed) → ⊥) → a ≡ noPick 15
@@ -85,8 +89,9 @@ unfoldable pub madeBefore : ℕ → List ℕ → List ℕ
 madeBefore own [] = []
 madeBefore own (x ∷ p) = cond (eqb own x) [] (x ∷ madeBefore own p)
 
--- of the pair g:c and the ladder that the side s hands out for the picks p: among the picks made before the pair's own, "such a pick exists for
--- every pair left out and for no pair kept"; and the pick named is the first such among all picks
+-- of the pair g:c and the ladder that the side s hands out for the picks p: among the picks made before the pair's
+-- own, "such a pick exists for every pair left out and for no pair kept"; and the pick named is the first such among
+-- all picks
 pub record Reasoned (t : Table) (s : Side) (q : Question) (g c : ℕ) (p : List ℕ) : Type 0 where
   pub left-out : Has (tableRows t) g c → ¬ Has (handOut s p) g c → (x : ℕ) × List·Memᴰ x (madeBefore (q .own) (map suc p)) × (q .meets x ≡ false)
   pub kept : Has (handOut s p) g c → (x : ℕ) → List·Memᴰ x (madeBefore (q .own) (map suc p)) → q .meets x ≡ true

@@ -1,7 +1,8 @@
-// Ladders that explain themselves (02, R-6): why a pair of the table is not in the ladder that a paused run has handed out. Two entries, one
-// for each side, with the types of the side; the work, below both, is in side.rt, which crates that do the same on both sides use. A ladder is a maximal
-// chain. Any paused value and any numbers are taken: 10, 11, 27, 15, 19 and 22 are refused, with a blank pick beside a refusal, and nothing is lent. The
-// pick sequence itself is in the answer of a run call, crate `runs`.
+// Ladders that explain themselves (02, R-6): why a pair of the table is not in the ladder that a paused run has
+// handed out. Two entries, one for each side, with the types of the side; the work, below both, is in side.rt, which
+// crates that do the same on both sides use. A ladder is a maximal chain. Any paused value and any numbers are taken:
+// 10, 11, 27, 15, 19 and 22 are refused, with a blank pick beside a refusal, and nothing is lent. The pick sequence
+// itself is in the answer of a run call, crate `runs`.
 mod side;
 
 use refusals::Verdict;
@@ -28,8 +29,9 @@ pub struct CaseReason {
     pub pick: Case,
 }
 
-// Why the pair of gauge `g` and case `c` is not in the ladder of the gauge run `p`, whose phase is Handed: the first picked gauge whose table
-// row lacks the case. It stands before the pair's own gauge among the picks, if that was picked.
+// Why the pair of gauge `g` and case `c` is not in the ladder of the gauge run `p`, whose phase is Handed: the first
+// picked gauge whose table row lacks the case. It comes before the pair's own gauge among the picks, if that was
+// picked.
 pub fn explain_gauge(p: GaugeRun, g: Gauge, c: Case) -> GaugeReason
     ensures { λ r. ⌜ Explained gaugeSide gaugeQuestion (gaugeValue p) (g .0) (c .0) (gaugeReason r) ⌝ }
     ensures reasons { λ r. ⌜ HasReasons gaugeSide gaugeQuestion (gaugeValue p) ⌝ }

@@ -1,5 +1,6 @@
-// Why a pair is not in the ladder of a paused run of either side, on plain numbers: the work of both entries. A side looks for the first of its picks that
-// lacks the pair's other number, on its own rows: where the sides part is which number is the pair's own, and what the rows are.
+// Why a pair is not in the ladder of a paused run of either side, on plain numbers: the work of both entries. A side
+// looks for the first of its picks that lacks the pair's other number, on its own rows: where the sides part is which
+// number is the pair's own, and what the rows are.
 use basics;
 use refusals::Refusal;
 use refusals::Verdict;
@@ -74,7 +75,7 @@ fn side_rows(cases: bool, t: Table) -> [u64; 64]
     given
 }
 
-// The number of a pair that stands on the side: its gauge or its case.
+// The number of a pair that belongs to the side: its gauge or its case.
 fn own_number(cases: bool, gauge: u64, case: u64) -> u64
     ensures { λ r. ⌜ r ≡ ownOf cases gauge case ⌝ }
 {
@@ -94,7 +95,8 @@ fn named(found: u64) -> Verdict
     Verdict::Accepted
 }
 
-// The first of the first `count` picks whose row lacks place `k`, by number; 0 where the pick `own` comes first, or the last has gone by.
+// The first of the first `count` picks whose row lacks place `k`, by number; 0 where the pick `own` comes first, or
+// the last has gone by.
 fn first_lacking(rows: &[u64; 64], picks: &[u8; 64], count: usize, own: u64, k: u64) -> u64
     requires { ⌜ Numbered (now picks) count ⌝ }
     ensures { λ r. ⌜ r ≡ foundIn (now (rows .entry)) k (now (picks .entry)) count own ⌝ }

@@ -1,7 +1,7 @@
--- The value of a word, a run of bytes without blanks. A number is 01's field: "A field is 1 to 9 digits, leading zeros allowed." A reading
--- (02, R-5): "v has an optional sign, + or -, and 1 to 9 digits"; the sign + is byte 43, - is byte 45, and it stands right ahead of the
--- first digit. How a line falls into words is in Words.antt. That the fields of a line without signs are the numbers of its words is
--- `fields-are-words` in proofs/OldFields.antt.
+-- The value of a word, a run of bytes without blanks. A number is 01's field: "A field is 1 to 9 digits, leading
+-- zeros allowed." A reading (02, R-5): "v has an optional sign, + or -, and 1 to 9 digits"; the sign + is byte 43, -
+-- is byte 45, and it comes right before the first digit. How a line falls into words is in Words.antt. That the
+-- fields of a line without signs are the numbers of its words is `fields-are-words` in proofs/OldFields.antt.
 use Prim.Native.Nat.{ℕ, zero, suc, _+_, _-_, _*_}
 use mathlib.Core.List.{List, [], _∷_}
 use mathlib.Core.Option.{Option, some, none}

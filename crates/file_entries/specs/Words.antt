@@ -1,6 +1,7 @@
--- The fields of an entry line (02, R-5): "lines `g c v`". A line falls into words at its blanks (01: "Blanks are space and tab, one or
--- more between fields, any number before and after"); the words g and c are numbers, the word v is a reading, so a sign on g or c makes
--- the line malformed, and so does a sign that stands alone. The words' values are in Values.antt.
+-- The fields of an entry line (02, R-5): "lines `g c v`". A line falls into words at its blanks (01: "Blanks are
+-- space and tab, one or more between fields, any number before and after"); the words g and c are numbers, the word v
+-- is a reading, so a sign on g or c makes the line malformed, and so does a sign alone. The words' values are in
+-- Values.antt.
 use Prim.Native.Nat.{ℕ}
 use mathlib.Core.List.{List, [], _∷_}
 use mathlib.Core.Option.{Option, some, none}
@@ -46,8 +47,8 @@ entryOf (a ∷ b ∷ c ∷ d ∷ ws) = Other
 abbrev pub entryFields : List ℕ → EntryFields
 entryFields l = entryOf (words l)
 
--- how the code's answer reads: the values are the line's fields, gauge, case and reading, none on a blank line. A malformed line has no values; its
--- number, 6, stands in crate `file_kinds`.
+-- how the code's answer reads: the values are the line's fields, gauge, case and reading, none on a blank line. A
+-- malformed line has no values; its number, 6, is in crate `file_kinds`.
 abbrev pub entryFieldsSay : EntryFields → Option (List ℤ)
 entryFieldsSay Blank = some []
 entryFieldsSay (Entry g c v) = some (pos g ∷ pos c ∷ v ∷ [])

@@ -1,7 +1,8 @@
--- The kinds of line behind the first (01, "The file"; 02, R-5): comment lines, the lines ahead of the entries, the entry lines. The first
--- failing test of a line decides, in the order of 01's table of refusals; a refusal stands here by its name, and `number` of the crate
--- `refusals` gives 01's number. The first line is in Banner.antt. What an entry line has by the kind of file stands in `fieldsBy` alone.
--- The same lines in 01's words, each kind by itself, are in OneLine.antt.
+-- The kinds of line behind the first (01, "The file"; 02, R-5): comment lines, the lines ahead of the entries, the
+-- entry lines. The first failing test of a line decides, in the order of 01's table of refusals; a refusal is here by
+-- its name, and `number` of the crate `refusals` gives 01's number. The first line is in Banner.antt. What an entry
+-- line has by the kind of file is in `fieldsBy` alone. The same lines in 01's words, each kind by itself, are in
+-- OneLine.antt.
 use Prim.Native.Nat.{ℕ}
 use mathlib.Core.List.{List, [], _∷_}
 use mathlib.Core.Bool.{Bool, false, cond, _&&_}
@@ -35,7 +36,8 @@ isComment (b ∷ s) = eqb b 37
 abbrev pub tooLong : List ℕ → Bool
 tooLong l = ltb 1024 (length l)
 
--- "Size line: 4 absent or not three fields; then 5 G or L not in 1..64": G is the last gauge, L the last case; a blank line is skipped
+-- "Size line: 4 absent or not three fields; then 5 G or L not in 1..64": G is the last gauge, L the last case; a
+-- blank line is skipped
 abbrev pub sizeOf : Fields → HeadLine
 sizeOf Blank = skipHead
 sizeOf (Two a b) = badHead SizeFields
@@ -46,13 +48,14 @@ sizeOf Other = badHead SizeFields
 abbrev pub headLine : List ℕ → HeadLine
 headLine l = cond (tooLong l) (badHead LineTooLong) (cond (isComment l) skipHead (sizeOf (fields l)))
 
--- how the code's answer reads: no number, and the size line's G, L and N, no values for a line that is passed over; or the number of the refusal
+-- how the code's answer reads: no number, and the size line's G, L and N, no values for a line that is passed over;
+-- or the number of the refusal
 abbrev pub headLineSays : HeadLine → Answer (List ℕ)
 headLineSays skipHead = record { refusal = 0; value = [] }
 headLineSays (Size g c n) = record { refusal = 0; value = g .0 ∷ c .0 ∷ n ∷ [] }
 headLineSays (badHead why) = refused why []
 
--- a line of a file of pairs: two fields `g c`, and no reading, which stands here as 0
+-- a line of a file of pairs: two fields `g c`, and no reading, which is 0 here
 abbrev pub pairOf : Fields → EntryFields
 pairOf Blank = noFields
 pairOf (Two g c) = fieldsOf g c (pos 0)
@@ -71,8 +74,8 @@ fieldsBy Integer l = entryFields l
 abbrev pub inReach : ℤ → Bool
 inReach v = leb (natAbs v) 1000000
 
--- "Pair line: 6 not two fields; then 7 g or c outside 1..G, 1..L"; "In such a file 6 means not three fields"; "20: v out of range, after 7
--- and before 8"; a blank line is skipped
+-- "Pair line: 6 not two fields; then 7 g or c outside 1..G, 1..L"; "In such a file 6 means not three fields"; "20: v
+-- out of range, after 7 and before 8"; a blank line is skipped
 unfoldable pub entryOf : Gauge → Case → EntryFields → EntryLine
 entryOf gs cs noFields = skipEntry
 entryOf gs cs (fieldsOf g c v) =
@@ -81,13 +84,13 @@ entryOf gs cs (fieldsOf g c v) =
     (badEntry PairRange)
 entryOf gs cs otherFields = badEntry PairFields
 
--- a line behind the size line, where gs is the last gauge and cs the last case: blank, or an entry; "A `%` line after the size line is a
--- malformed pair line"
+-- a line behind the size line, where gs is the last gauge and cs the last case: blank, or an entry; "A `%` line after
+-- the size line is a malformed pair line"
 unfoldable pub entryLine : Kind → Gauge → Case → List ℕ → EntryLine
 entryLine kind gs cs l = cond (tooLong l) (badEntry LineTooLong) (entryOf gs cs (fieldsBy kind l))
 
--- how the code's answer reads: no number, and the entry's gauge, case and reading, no values for a line that is passed over; or the number of the
--- refusal
+-- how the code's answer reads: no number, and the entry's gauge, case and reading, no values for a line that is
+-- passed over; or the number of the refusal
 abbrev pub entryLineSays : EntryLine → Answer (List ℤ)
 entryLineSays skipEntry = record { refusal = 0; value = [] }
 entryLineSays (Entry g c v) = record { refusal = 0; value = pos (g .0) ∷ pos (c .0) ∷ v ∷ [] }

@@ -1,10 +1,11 @@
--- One line behind the first, in 01's words ("The file", and its table of refusals; 02, R-5). A line falls into words at its blanks, space and tab (`words`
--- of crate `file_entries`): "one or more between fields, any number before and after". A word is a field where it is "1 to 9 digits" (`numberOf`), and a
--- reading may have a sign (`valueOf`).
+-- One line behind the first, in 01's words ("The file", and its table of refusals; 02, R-5). A line falls into words
+-- at its blanks, space and tab (`words` of crate `file_entries`): "one or more between fields, any number before and
+-- after". A word is a field where it is "1 to 9 digits" (`numberOf`), and a reading may have a sign (`valueOf`).
 --
--- In order: the lines that are taken, ahead of the size line, the size line, behind it; the lines that fail, row by row of 01's table. That `headLine` and
--- `entryLine` of Kinds.antt, which the functions promise, say just this is proved in proofs/LineWords.antt: `passed-line`, `size-line`, `blank-line`,
--- `entry-line`, `bad-head`, `bad-entry`. What is said of a whole file is in crate `file_reader`.
+-- In order: the lines that are taken, ahead of the size line, the size line, behind it; the lines that fail, row by
+-- row of 01's table. That `headLine` and `entryLine` of Kinds.antt, which the functions promise, say just this is
+-- proved in proofs/LineWords.antt: `passed-line`, `size-line`, `blank-line`, `entry-line`, `bad-head`, `bad-entry`.
+-- What is said of a whole file is in crate `file_reader`.
 use Prim.Native.Nat.{ℕ, _≤_, _<_}
 use mathlib.Core.Path.{_≡_}
 use mathlib.Core.Logic.{_⊎_}
@@ -63,7 +64,7 @@ pub record BlankLine (t : Text) : Type 0 where
   pub short : Short t
   pub blank : Blank t
 
--- the fields of an entry line by the kind of file: "lines `g c`", without a reading, which stands here as 0; "lines `g c v`"
+-- the fields of an entry line by the kind of file: "lines `g c`", without a reading, which is 0 here; "lines `g c v`"
 pub data EntryWords (ws : List (List ℕ)) (g c : ℕ) : Kind → ℤ → Type 0 where
   pair : (a b : List ℕ) → ws ≡ a ∷ b ∷ [] → numberOf a ≡ some g → numberOf b ≡ some c → EntryWords ws g c Pattern (pos 0)
   reading : (a b d : List ℕ) {v : ℤ} → ws ≡ a ∷ b ∷ d ∷ [] → numberOf a ≡ some g → numberOf b ≡ some c → valueOf d ≡ some v → EntryWords ws g c Integer v
@@ -83,8 +84,8 @@ pub data BadHead (t : Text) : Refusal → Type 0 where
   head-fields : Short t → isComment t ≡ false → ¬ Blank t → ((g l n : ℕ) → ¬ ThreeFields (words t) g l n) → BadHead t SizeFields
   head-range : {g l n : ℕ} → Short t → isComment t ≡ false → ThreeFields (words t) g l n → ¬ (UpTo 64 g × UpTo 64 l) → BadHead t SizeRange
 
--- "3"; "Pair line: 6 not two fields; then 7 g or c outside 1..G, 1..L"; "20: v out of range, after 7"; "A `%` line after the size line is a malformed pair
--- line"
+-- "3"; "Pair line: 6 not two fields; then 7 g or c outside 1..G, 1..L"; "20: v out of range, after 7"; "A `%` line
+-- after the size line is a malformed pair line"
 pub data BadEntry (kind : Kind) (gauges cases : ℕ) (t : Text) : Refusal → Type 0 where
   entry-long : 1024 < length t → BadEntry kind gauges cases t LineTooLong
   entry-fields : Short t → ¬ Blank t → ((g c : ℕ) (v : ℤ) → ¬ EntryWords (words t) g c kind v) → BadEntry kind gauges cases t PairFields

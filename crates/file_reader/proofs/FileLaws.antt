@@ -1,8 +1,9 @@
--- What reading gives, by the lines of the file (specs/Files.antt). A legal file is accepted, and the test holds what its entry lines name (`legal-read`); a
--- file with a fault gets that fault's refusal, at its line (`fault-read`); and every file is legal or has a fault (`judged`). So a file is accepted exactly
--- when it is legal, and refused with n exactly when its first failing line fails with n (`legal-accepted`, `accepted-legal`, `fault-refused`,
--- `refused-fault`), never both (`legal-no-fault`) and for one reason at one line (`one-fault`). Which lines name the entries: `listed-line`, `line-listed`.
--- That a file is legal in one way only is in OneWay.antt.
+-- What reading gives, by the lines of the file (specs/Files.antt). A legal file is accepted, and the test holds what
+-- its entry lines name (`legal-read`); a file with a fault gets that fault's refusal, at its line (`fault-read`); and
+-- every file is legal or has a fault (`judged`). So a file is accepted exactly when it is legal, and refused with n
+-- exactly when its first failing line fails with n (`legal-accepted`, `accepted-legal`, `fault-refused`,
+-- `refused-fault`), never both (`legal-no-fault`) and for one reason at one line (`one-fault`). Which lines name the
+-- entries: `listed-line`, `line-listed`. That a file is legal in one way only is in OneWay.antt.
 --
 -- Pins, which nothing else cites: `refused-fault`.
 use Prim.Native.Nat.{ℕ, suc, _+_, _-_, _≤_, _<_}
@@ -239,7 +240,7 @@ head-run : (kind : Kind) (ls rest : List Line) → Every PassedLine (map textOf 
 head-run kind [] rest all-none = refl
 head-run kind (l ∷ ls) rest (all-more p a) = head-pass kind l (ls ++ rest) p ∙ head-run kind ls rest a
 
--- where the reader stands behind the lines that are passed over
+-- where the reader is after the lines that are passed over
 record Stands (integers : Bool) (f : List ℕ) (kind : Kind) (passed rest : List Text) : Type 0 where
   pub back : List Line
   pub back-is : map textOf back ≡ rest

@@ -1,5 +1,6 @@
--- Lines behind the size line, one after the other. `FineRun`: lines without a fault, behind the entries es. It is `Fine` (`run-fine`,
--- `fine-run`), and the lines of any body are such a run or come to a first fault (`run-or-fault`). No reader enters here.
+-- Lines behind the size line, one after the other. `FineRun`: lines without a fault, behind the entries es. It is
+-- `Fine` (`run-fine`, `fine-run`), and the lines of any body are such a run or reach a first fault (`run-or-fault`).
+-- No reader enters here.
 use Prim.Native.Nat.{ℕ, suc, _≤_, _<_}
 use mathlib.Core.Path.{_≡_, refl, sym, ap, subst, _∙_}
 use mathlib.Core.Logic.{_⊎_, inl, inr}
@@ -191,7 +192,7 @@ fine-run h es (t ∷ ts) fs₀ (lists-entry {es = fs} {g} {c} {v} i a) d n =
     (entry-line (h .kind) (h .gauges) (h .cases) t (record { 0 = g }) (record { 0 = c }) v .1 i) (distinct-front es (name g c v) fs d) (omega arith)
     (fine-run h (es ++ name g c v ∷ []) ts fs a (rw (snoc es fs (name g c v)) at d) (rw (snoc es fs (name g c v)) at n))
 
--- what a run behind distinct entries comes to
+-- what a run after distinct entries gives
 record Ran (h : Heading) (es : List Named) (ts : List Text) : Type 0 where
   pub lists : Lists h ts (named h ts)
   pub once : Distinct (es ++ named h ts)

@@ -1,5 +1,5 @@
--- The reader goes through lines without a fault: what it has gathered is what they name (`State`), and it comes to what stands behind them
--- (`run-read`). At the end that is the test (`state-holds`).
+-- The reader goes through lines without a fault: what it has gathered is what they name (`State`), and it reaches
+-- what comes after them (`run-read`). At the end that is the test (`state-holds`).
 use Prim.Native.Nat.{ℕ, suc, _+_, _-_, _*_, _^_, _≤_, _<_}
 use mathlib.Core.Path.{_≡_, refl, sym, ap, subst, _∙_}
 use mathlib.Core.Logic.{_↔_, _⊎_, inl, inr}
@@ -244,7 +244,7 @@ pub read-few : (h : Heading) (left : ℕ) (rows : List ℕ) (vs : List ℤ) → 
 unfolding readEntries
 read-few h left rows vs n = rw (ne-eqb left 0 n)
 
--- behind a run the reader stands at the rest of the lines, with what the run names
+-- after a run the reader is at the rest of the lines, with what the run names
 pub record RanTo (h : Heading) (es : List Named) (left₀ : ℕ) (rows₀ : List ℕ) (vs₀ : List ℤ) (ls rest : List Line) : Type 0 where
   pub left : ℕ
   pub rows : List ℕ

@@ -1,5 +1,6 @@
--- The comment lines of an accepted file all stand ahead of its size line (`late-comment`): behind it a `%` line is a malformed pair line.
--- So `commentFrom`, which looks at every line behind the first, counts the lines that 01 calls comment lines and no other.
+-- The comment lines of an accepted file are all before its size line (`late-comment`): behind it a `%` line is a
+-- malformed pair line. So `commentFrom`, which looks at every line behind the first, counts the lines that 01 calls
+-- comment lines and no other.
 use Prim.Native.Nat.{ℕ, _-_}
 use mathlib.Core.Path.{_≡_, refl, ap, sym, _∙_}
 use mathlib.Core.List.{List, [], _∷_}

@@ -1,5 +1,5 @@
--- The promises of specs/Promises.antt, field by field, in 01's words: what a caller knows of an answer a. In order: 01's reader, the reader with a cutoff, the
--- line that decides, comment lookup.
+-- The promises of specs/Promises.antt, field by field, in 01's words: what a caller knows of an answer a. In order:
+-- 01's reader, the reader with a cutoff, the line that decides, comment lookup.
 use Prim.Native.Nat.{ℕ, _-_, _≤_}
 use mathlib.Core.Path.{_≡_, ap, subst, _∙_}
 use mathlib.Core.Logic.{_⊎_, inl, inr}
@@ -167,7 +167,7 @@ module _ {f : List ℕ} {k : ℕ} {a : Answer Part} (x : CommentOfFile f k a) wh
   pub comment-none : {h : Heading} {es : List Named} (l : LegalFile true f h es) → ¬ UpTo (length (commentsIn (l .passed))) k → a .refusal ≡ 17
   comment-none {h} {es} l n = ap (λ (y : Answer Part). y .refusal) (x .shown h es l .none n)
 
-  -- where it stands
+  -- where it is
   pub comment-place : {h : Heading} {es : List Named} → LegalFile true f h es → a ≡ commentLines k (lines f)
   comment-place l = x .placed (legal-is l)
 

@@ -1,7 +1,8 @@
--- What the readers yield. Every test that is read is legal, of a kind that is taken, and beside a refusal stands the blank test
--- (`recorded-sound`, one induction over the lines for either kind). So: every table that 01's reader yields is legal (`read-legal`), and
--- every test that the reader with a cutoff yields (`read-test-legal`). And a file of more than 65,536 bytes is refused with 1, whatever it
--- holds (`read-too-long`). Which entries are gathered so far is in Held.antt.
+-- What the readers yield. Every test that is read is legal, of a kind that is taken, and beside a refusal is the
+-- blank test (`recorded-sound`, one induction over the lines for either kind). So: every table that 01's reader
+-- yields is legal (`read-legal`), and every test that the reader with a cutoff yields (`read-test-legal`). And a file
+-- of more than 65,536 bytes is refused with 1, whatever it holds (`read-too-long`). Which entries are gathered so far
+-- is in Held.antt.
 use Prim.Native.Nat.{ℕ, _-_, _<_}
 use mathlib.Core.Path.{_≡_, refl, sym, ap}
 use mathlib.Core.List.{List, [], _∷_}

@@ -1,6 +1,7 @@
--- Comment lines (01, "The file"): "Comment line k (from 1) is shown as a part of the caller's file, without its end": parts of a file, what it is to show
--- one, and where the k-th `%` line behind the first stands. The banner is no comment, and an accepted file has no `%` line behind its size line (refusal 6;
--- `late-comment` in proofs/Late.antt), so these are the comment lines. What comment lookup promises is `CommentOfFile` in Promises.antt.
+-- Comment lines (01, "The file"): "Comment line k (from 1) is shown as a part of the caller's file, without its end":
+-- parts of a file, what it is to show one, and where the k-th `%` line after the first is. The banner is no comment,
+-- and an accepted file has no `%` line behind its size line (refusal 6; `late-comment` in proofs/Late.antt), so these
+-- are the comment lines. What comment lookup promises is `CommentOfFile` in Promises.antt.
 use Prim.Native.Nat.{ℕ, _+_, _-_}
 use mathlib.Core.Path.{_≡_}
 use mathlib.Core.List.{List, [], _∷_}
@@ -20,13 +21,14 @@ pub record Part : Type 0 where
   pub start : ℕ
   pub len : ℕ
 
--- the slice r is the part p of the lent file: not a copy, but the same memory from the part's start on, for the part's length
+-- the slice r is the part p of the lent file: not a copy, but the same memory from the part's start on, for the
+-- part's length
 pub record Shows (file r : RefT (List ℕ)) (p : Part) : Type 0 where
   pub block : ptr r .0 ≡ ptr file .0
   pub offset : ptr r .1 ≡ ptr file .1 + p .start
   pub bytes : now r ≡ take (p .len) (drop (p .start) (now file))
 
--- what stands beside a refusal, an empty part; a comment is never empty, for it starts with `%`
+-- what is given beside a refusal, an empty part; a comment is never empty, for it starts with `%`
 abbrev pub noPart : Part
 noPart = record { start = 0; len = 0 }
 
@@ -38,7 +40,8 @@ found (Refused why) = refused why noPart
 abbrev pub noComment : Answer Part
 noComment = refused NoSuchComment noPart
 
--- the k-th comment line among the lines ls, the first of which starts at the place at: "17 k is 0 or above the number of comments"
+-- the k-th comment line among the lines ls, the first of which starts at the place at: "17 k is 0 or above the number
+-- of comments"
 unfoldable pub commentFrom : ℕ → ℕ → List Line → Answer Part
 commentFrom k at [] = noComment
 commentFrom k at (l ∷ ls) =

@@ -1,13 +1,15 @@
--- What a file is, looked at as a list of lines (01, "The file" and "Refused, by the place of the check"; 02, R-1 and R-5): what its entry lines name, when it
--- is legal, what a test holds that is read from it, and where and with what it fails first. Nothing here reads on from line to line with something gathered:
--- every statement is about the lines themselves and those before them.
+-- What a file is, looked at as a list of lines (01, "The file" and "Refused, by the place of the check"; 02, R-1 and
+-- R-5): what its entry lines name, when it is legal, what a test holds that is read from it, and where and with what
+-- it fails first. Nothing here reads on from line to line with something gathered: every statement is about the lines
+-- themselves and those before them.
 --
--- In order: what lines name; the parts of a file; the legal file (`LegalFile`), and what is held of it (`Holds`); the first failing line and its refusal
--- (`Fault`); one of the two for every file (`Judged`). `integers` says whether the reader takes integer files: the one with a cutoff does, 01's does not.
+-- In order: what lines name; the parts of a file; the legal file (`LegalFile`), and what is held of it (`Holds`); the
+-- first failing line and its refusal (`Fault`); one of the two for every file (`Judged`). `integers` says whether the
+-- reader takes integer files: the one with a cutoff does, 01's does not.
 --
--- Elsewhere: the lines of a file, file_text/specs/Texts; the banner and what one line says, file_kinds/specs/Banner and OneLine; what the readers promise by
--- this, Promises.antt. That every file is legal or fails, never both nor twice, is `judged`, `legal-no-fault`, `one-legal` and `one-fault` in
--- proofs/FileLaws.antt.
+-- Elsewhere: the lines of a file, file_text/specs/Texts; the banner and what one line says, file_kinds/specs/Banner
+-- and OneLine; what the readers promise by this, Promises.antt. That every file is legal or fails, never both nor
+-- twice, is `judged`, `legal-no-fault`, `one-legal` and `one-fault` in proofs/FileLaws.antt.
 use Prim.Native.Nat.{ℕ, _+_, _≤_, _<_}
 use mathlib.Core.Path.{_≡_}
 use mathlib.Core.Logic.{_↔_}
@@ -69,7 +71,8 @@ pub data Every (P : Text → Type 0) : List Text → Type 0 where
   all-none : Every P []
   all-more : {t : Text} {ts : List Text} → P t → Every P ts → Every P (t ∷ ts)
 
--- "a file at most 65,536": its first line is the banner of a kind, then come the lines `passed`, comments and blank ones, and then the lines `rest`
+-- "a file at most 65,536": its first line is the banner of a kind, then come the lines `passed`, comments and blank
+-- ones, and then the lines `rest`
 pub record Opened (integers : Bool) (f : List ℕ) (kind : Kind) (passed rest : List Text) : Type 0 where
   pub short : length f ≤ 65536
   pub first : Text
@@ -77,7 +80,7 @@ pub record Opened (integers : Bool) (f : List ℕ) (kind : Kind) (passed rest : 
   pub passing : Every PassedLine passed
   pub lines-are : LinesAre f (first ∷ (passed ++ rest))
 
--- and the first of those is the size line; `body` is what stands behind it
+-- and the first of those is the size line; `body` is what comes after it
 pub record Sized (integers : Bool) (f : List ℕ) (h : Heading) (passed body : List Text) : Type 0 where
   pub size : Text
   pub opened : Opened integers f (h .kind) passed (size ∷ body)
@@ -90,8 +93,8 @@ pub record Fine (h : Heading) (body : List Text) (es : List Named) : Type 0 wher
   pub at-most : length es ≤ h .count
 
 -- ---- the legal file
--- banner, "then comment lines .., then the size line `G L N`, then N lines", that name the entries es, none of them twice; "Blank lines may stand anywhere
--- after the first line"
+-- banner, "then comment lines .., then the size line `G L N`, then N lines", that name the entries es, none of them
+-- twice; "Blank lines may stand anywhere after the first line"
 pub record LegalFile (integers : Bool) (f : List ℕ) (h : Heading) (es : List Named) : Type 0 where
   pub passed : List Text
   pub body : List Text
@@ -105,8 +108,8 @@ pub record IsLegal (integers : Bool) (f : List ℕ) : Type 0 where
   pub entries : List Named
   pub legal-file : LegalFile integers f heading entries
 
--- what a test holds that is read from a file with this heading and these entries: its kind, its G and L, an entry exactly where a line names one, and there
--- the reading that the line has
+-- what a test holds that is read from a file with this heading and these entries: its kind, its G and L, an entry
+-- exactly where a line names one, and there the reading that the line has
 pub record Holds (h : Heading) (es : List Named) (t : Test) : Type 0 where
   pub kind-is : t .kind ≡ h .kind
   pub gauges-are : t .gauges ≡ h .gauges .0
@@ -115,15 +118,16 @@ pub record Holds (h : Heading) (es : List Named) (t : Test) : Type 0 where
   pub readings-are : (e : Named) → List·Memᴰ e es → readingOf t (e .gauge) (e .case) ≡ e .value
 
 -- ---- where a file fails first
--- what is wrong with a line behind the size line and behind lines that name the entries es: 3, 6, 7 and 20 by itself, "then 8 pair repeated; then 9 more
--- than N pairs"
+-- what is wrong with a line behind the size line and behind lines that name the entries es: 3, 6, 7 and 20 by itself,
+-- "then 8 pair repeated; then 9 more than N pairs"
 pub data EntryFault (h : Heading) (es : List Named) (t : Text) : Refusal → Type 0 where
   malformed : {why : Refusal} → BadEntry (h .kind) (h .gauges .0) (h .cases .0) t why → EntryFault h es t why
   repeated : {g c : ℕ} {v : ℤ} → IsEntry h t g c v → Names es g c → EntryFault h es t PairRepeated
   too-many : {g c : ℕ} {v : ℤ} → IsEntry h t g c v → ¬ Names es g c → length es ≡ h .count → EntryFault h es t PairCount
 
--- 01's table of the refusals of a file, row by row: the number of the first failing line, from 1, and its refusal. Every line before it is without a fault.
--- The number is 0 where the file fails as a whole, and one past the last line's where the end of the file fails.
+-- 01's table of the refusals of a file, row by row: the number of the first failing line, from 1, and its refusal.
+-- Every line before it is without a fault. The number is 0 where the file fails as a whole, and one past the last
+-- line's where the end of the file fails.
 pub data Fault (integers : Bool) (f : List ℕ) : ℕ → Refusal → Type 0 where
   -- "File as a whole: 1 longer than 65,536"
   too-long : 65536 < length f → Fault integers f 0 FileTooLong

@@ -1,7 +1,9 @@
-// Reads a Matrix Market file that is lent as bytes, tells which line decides, and looks up comment lines (01, "The file"; 02, R-5; refusals 1 to 9, 17, 20 and
-// 21): a file of pairs to its table, or a file of either kind to the recorded test and its table at a cutoff. The first failing line decides; what one
-// line says is in `kinds`, and one loop goes through the lines of either kind. No public function has a `requires`, and none changes lent memory. The time
-// is linear in the file. What is promised is said by the lines of the file, in specs/Promises.antt; the private steps go by specs/private.
+// Reads a Matrix Market file that is lent as bytes, tells which line decides, and looks up comment lines (01, "The
+// file"; 02, R-5; refusals 1 to 9, 17, 20 and 21): a file of pairs to its table, or a file of either kind to the
+// recorded test and its table at a cutoff. The first failing line decides; what one line says is in `kinds`, and one
+// loop goes through the lines of either kind. No public function has a `requires`, and none changes lent memory. The
+// time is linear in the file. What is promised is said by the lines of the file, in specs/Promises.antt; the private
+// steps go by specs/private.
 ghost use mathlib.Core.Path.{_≡_};
 ghost use Prim.Native.Nat.{_≤_, _+_};
 ghost use lib.ListN.{length, drop};
@@ -39,7 +41,7 @@ pub struct Recording {
     pub table: Table,
 }
 
-// Where a comment line stands in the file, or why it is not shown.
+// Where a comment line is in the file, or why it is not shown.
 pub enum Found {
     At { start: usize, len: usize },
     Refused(Refusal),
@@ -93,8 +95,9 @@ pub fn read_test(file: &[u8], cutoff: u64) -> Recording
     }
 }
 
-// The number of the line that decides, from 1, for the reader with a cutoff, which takes integer files too, or for 01's; one past the last line's where the
-// end of the file decides; 0 where the file is accepted, or longer than 65,536. It takes as long as reading does.
+// The number of the line that decides, from 1, for the reader with a cutoff, which takes integer files too, or for
+// 01's; one past the last line's where the end of the file decides; 0 where the file is accepted, or longer than
+// 65,536. It takes as long as reading does.
 pub fn locate(file: &[u8], integers: bool) -> u64
     ensures { λ r. ⌜ LineOfFile integers (now (file .entry)) r ⌝ }
 {
@@ -102,7 +105,8 @@ pub fn locate(file: &[u8], integers: bool) -> u64
     answer.line
 }
 
-// The `k`-th comment line of a file, from 1, without its end; the empty part where `comment_at` refuses. No comment is empty.
+// The `k`-th comment line of a file, from 1, without its end; the empty part where `comment_at` refuses. No comment
+// is empty.
 pub fn comment(file: &[u8], k: u64) -> &[u8]
     ensures { λ r. ⌜ ShownComment (file .entry) k r ⌝ }
 {
@@ -113,7 +117,7 @@ pub fn comment(file: &[u8], k: u64) -> &[u8]
     &file[start..start + len]
 }
 
-// Where the `k`-th comment line of a file stands, or the refusal of the reader of either kind, or 17.
+// Where the `k`-th comment line of a file is, or the refusal of the reader of either kind, or 17.
 pub fn comment_at(file: &[u8], k: u64) -> Found
     ensures { λ r. ⌜ CommentOfFile (now (file .entry)) k (found r) ⌝ }
 {
@@ -174,8 +178,8 @@ fn read_head(file: &[u8], from: usize, kind: Kind, number: u64) -> Gathered
     refuse(Refusal::SizeFields, line)
 }
 
-// The entry lines from a place on, `count` in number, where `gauges` is the last gauge and `cases` the last case; `number` is the number of the
-// line there.
+// The entry lines from a place on, `count` in number, where `gauges` is the last gauge and `cases` the last case;
+// `number` is the number of the line there.
 fn read_entries(
     file: &[u8],
     from: usize,

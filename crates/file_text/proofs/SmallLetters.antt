@@ -1,5 +1,6 @@
--- Capitals as small letters: the three answers of `small`, and the laws by which one text in small letters is compared with another from
--- a place on. They are those of Comparing.antt for the list of the small letters, read at the bytes as they stand.
+-- Capitals as small letters: the three answers of `small`, and the laws by which one text in small letters is
+-- compared with another from a place on. They are those of Comparing.antt for the list of the small letters, read at
+-- the bytes as they are.
 use Prim.Native.Nat.{ℕ, _+_, _≤_, _<_}
 use mathlib.Core.Path.{_≡_, sym, _∙_}
 use mathlib.Core.List.{List, map}

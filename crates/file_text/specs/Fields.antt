@@ -1,5 +1,5 @@
--- The fields of a line (01, "The file"): "Blanks are space and tab, one or more between fields, any number before and after", "A line of
--- blanks only is blank", "A field is 1 to 9 digits, leading zeros allowed."
+-- The fields of a line (01, "The file"): "Blanks are space and tab, one or more between fields, any number before and
+-- after", "A line of blanks only is blank", "A field is 1 to 9 digits, leading zeros allowed."
 use Prim.Native.Nat.{ℕ, zero, suc, _+_, _-_, _*_}
 use mathlib.Core.List.{List, [], _∷_}
 use mathlib.Core.Option.{Option, some, none}
@@ -26,8 +26,8 @@ close zero v fs = fs
 close (suc k) v none = none
 close (suc k) v (some fs) = some (v ∷ fs)
 
--- the fields of what is left of a line, after k digits of a field whose number so far is v; `none` where a byte does not belong,
--- which is a byte that is neither blank nor a digit, and a tenth digit
+-- the fields of what is left of a line, after k digits of a field whose number so far is v; `none` where a byte does
+-- not belong, which is a byte that is neither blank nor a digit, and a tenth digit
 unfoldable pub scan : ℕ → ℕ → List ℕ → Option (List ℕ)
 scan k v [] = close k v (some [])
 scan k v (b ∷ s) =
@@ -49,9 +49,10 @@ shape (some (a ∷ b ∷ c ∷ d ∷ fs)) = Other
 abbrev pub fields : List ℕ → Fields
 fields l = shape (scan 0 0 l)
 
--- how the code's answer reads (01: "For an answer that is an enum, a definition gives this paper's number and values for each case of the enum"):
--- the values are the line's fields, none on a blank line. A malformed line has no values, and 01's number for it goes by its place, 4 for a size
--- line and 6 for a pair line, so it stands in crate `file_kinds`.
+-- how the code's answer reads (01: "For an answer that is an enum, a definition gives this paper's number and values
+-- for each case of the enum"): the values are the line's fields, none on a blank line. A malformed line has no
+-- values, and 01's number for it goes by its place, 4 for a size line and 6 for a pair line, so it is in crate
+-- `file_kinds`.
 abbrev pub fieldsSay : Fields → Option (List ℕ)
 fieldsSay Blank = some []
 fieldsSay (Two a b) = some (a ∷ b ∷ [])

@@ -1,6 +1,6 @@
--- The lines of a file (01, "The file"): "A line ends with LF, or CR LF, or the file's end." A file is the list of its bytes; LF is 10 and
--- CR is 13. A CR that no LF follows is a byte of the line like any other. Texts.antt says the same of the
--- file and its lines as a whole, without going through its bytes.
+-- The lines of a file (01, "The file"): "A line ends with LF, or CR LF, or the file's end." A file is the list of its
+-- bytes; LF is 10 and CR is 13. A CR that no LF follows is a byte of the line like any other. Texts.antt says the
+-- same of the file and its lines as a whole, without going through its bytes.
 use Prim.Native.Nat.{ℕ, suc, _+_}
 use mathlib.Core.List.{List, [], _∷_}
 use mathlib.Core.Bool.{Bool, true, false, _&&_}
@@ -33,7 +33,7 @@ unfoldable pub lines : List ℕ → List Line
 lines [] = []
 lines (b ∷ s) = elim (eqb b 10) [ true ↦ record { text = []; size = 1 } ∷ lines s | false ↦ extend (atCRLF b s) b (lines s) ]
 
--- the first of the lines ls, the first byte of which stands at the place at
+-- the first of the lines ls, the first byte of which is at the place at
 abbrev pub firstSpan : ℕ → List Line → Span
 firstSpan at [] = record { end = at; next = at }
 firstSpan at (l ∷ ls) = record { end = at + length (l .text); next = at + l .size }

@@ -1,8 +1,9 @@
 -- The known tables of 01, all in one theorem (`known-tables`), and the limits that they attain (`limits-attained`).
 --
--- A table's gauge list is had from the list theorem of crate `lists`: the chains of the leaves of the candidates, in order, are the gauge list of
--- any table, and for a table written out they are computed. Pick sequences, numbers of pairs and moves are computed from their definitions. K6 and
--- K7 are decided by the tests of crate `judge`, and K8 is what the greedy choice of crate `lists` gives.
+-- A table's gauge list is had from the list theorem of crate `lists`: the chains of the leaves of the candidates, in
+-- order, are the gauge list of any table, and for a table written out they are computed. Pick sequences, numbers of
+-- pairs and moves are computed from their definitions. K6 and K7 are decided by the tests of crate `judge`, and K8 is
+-- what the greedy choice of crate `lists` gives.
 use mathlib.Core.Path.{_≡_, refl, sym, subst}
 use mathlib.Core.Logic.{_≢_}
 use mathlib.Core.Bool.{Bool, true, false}
@@ -101,7 +102,7 @@ holds K8 = record { within = k8-within; chain = k8-chain; first = first-plain 3 
 holds K9 = record { last = refl; sooner = none-ends k2 _ tt }
 holds K10 = (shape k10 _ _ refl refl refl refl, refl, refl, refl, refl)
 
--- what stands at a place of a list is in it
+-- what is at a place of a list is in it
 at-place : (l : List Known) (n : ℕ) {k : Known} → getElem? l n ≡ some k → List·Memᴰ k l
 at-place [] n e = clash cc
 at-place (x ∷ l) zero {k} e = List·Memᴰ·head (let z : x ≡ k = cc in sym z)

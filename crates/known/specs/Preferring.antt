@@ -1,7 +1,8 @@
--- Known lists and a known growth under another preference than 1, 2, 3 (02, R-12: ""Lowest", "lower-numbered" and "above" in the rules for candidates and
--- moves, ties in a pick sequence, and the listing order all go by place in it"), by hand from K2 and K3 of KnownTables.antt: K2 with gauge 3 trusted most, K3
--- with its twins, gauges 1 and 2, in the other order, and 3:2 of K8 grown with gauge 3 trusted most. Preferences stand by gauge number, as a user writes
--- them. All are proved in proofs/Preferring.antt.
+-- Known lists and a known growth under another preference than 1, 2, 3 (02, R-12: ""Lowest", "lower-numbered" and
+-- "above" in the rules for candidates and moves, ties in a pick sequence, and the listing order all go by place in
+-- it"), by hand from K2 and K3 of KnownTables.antt: K2 with gauge 3 trusted most, K3 with its twins, gauges 1 and 2,
+-- in the other order, and 3:2 of K8 grown with gauge 3 trusted most. Preferences are given by gauge number, as a user
+-- writes them. All are proved in proofs/Preferring.antt.
 use mathlib.Core.Path.{_≡_}
 use mathlib.Core.List.{List, [], _∷_, map}
 use Prim.Native.Nat.{ℕ, suc, _-_}

@@ -1,10 +1,11 @@
-// The listing program: reads a file on standard input and writes each maximal chain (01: ladder) of the gauge run by the writer, one after
-// another, on standard output; for a refused file `refused n`. It holds one file and one block of output, however many ladders there are,
-// and writes block by block as it goes. What stands in the blocks is proved in crate `blocks`; what is read and written is tested, not
-// proved. A read or write that fails is said on standard error, so that a list that was cut short is never taken for a whole one; a reader
-// that went away ends the program quietly. A program of this kind has no exit status: with any argument it says on standard error how it
-// ended in every case, in one line (`say_end`), from which the script `ladders` makes one. A second argument is a cutoff (02, R-5): then a
-// file of either kind is taken, and the table is that of the test at the cutoff.
+// The listing program: reads a file on standard input and writes each maximal chain (01: ladder) of the gauge run by
+// the writer, one after another, on standard output; for a refused file `refused n`. It holds one file and one block
+// of output, however many ladders there are, and writes block by block as it goes. What is in the blocks is proved in
+// crate `blocks`; what is read and written is tested, not proved. A read or write that fails is said on standard
+// error, so that a list that was cut short is never taken for a whole one; a reader that went away ends the program
+// quietly. A program of this kind has no exit status: with any argument it says on standard error how it ended in
+// every case, in one line (`say_end`), from which the script `ladders` makes one. A second argument is a cutoff (02,
+// R-5): then a file of either kind is taken, and the table is that of the test at the cutoff.
 use file_text;
 use libc::EPIPE;
 use libc::STDERR_FILENO;
@@ -17,7 +18,7 @@ ghost use mathlib.Core.Path.{_≡_};
 ghost use Prim.Native.Nat.{_+_, _*_, _≤_, min};
 ghost use Rattle.ladders.specs.Cutoff.{cutoffOf};
 
-// The greatest cutoff, and what stands for every number above it.
+// The greatest cutoff, and the number in place of every one above it.
 const MOST_CUTOFF: u64 = 1_000_000;
 
 const ABOVE: u64 = 1_000_001;
@@ -82,8 +83,8 @@ fn answer_test(file: &[u8]) -> End {
     }
 }
 
-// The cutoff that the second argument is. The longest argument that the system hands to a program has a byte less than the space (Linux: 32 pages of 4,096
-// bytes with its end), so a number of any length is read whole.
+// The cutoff that the second argument is. The longest argument that the system hands to a program has a byte less
+// than the space (Linux: 32 pages of 4,096 bytes with its end), so a number of any length is read whole.
 fn cutoff() -> u64 {
     let mut space = [0u8; 131072];
     let n = os::arg(2, &mut space);
@@ -201,8 +202,8 @@ fn refuse(n: u64) -> End {
     End::Refused(n)
 }
 
-// Lists the table's maximal chains in gauge order, the plain one. A proved loop has to end, and the number of ladders is bounded only by 64!:
-// the loop counts its blocks down from a number that no run uses up; if it did, that is said.
+// Lists the table's maximal chains in gauge order, the plain one. A proved loop has to end, and the number of ladders
+// is bounded only by 64!: the loop counts its blocks down from a number that no run uses up; if it did, that is said.
 fn list(t: Table) -> End {
     let started = runs::start_gauges(t, GaugeOrder::plain(t.gauges), false);
     let mut run = started.run;
@@ -249,8 +250,8 @@ fn cut_short() -> End {
     End::WriteFailed
 }
 
-// Says how it ended; what is no failure only where that was asked for. The library's contracts rule `Lost` out; should it happen all the
-// same, it is said.
+// Says how it ended; what is no failure only where that was asked for. The library's contracts rule `Lost` out;
+// should it happen all the same, it is said.
 fn say_end(end: End, asked: bool) {
     match end {
         End::ReadFailed => say(b"ladders: reading failed\n", true),

@@ -1,6 +1,7 @@
--- Rows in the order of a preference, and back: what each row is, that one undoes the other (`unarrange-arrange`, `arrange-unarrange`), and that
--- inclusion, chains and maximal chains are kept (`arrange-maximal`, `unarrange-maximal`). The first two of these hold of any rows that are moved
--- about, so they are proved once for both ways (`Moves`). "The arrangement 1, 2, 3 and on" changes nothing (`arrange-plain`).
+-- Rows in the order of a preference, and back: what each row is, that one undoes the other (`unarrange-arrange`,
+-- `arrange-unarrange`), and that inclusion, chains and maximal chains are kept (`arrange-maximal`,
+-- `unarrange-maximal`). The first two of these hold of any rows that are moved about, so they are proved once for
+-- both ways (`Moves`). "The arrangement 1, 2, 3 and on" changes nothing (`arrange-plain`).
 use mathlib.Core.Path.{_≡_, refl, sym, ap, _∙_, subst}
 use mathlib.Core.Logic.{inl, inr}
 use mathlib.Core.List.{List, [], _∷_, map}
@@ -81,7 +82,7 @@ module _ (n : ℕ) (o : List ℕ) (a : IsArrangement n o) where
   pub length-arrange : (x : List ℕ) → length (arrange o x) ≡ n
   length-arrange x = arrange-moves .size x
 
-  -- row i stands at its place
+  -- row i is at its place
   row-place : (x : List ℕ) (i : ℕ) → i < n → row (arrange o x) (placeOf o i) ≡ row x i
   row-place x i l = arrange-moves .at x (placeOf o i) (place-below n o a i l) ∙ ap (row x) (index-place n o a i l)
 

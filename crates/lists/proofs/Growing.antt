@@ -1,9 +1,10 @@
--- Growing a chain: each time the lowest candidate whose remainder contains every row of the chain that is not picked yet (`grow`). The greedy choice
--- stands here and not in specs/, since it only proves the definition, `FirstContaining`.
+-- Growing a chain: each time the lowest candidate whose remainder contains every row of the chain that is not picked
+-- yet (`grow`). The greedy choice is here and not in specs/, since it only proves the definition, `FirstContaining`.
 --
--- In order: the choice, and its turns (`grow-end`, `grow-more`); there is one to make unless there is no candidate at all (`grow-pick`); every
--- maximal chain that contains the given one starts with such a candidate, so with the same one or a later (`grows`); hence the chain of the choices
--- is the first in gauge order (`grow-first`), and no other set is (`first-unique`).
+-- In order: the choice, and its turns (`grow-end`, `grow-more`); there is one to make unless there is no candidate at
+-- all (`grow-pick`); every maximal chain that contains the given one starts with such a candidate, so with the same
+-- one or a later (`grows`); hence the chain of the choices is the first in gauge order (`grow-first`), and no other
+-- set is (`first-unique`).
 use mathlib.Core.Path.{_≡_, refl, sym, ap, _∙_, subst}
 use mathlib.Core.Logic.{_⊎_, inl, inr, _↔_}
 use mathlib.Core.Bool.{Bool, _&&_, _||_}

@@ -1,7 +1,8 @@
--- What holds of a whole list of calls of a run that omits (`demand-keeping`), by the laws of crate `rules` at the candidates of the arranged rows,
--- whose calls these are, place by index (`keeping-placed`), and by the list theorem. It leaves one list of calls (`keeping-unique`, and by what it
--- says of each call alone, `keeping-each`); some list of calls comes to the end (`keeping-ends`); a run with nothing to omit makes the calls of demand
--- 3 (`keeping-all`); and the kept part of a list is in its order (`kept-ascends`).
+-- What holds of a whole list of calls of a run that omits (`demand-keeping`), by the laws of crate `rules` at the
+-- candidates of the arranged rows, whose calls these are, place by index (`keeping-placed`), and by the list theorem.
+-- It leaves one list of calls (`keeping-unique`, and by what it says of each call alone, `keeping-each`); some list
+-- of calls reaches the end (`keeping-ends`); a run with nothing to omit makes the calls of demand 3 (`keeping-all`);
+-- and the kept part of a list is in its order (`kept-ascends`).
 use mathlib.Core.Path.{_≡_, refl, sym, ap, _∙_, subst}
 use mathlib.Core.Bool.{Bool, true}
 use mathlib.Core.List.{List, _++_, map, List·Memᴰ, Memᴰ·map, Memᴰ·of-map}

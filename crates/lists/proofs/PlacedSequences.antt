@@ -1,5 +1,6 @@
--- Pick sequences by place (Preferred.antt) are those of the arranged sets: the sequence of a set, ties by place, is that of the arranged set, each
--- place by its index (`sequence-placed`), and so its places are the sequence of the arranged set (`places-placed`).
+-- Pick sequences by place (Preferred.antt) are those of the arranged sets: the sequence of a set, ties by place, is
+-- that of the arranged set, each place by its index (`sequence-placed`), and so its places are the sequence of the
+-- arranged set (`places-placed`).
 --
 -- In order: the best of a list, by place; scores; what is taken, one after the other; the whole sequence.
 use mathlib.Core.Path.{_≡_, refl, sym, ap, _∙_}
@@ -52,7 +53,7 @@ last-is : (y : ℕ) (l : List ℕ) (x : ℕ) → indexAt (y ∷ (l ++ (x ∷ [])
 last-is y [] x = refl
 last-is y (z ∷ l) x = last-is z l x
 
--- the best of a list that is not empty stands at the best place
+-- the best of a list that is not empty is at the best place
 from-places : (f : ℕ → ℕ) (y : ℕ) (l : List ℕ) → bestFrom f y l ≡ indexAt (y ∷ l) (best (λ i. f (indexAt (y ∷ l) i)) (suc (length l)))
 from-places f y =
     by-last (λ (l : List ℕ). bestFrom f y l ≡ indexAt (y ∷ l) (best (λ i. f (indexAt (y ∷ l) i)) (suc (length l)))) one more

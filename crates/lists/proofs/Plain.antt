@@ -1,4 +1,4 @@
--- "The arrangement 1, 2, 3 and on gives the former results" (02, R-12), value for value: places are indices there (`place-plain`), so candidates, pick
+-- "The arrangement 1, 2, 3 and on gives the former results" (02, R-12), value for value: places are indices there (`index-plain`), so candidates, pick
 -- sequences, lists (`base-list`, `base-plain`; 01's two exist, `lists-exist`), growing, the states reached and every call of a run are those by number
 -- (`candidates-plain`, `sequence-plain`, `list-plain`, `first-plain`, `first-base`, `reached-plain`, `moves-plain`, `calls-plain`, `left-plain`), of a run
 -- that omits too (`keeping-plain`).

@@ -1,6 +1,7 @@
--- Picks handed in, judged in one pass. Behind the picks q stand three numbers: the left cases l, the left cases b before the last picks that
--- left the same, and the place k behind the last pick. `Clear` says that no unpicked gauge stands against the picks: one that has all left
--- cases left the same as the last picks, and stands behind the last. `Stands`: the picks can have been made exactly when all is clear.
+-- Picks handed in, judged in one pass. After the picks q there are three numbers: the left cases l, the left cases b
+-- before the last picks that left the same, and the place k behind the last pick. `Clear` says that no unpicked gauge
+-- is against the picks: one that has all left cases left the same as the last picks, and comes after the last.
+-- `Stands`: the picks can have been made exactly when all is clear.
 use mathlib.Core.Path.{_≡_, refl, sym, ap, _∙_}
 use mathlib.Core.List.{List, [], _∷_, _++_}
 use Prim.Native.Nat.{ℕ, suc, _≤_, _<_}
@@ -53,7 +54,7 @@ module _ (rows : List ℕ) (full : ℕ) (inside : (i : ℕ) → row rows i ⊆ f
     under : (h : ℕ) → own ⊆ row rows h → own ⊆ remainder rows q h
     under h c = rw (rem h) (meet-glb own (row rows h) l c own-left)
 
-    -- the pick is a candidate, so a gauge that has its cases has the same remainder and stands behind it
+    -- the pick is a candidate, so a gauge that has its cases has the same remainder and comes after it
     behind : Cand rows q g → (h : ℕ) → Un (q ++ (g ∷ [])) h → own ⊆ row rows h → (meet (row rows h) l ≡ own) × (suc g ≤ h)
     behind c h u o =
         let e : remainder rows q h ≡ remainder rows q g = c .top h (un-left q g h u) (rw (own-rem) (under h o)) in
@@ -92,7 +93,7 @@ module _ (rows : List ℕ) (full : ℕ) (inside : (i : ℕ) → row rows i ⊆ f
           split h u (λ d. omega arith) (λ v. let z : suc g ≤ h = c h v (over h (rw (← own-rem, ← e) (sub-refl (remainder rows q h)))) .1 in omega arith);
     }
 
-    -- the pick has all left cases: it must have left the same as the last picks, and stand behind the last
+    -- the pick has all left cases: it must have left the same as the last picks, and come after the last
     module _ (e : own ≡ l) where
       has-left : l ⊆ row rows g
       has-left = meet-comm l (row rows g) ∙ sym eo ∙ e

@@ -1,8 +1,9 @@
--- Where the indices of an arrangement stand: each of them at one place, and at each place one of them. The second is by counting: an index that is not
--- below n would be one too many.
+-- Where the indices of an arrangement are: each at one place, and at each place one of them. The second is by
+-- counting: an index that is not below n would be one too many.
 --
--- In order: a list and one index (`times`, `placeOf`); members; the indices below n in turn; an arrangement (`index-place`, `place-index`,
--- `place-injective`); which lists are one (`arrangement-of`), "1, 2, 3 and on" among them (`plain-arrangement`).
+-- In order: a list and one index (`times`, `placeOf`); members; the indices below n in turn; an arrangement
+-- (`index-place`, `place-index`, `index-injective`); which lists are one (`arrangement-of`), "1, 2, 3 and on" among
+-- them (`plain-arrangement`).
 use mathlib.Core.Path.{_≡_, refl, sym, ap, _∙_, subst}
 use mathlib.Core.Logic.{_⊎_, inl, inr, _↔_, _≢_}
 use mathlib.Core.List.{List, [], _∷_, List·Memᴰ, List·Memᴰ·head, List·Memᴰ·tail, List·Memᴰ·not-nil, List·Memᴰ·cases-cons}
@@ -40,7 +41,7 @@ place-miss : (i x : ℕ) (o : List ℕ) → i ≢ x → placeOf (x ∷ o) i ≡ 
 unfolding placeOf
 place-miss i x o e = rw (ne-eqb i x e)
 
--- the place of an index that stands in the list, and of one that does not
+-- the place of an index that is in the list, and of one that is not
 pub place-stands : (o : List ℕ) (i : ℕ) → 1 ≤ times i o → (placeOf o i < length o) × (indexAt o (placeOf o i) ≡ i)
 place-stands [] i h = absurd (omega (arith, times-none i))
 place-stands (x ∷ o) i h = go (ℕ-discrete i x) (place-stands o i)
@@ -59,7 +60,7 @@ times-at (x ∷ o) (suc k) h = go (ℕ-discrete (indexAt o k) x) (times-at o k (
     go (yes e) ih = omega (arith, times-hit (indexAt o k) x o e)
     go (no e) ih = omega (arith, times-miss (indexAt o k) x o e, ih)
 
--- an index that stands once stands nowhere but at its place
+-- an index that is there once is nowhere but at its place
 place-only : (o : List ℕ) (k : ℕ) → k < length o → times (indexAt o k) o ≡ 1 → placeOf o (indexAt o k) ≡ k
 place-only [] k h e = absurd (not-suc-le-zero h)
 place-only (x ∷ o) zero h e = place-hit x x o refl
@@ -162,7 +163,8 @@ module _ (n : ℕ) (o : List ℕ) (a : IsArrangement n o) where
   index-injective j k h l e = sym (place-index j h) ∙ ap (placeOf o) e ∙ place-index k l
 
 -- ---- which lists are arrangements
--- different indices, as many as there are below n, and all of them below n: one that is not among them would be one too many
+-- different indices, as many as there are below n, and all of them below n: one that is not among them would be one
+-- too many
 times-few : (i : ℕ) (o : List ℕ) → Sorted (λ (a b : ℕ). a ≢ b) o → times i o ≤ 1
 times-few i [] d = omega (arith, times-none i)
 times-few i (x ∷ o) d = go (ℕ-discrete i x) (times-few i o (d .1)) (ℕ-discrete (times i o) 0)

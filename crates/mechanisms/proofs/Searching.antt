@@ -1,5 +1,6 @@
--- The search on the boards of a small table's ladders is R-7's rule on the ladders, so it comes to the first cover of least number, or to
--- "spent" where the rule needs more than the budget: one law for each way out (`answer-spent`, `answer-cover`); there is always a cover (`some-cover`).
+-- The search on the boards of a small table's ladders is R-7's rule on the ladders, so it finds the first cover of
+-- least number, or "spent" where the rule needs more than the budget: one law for each way out (`answer-spent`,
+-- `answer-cover`); there is always a cover (`some-cover`).
 use mathlib.Core.Path.{_≡_, sym, ap, ap₂, _∙_}
 use mathlib.Core.Bool.{Bool, cond}
 use mathlib.Core.Option.{none, some, Option·map, Option·some-injective}
@@ -82,7 +83,7 @@ module _ (t : Table) (h : SmallTable t) (xs : List (List ℕ)) (g : GaugeList t 
       let w : Within (tableRows t) x = first .covers .maximal x m .within in
       (small-within (tableRows t) x (fits .small) w, omega (arith, w .size, fits .rows))
 
-  -- ---- what the search came to
+  -- ---- what the search found
   module _ (b : ℕ) (boards : List ℕ) (left : ℕ) (e : boards ≡ map board xs) (d : left ≡ board (corner (t .rows))) (s : Search) (cover : List ℕ)
       (f : Finds 0 (spend b (upTo boards left 0 8)) noBoards s cover) where
     abbrev o : Outcome ℕ

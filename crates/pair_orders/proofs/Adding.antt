@@ -1,4 +1,4 @@
--- One pair more: which pairs the set with it has (`with-has`, `has-with`, `with-keeps`), its rows, and what contains it.
+-- One pair more: which pairs the set with it has (`with-pair`, `with-keeps`, `with-only`), its rows, and what contains it.
 use mathlib.Core.Path.{_≡_, sym, ap, _∙_, subst}
 use mathlib.Core.Logic.{_⊎_, inl, inr}
 use mathlib.Core.List.{List}

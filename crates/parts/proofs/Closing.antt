@@ -1,5 +1,6 @@
--- The machine of a tree comes to its end from every valid sequence Down (`leads-end`), so calls of one move each come to an answer of end, also where the
--- run hands over the kept sets alone (`keeping-ends`): a part of a run that omits is closed by some list of calls.
+-- The machine of a tree reaches its end from every valid sequence Down (`leads-end`), so calls of one move each reach
+-- an answer of end, also where the run hands over the kept sets alone (`keeping-ends`): a part of a run that omits is
+-- closed by some list of calls.
 use mathlib.Core.Path.{_≡_, refl, sym, ap, _∙_}
 use mathlib.Core.Bool.{Bool}
 use mathlib.Core.List.{List, [], List·Memᴰ}

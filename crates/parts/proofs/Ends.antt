@@ -1,5 +1,6 @@
--- A run from a part comes to its end: of calls of one move each, one answers end, of a run that hands over the kept sets alone (`part-keeping-ends`) and of one
--- that hands over all (`part-ends`). Whatever else closes a part, an answer of end does, so some list of calls closes every part.
+-- A run from a part reaches its end: of calls of one move each, one answers end, of a run that hands over the kept
+-- sets alone (`part-keeping-ends`) and of one that hands over all (`part-ends`). Whatever else closes a part, an
+-- answer of end does, so some list of calls closes every part.
 use mathlib.Core.Path.{_≡_, refl, sym, ap, _∙_, subst, fun-ext}
 use mathlib.Core.Bool.{Bool, true}
 use mathlib.Core.List.{List, map, List·Memᴰ, Memᴰ·map}

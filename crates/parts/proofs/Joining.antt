@@ -1,9 +1,11 @@
--- The lists of parts that split a part are, one after the other, its list (`joined-part`), and of parts that split the empty sequence, the side's whole
--- list (`joined-list`). This is by the definitions alone: no run and no candidate is looked at.
+-- The lists of parts that split a part are, one after the other, its list (`joined-part`), and of parts that split
+-- the empty sequence, the side's whole list (`joined-list`). This is by the definitions alone: no run and no
+-- candidate is looked at.
 --
--- In order: the list of a part is unique (`part-unique`), and has each set once (`part-once`); it exists for every sequence, as the side's list without
--- the other sets (`part-list`); the empty sequence names the whole list (`whole-part`, `part-whole`); the lists of parts exist and are unique
--- (`part-lists`, `part-lists-unique`); a maximal chain is of one part only (`one-part`); the theorem.
+-- In order: the list of a part is unique (`part-unique`), and has each set once (`part-once`); it exists for every
+-- sequence, as the side's list without the other sets (`part-list`); the empty sequence names the whole list
+-- (`whole-part`, `part-whole`); the lists of parts exist and are unique (`part-lists`, `part-lists-unique`); a
+-- maximal chain is of one part only (`one-part`); the theorem.
 --
 -- Pins, which nothing else cites: `part-once`, `part-lists-unique`, `one-part`.
 use mathlib.Core.Path.{_≡_, refl, sym, ap₂, _∙_, subst}
@@ -26,7 +28,7 @@ use Rattle.parts.specs.Parts.{StartsWith, PartedIn, picksOf, PartList, S
 use Rattle.parts.specs.Calls.{isOf}
 use Rattle.parts.proofs.Prefixes.{starts-nil, starts-trans, starts-test, parted-in}
 
--- what stands at two places of a list that ascends by r is in that order
+-- what is at two places of a list that ascends by r is in that order
 at-places : {A : Type 0} (r : A → A → Type 0) (a b c : List A) (x y : A) → Sorted r (a ++ (x ∷ (b ++ (y ∷ c)))) → r x y
 at-places r [] b c x y h = All-get (r x) (Memᴰ·append-right b (List·Memᴰ·head refl)) (h .0)
 at-places r (z ∷ a) b c x y h = at-places r a b c x y (h .1)

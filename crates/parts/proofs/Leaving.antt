@@ -1,7 +1,9 @@
--- When the machine of a tree has left the leaves below a sequence q: from q in the phase Down on, its picks start with q, or it is past every leaf below q
--- and stays so (`Left`, `stands-move`, `left-move`). So where the picks no longer start with q, nothing below q comes later, whatever the run hands over.
+-- When the machine of a tree has left the leaves below a sequence q: from q in the phase Down on, its picks start
+-- with q, or it is past every leaf below q and stays so (`Left`, `stands-move`, `left-move`). So where the picks no
+-- longer start with q, nothing below q comes later, whatever the run hands over.
 --
--- In order: sequences with one more at their end; what a move keeps; what calls keep (`call-keeps`); what a call leaves that hands out (`call-hands`).
+-- In order: sequences with one more at their end; what a move keeps; what calls keep (`call-keeps`); what a call
+-- leaves that hands out (`call-hands`).
 use mathlib.Core.Path.{_≡_, refl, sym, ap, _∙_, subst}
 use mathlib.Core.Logic.{_⊎_, inl, inr}
 use mathlib.Core.Bool.{Bool, true, false, cond}
@@ -44,7 +46,7 @@ module _ (kids : List ℕ → List ℕ) (n : ℕ) (t : Tree kids n) (q : List �
   abbrev toCome : State → List (List ℕ)
   toCome z = rest kids n (z .picks) (z .phase)
 
-  -- the picks do not start with q, and what is still to come is the end of what stands beyond q
+  -- the picks do not start with q, and what is still to come is the end of what is beyond q
   pub record Left (z : State) : Type 0 where
     pub outside : StartsWith q (z .picks) → ⊥
     pub passed : List (List ℕ)
@@ -189,7 +191,7 @@ module _ (mv : State → Move) (out : List ℕ → List ℕ) where
       go true e = clash cc
       go false e = carried b z e
 
--- rules 1 to 5 hand out where they stand
+-- rules 1 to 5 hand out where they are
 pub move-hands : (kids : List ℕ → List ℕ) (z : State) (p : List ℕ) → move kids z .given ≡ hands p → move kids z .next ≡ at p Handed
 move-hands kids z p = by (z .picks) (z .phase)
   where

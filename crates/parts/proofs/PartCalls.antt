@@ -1,9 +1,11 @@
--- Calls from a part's state on hand out its list, on any fair side of a table under any arrangement: what they hand out of it is a front of it, and all of it
--- once the part is over (`part-demand`), and of a run that omits the same of what it keeps (`part-keeping`). With enough calls the part is over
--- (`part-over`), some calls of a run that omits close it too (`part-keeping-over`), and no part is empty (`part-some`).
+-- Calls from a part's state on hand out its list, on any fair side of a table under any arrangement: what they hand
+-- out of it is a front of it, and all of it once the part is over (`part-demand`), and of a run that omits the same
+-- of what it keeps (`part-keeping`). With enough calls the part is over (`part-over`), some calls of a run that omits
+-- close it too (`part-keeping-over`), and no part is empty (`part-some`).
 --
--- In order: a list without the sets that are not kept; a part of a side, its leaves among the others; what the run's picks tell of it; its calls. The calls
--- of any machine are in Listing.antt, when a machine has left the leaves of a part in Leaving.antt.
+-- In order: a list without the sets that are not kept; a part of a side, its leaves among the others; what the run's
+-- picks tell of it; its calls. The calls of any machine are in Listing.antt, when a machine has left the leaves of a
+-- part in Leaving.antt.
 use mathlib.Core.Path.{_≡_, refl, sym, ap, ap₂, _∙_, subst}
 use mathlib.Core.Logic.{_≢_, inl, inr}
 use mathlib.Core.Bool.{Bool, true, false, cond}
@@ -186,7 +188,7 @@ module _ (t : Table) (s : Side) (f : Fair t s) (o : List ℕ) (a : IsArrangement
   abbrev inside : List ℕ → Bool
   inside r = startsWith p (map (indexAt o) r)
 
-  -- from the part's state on the machine stands in it, or has left it
+  -- from the part's state on the machine is in it, or has left it
   abbrev Known : State → Type 0
   Known z = Good kids out n tree z × Stands kids n tree q (here .valid) z
 

@@ -1,7 +1,8 @@
--- Rows and numbers taken by an order, as the code takes them: what a loop has gathered (`Gathered`) and renumbered (`Renumbered`) so far. Then what
--- that comes to: of 64 rows by a preference the arranged rows of the first n (`gathered-array`), of a set of a side by the places its rows by
--- index (`gathered-back`); picks by number become picks by place exactly where they were picks by number (`places-of-picks`), so that a value that
--- stands for no state goes on standing for none, and picks by place become picks by number again (`numbers-of-picks`).
+-- Rows and numbers taken by an order, as the code takes them: what a loop has gathered (`Gathered`) and renumbered
+-- (`Renumbered`) so far. Then what that gives: of 64 rows by a preference the arranged rows of the first n
+-- (`gathered-array`), of a set of a side by the places its rows by index (`gathered-back`); picks by number become
+-- picks by place exactly where they were picks by number (`places-of-picks`), so that a value that represents no
+-- state goes on representing none, and picks by place become picks by number again (`numbers-of-picks`).
 use mathlib.Core.Path.{_≡_, refl, sym, ap, ap₂, _∙_}
 use mathlib.Core.Logic.{_⊎_, inl, inr, _↔_, _≢_}
 use mathlib.Core.Bool.{cond}
@@ -124,7 +125,7 @@ gathered-is n rows numbers few long size =
 gathered-rows : (n : ℕ) (o rows : List ℕ) → IsArrangement n o → arrange o rows ≡ arrange o (take n rows)
 gathered-rows n o rows a = rows-agree o rows (take n rows) (λ i m. sym (getD-take n rows i 0 (in-range n o a i m)))
 
--- so the array has the arranged rows, and zeros behind them
+-- so the array has the arranged rows, padded with zeros
 pub gathered-array : (n : ℕ) (rows numbers : List ℕ) → n ≤ 64 → length rows ≡ 64 → length numbers ≡ 64 → IsArrangement n (orderOf n numbers)
     → padded (gathered n rows numbers) ≡ padded (arrange (orderOf n numbers) (take n rows))
 gathered-array n rows numbers few long size a = ap padded (gathered-is n rows numbers few long size ∙ gathered-rows n (orderOf n numbers) rows a)

@@ -1,4 +1,5 @@
--- Preferences as 64 numbers: the test says that they hold an arrangement (`preference-is`), by row index with zeros behind it.
+-- Preferences as 64 numbers: the test says that they hold an arrangement (`preference-is`), by row index, padded with
+-- zeros.
 use mathlib.Core.Path.{_≡_, refl, sym, ap, ap₂, _∙_, subst}
 use mathlib.Core.Logic.{_⊎_, inl, inr, _↔_, _≢_}
 use mathlib.Core.Bool.{Bool, _||_}
@@ -46,7 +47,7 @@ module _ (n : ℕ) (k : List ℕ) (few : n ≤ 64) (long : length k ≡ 64) wher
   pub order-at : (i : ℕ) → i < n → indexAt (orderOf n k) i ≡ getD k i 0 - 1
   order-at i l = getD-map (λ x. x - 1) (take n k) i (omega (arith, length-take-le n k (omega arith))) ∙ ap (λ (x : ℕ). x - 1) (getD-take n k i 0 l)
 
-  -- numbers that are not 0 in front, zeros behind
+  -- numbers that are not 0 in front, zeros after them
   pub held-of : ((i : ℕ) → i < n → 1 ≤ getD k i 0) → ((i : ℕ) → n ≤ i → i < 64 → getD k i 0 ≡ 0) → k ≡ numbersOf (orderOf n k)
   held-of front rest =
       pad-ext k (map suc (orderOf n k)) long (omega (arith, length-map (orderOf n k) suc, length-order)) (λ i. go i (decLt i n) (decLt i 64))
@@ -69,7 +70,7 @@ module _ (n : ℕ) (k : List ℕ) (few : n ≤ 64) (long : length k ≡ 64) wher
       ap (λ (x : List ℕ). getD x i 0) (p .held) ∙ pad-getD (map suc (orderOf n k)) i
       ∙ List·getD-eq-default (map suc (orderOf n k)) 0 (omega (arith, length-map (orderOf n k) suc, length-order))
 
--- ---- the zeros behind
+-- ---- the zeros after them
 pub zeros-at : (n : ℕ) (k : List ℕ) → T (zerosFrom n k) → (i : ℕ) → n ≤ i → i < 64 → getD k i 0 ≡ 0
 unfolding zerosFrom
 zeros-at n k t i l h = go (or-e (ltb i n) (eqb (getD k i 0) 0) (all-at (λ i. ltb i n || eqb (getD k i 0) 0) 64 i t h))
@@ -95,7 +96,7 @@ times-suc i (x ∷ o) = go (ℕ-discrete i x) (times-suc i o)
     go (yes e) ih = times-hit (suc i) (suc x) (map suc o) (ap suc e) ∙ ap suc ih ∙ sym (times-hit i x o e)
     go (no e) ih = times-miss (suc i) (suc x) (map suc o) (λ d. e (omega (arith, d))) ∙ ih ∙ sym (times-miss i x o e)
 
--- where each of 1..n stands once among n numbers, 0 does not: it would be one too many
+-- where each of 1..n is once among n numbers, 0 is not: it would be one too many
 no-zero : (n : ℕ) (l : List ℕ) → length l ≡ n → ((i : ℕ) → i < n → times (suc i) l ≡ 1) → List·Memᴰ 0 l → ⊥
 no-zero n l e once m =
     omega (arith, e, length-tabulate suc n, distinct-length (0 ∷ tabulate suc n) l (others, tabulate-distinct suc n (λ i j d. omega (arith, d))) all)

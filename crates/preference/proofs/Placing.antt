@@ -1,7 +1,7 @@
--- How the places are found: after i numbers of the order, each stands marked at its own byte, and nothing else is marked (`Marked`). A number
--- outside 1..n, or one that is marked already, is in no preference; with all n marked it is one, and the bytes are the places. Then the answers,
--- one law for each `return`, and what follows from them: 27 after the table's refusals (`table-first`, `order-next`), and when nothing is
--- refused (`passes-both`).
+-- How the places are found: after i numbers of the order, each is marked at its own byte, and nothing else is marked
+-- (`Marked`). A number outside 1..n, or one that is marked already, is in no preference; with all n marked it is one,
+-- and the bytes are the places. Then the answers, one law for each `return`, and what follows from them: 27 after the
+-- table's refusals (`table-first`, `order-next`), and when nothing is refused (`passes-both`).
 use mathlib.Core.Path.{_≡_, refl, sym, ap, _∙_}
 use mathlib.Core.Logic.{_≢_}
 use mathlib.Core.Bool.{Bool, true, false, cond}
@@ -196,7 +196,7 @@ too-many n order h long r e =
     ∙ sym (ap (λ (b : Bool). cond b (record { ok = true; places = numbersOf (inverse (orderOf n order)) }) nowhere)
     (is-false (isPreference n order) (not-T (isPreference n order) (λ t. none-large n order h long t))))
 
--- ---- the zeros behind, one after the other
+-- ---- the zeros after it, one after the other
 pub zeros-fail : (n : ℕ) (order : List ℕ) (i : ℕ) → n ≤ i → i < 64 → ¬ (getD order i 0 ≡ 0) → false ≡ zerosFrom n order
 zeros-fail n order i l h d = sym (is-false (zerosFrom n order) (not-T (zerosFrom n order) (λ t. d (zeros-at n order t i l h))))
 

@@ -1,5 +1,6 @@
--- "The arrangement 1, 2, 3 and on" as 64 numbers: what stands at each place, the loop that writes it, and the one that tells it by counting what
--- differs (`Counted`). It is a preference of its numbers, by row index the plain arrangement (`plain-preference`, `plain-order`).
+-- "The arrangement 1, 2, 3 and on" as 64 numbers: what is at each place, the loop that writes it, and the one that
+-- tells it by counting what differs (`Counted`). It is a preference of its numbers, by row index the plain
+-- arrangement (`plain-preference`, `plain-order`).
 use mathlib.Core.Path.{_≡_, refl, sym, ap, _∙_, subst}
 use mathlib.Core.Bool.{Bool, true, false, _&&_}
 use mathlib.Core.List.{List, map}

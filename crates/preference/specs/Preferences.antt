@@ -1,8 +1,9 @@
--- Preferences as they are handed in and kept (02, R-12: "a preference, an arrangement of 1..G, or of 1..L for the case run"): 64 numbers, those of the
--- arrangement, the most trusted first, and zeros behind it, as a paused value has its picks. What a preference is by row index, and the place in
--- it, is in lists/specs/Arrangements.
+-- Preferences as they are handed in and kept (02, R-12: "a preference, an arrangement of 1..G, or of 1..L for the
+-- case run"): 64 numbers, those of the arrangement, the most trusted first, padded with zeros, as a paused value has
+-- its picks. What a preference is by row index, and the place in it, is in lists/specs/Arrangements.
 --
--- In order: which numbers are a preference, and refusal 27; the arrangement that they hold, by row index; "the arrangement 1, 2, 3 and on".
+-- In order: which numbers are a preference, and refusal 27; the arrangement that they hold, by row index; "the
+-- arrangement 1, 2, 3 and on".
 --
 -- Elsewhere: that the test says what `IsArrangement` says, `preference-is` in proofs/Holding.antt.
 use mathlib.Core.Bool.{Bool, _&&_, _||_, cond}
@@ -15,7 +16,7 @@ use Rattle.table.specs.declared.Table.{Table}
 use Rattle.table.specs.Tables.{padded, tableRefusal}
 use Rattle.lists.specs.Arrangements.{times, plain}
 
--- each of 1..n stands exactly once among the first n of the 64 numbers k, and behind them are zeros
+-- each of 1..n is exactly once among the first n of the 64 numbers k, and the others are zeros
 unfoldable pub isPreference : ℕ → List ℕ → Bool
 isPreference n k = allBelow (λ i. eqb (times (suc i) (take n k)) 1) n && allBelow (λ i. ltb i n || eqb (getD k i 0) 0) 64
 
@@ -23,7 +24,8 @@ isPreference n k = allBelow (λ i. eqb (times (suc i) (take n k)) 1) n && allBel
 abbrev pub orderRefusal : ℕ → List ℕ → ℕ
 orderRefusal n k = cond (isPreference n k) 0 27
 
--- the number for a table and then a preference of n of its numbers: 27 comes "right after the table's checks, before all others"
+-- the number for a table and then a preference of n of its numbers: 27 comes "right after the table's checks, before
+-- all others"
 unfoldable pub preferredRefusal : Table → ℕ → List ℕ → ℕ
 preferredRefusal t n k = cond (eqb (tableRefusal t) 0) (orderRefusal n k) (tableRefusal t)
 

@@ -1,7 +1,7 @@
-// Preferences (02, R-12): the orders that a caller hands in, of gauges and of cases, each a type of its own; refusal 27; and the steps around
-// the code that goes by number: rows gathered in the order of a preference, numbers turned into places and back. An order holds 64 numbers,
-// those of an arrangement, the most trusted first, and zeros behind. No function that another crate can call has a `requires`, and none changes
-// lent memory.
+// Preferences (02, R-12): the orders that a caller hands in, of gauges and of cases, each a type of its own; refusal
+// 27; and the steps around the code that goes by number: rows gathered in the order of a preference, numbers turned
+// into places and back. An order holds 64 numbers, those of an arrangement, the most trusted first, padded with
+// zeros. No function that another crate can call has a `requires`, and none changes lent memory.
 use basics;
 use refusals::Refusal;
 use refusals::Verdict;
@@ -20,10 +20,10 @@ ghost use Rattle.preference.specs.private.Testing.{zerosFrom, plainAt};
 // How many numbers an order has room for.
 const MOST: usize = Table::MOST_GAUGES as usize;
 
-// The gauges of a table by number, the most trusted first; zeros behind them.
+// The gauges of a table by number, the most trusted first, padded with zeros.
 pub struct GaugeOrder(pub [u8; 64]);
 
-// The cases of a table by number, the most trusted first; zeros behind them.
+// The cases of a table by number, the most trusted first, padded with zeros.
 pub struct CaseOrder(pub [u8; 64]);
 
 impl GaugeOrder {
@@ -46,7 +46,7 @@ impl CaseOrder {
     }
 }
 
-// Where each number of an order stands: byte g - 1 is the place of number g, from 1; or not ok, and zeros.
+// Where each number of an order is: byte g - 1 is the place of number g, from 1; or not ok, and zeros.
 pub struct Placed {
     pub ok: bool,
     pub places: [u8; 64],
@@ -74,8 +74,8 @@ fn check_order(order: [u8; 64], n: usize) -> Verdict
     Verdict::Accepted
 }
 
-// Whether an order is 1, 2, 3 and on, of `n` numbers. One pass without a way out and in bytes alone, which takes a few steps of 16 bytes: most
-// callers have that order, and for it nothing else needs to be done.
+// Whether an order is the plain one, 1, 2, 3, .., of `n` numbers. One pass without a way out and in bytes alone,
+// which takes a few steps of 16 bytes: most callers have that order, and for it nothing else needs to be done.
 pub fn is_plain(order: &[u8; 64], n: usize) -> bool
     ensures { λ r. ⌜ r ≡ isPlain n (now (order .entry)) ⌝ }
 {
@@ -106,7 +106,8 @@ pub fn place_all(order: [u8; 64], n: usize) -> Placed
     place_first(&order, n)
 }
 
-// The rows named by the first `n` numbers, in turn: by an order the rows as it has them, by its places the rows by number again.
+// The rows named by the first `n` numbers, in turn: by an order the rows as it has them, by its places the rows by
+// number again.
 pub fn gather(rows: &[u64; 64], numbers: &[u8; 64], n: usize) -> [u64; 64]
     ensures { λ r. ⌜ r ≡ padded (gathered n (now (rows .entry)) (now (numbers .entry))) ⌝ }
 {
@@ -122,7 +123,8 @@ pub fn gather(rows: &[u64; 64], numbers: &[u8; 64], n: usize) -> [u64; 64]
     out
 }
 
-// The picks, the first `n` of them as `numbers` has each: by the places of an order they become places, by the order numbers again.
+// The picks, the first `n` of them as `numbers` has each: by the places of an order they become places, by the order
+// numbers again.
 pub fn renumber(picks: [u8; 64], numbers: &[u8; 64], n: usize) -> [u8; 64]
     ensures { λ r. ⌜ r ≡ renumbered (now (numbers .entry)) n picks ⌝ }
 {
@@ -212,7 +214,7 @@ fn place_first(order: &[u8; 64], n: usize) -> Placed
     }
 }
 
-// No number stands anywhere.
+// No number has a place.
 fn not_placed() -> Placed
     ensures { λ r. ⌜ r ≡ nowhere ⌝ }
 {
@@ -237,7 +239,7 @@ fn zeros_from(order: &[u8; 64], from: usize) -> bool
     true
 }
 
-// 1, 2, 3 and on, up to `n`, and zeros.
+// 1, 2, 3, .. up to `n`, padded with zeros.
 fn plain_numbers(n: u64) -> [u8; 64]
     ensures { λ r. ⌜ r ≡ plainNumbers n ⌝ }
 {
@@ -261,8 +263,9 @@ fn lift_of(n: usize) -> u8
     64
 }
 
-// What stands at a place of 1, 2, 3 and on. How many numbers there are is told by `lift`: a byte that is below 128 is one that is not below 0
-// to a machine that compares 16 bytes at a time, where a comparison of places with a count would take words.
+// What is at a place of the plain order. How many numbers there are is told by `lift`: a byte that is below 128 is
+// one that is not below 0 to a machine that compares 16 bytes at a time, where a comparison of places with a count
+// would take words.
 fn plain_number(i: u8, lift: u8) -> u8
     requires { ⌜ (i < 64) × (lift ≤ 128) ⌝ }
     ensures { λ r. ⌜ r ≡ plainAt (128 - lift) i ⌝ }

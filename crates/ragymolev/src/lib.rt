@@ -1,7 +1,8 @@
-// The C library: entries on numbers and lent slices, which C, C++, Rust and Python's ctypes can call. A slice is a pointer and then its length in
-// elements, and no two slices that are lent to one call overlap. Each entry takes every input and returns 0, or 100 where a slice is shorter than its
-// layout, or the number of the refusal; a refusal leaves all lent memory as it was. What an entry does is in the crate that it calls, under the same
-// contract; only entries of this crate get into the archive.
+// The C library: entries on numbers and lent slices, which C, C++, Rust and Python's ctypes can call. A slice is a
+// pointer and then its length in elements, and one that is written overlaps no other of the call. Each entry takes
+// every input and returns 0, or 100 where a slice is shorter than its layout, or the number of the refusal; a refusal
+// leaves all lent memory as it was. What an entry does is in the crate that it calls, under the same contract; only
+// entries of this crate get into the archive.
 use c_batches;
 use c_chains;
 use c_counts;
@@ -70,7 +71,8 @@ pub extern "C" fn rg_run_cases(run: &mut [u64], budget: u64, step: &mut [u64]) -
     c_runs::run_cases(run, budget, step)
 }
 
-// A batch of the gauge run in `run` with a budget of moves: the next paused value into `run`, how it stopped and its ladders into `batch`.
+// A batch of the gauge run in `run` with a budget of moves: the next paused value into `run`, how it stopped and its
+// ladders into `batch`.
 #[no_mangle]
 pub extern "C" fn rg_list_gauges(run: &mut [u64], budget: u64, batch: &mut [u64]) -> u64
     ensures { λ r. ⌜ Lists gaugeSide 1 (now (run .entry)) budget (now (batch .entry)) (now (run .exit)) (now (batch .exit)) r ⌝ }
@@ -78,7 +80,8 @@ pub extern "C" fn rg_list_gauges(run: &mut [u64], budget: u64, batch: &mut [u64]
     c_batches::list_gauges(run, budget, batch)
 }
 
-// A batch of the case run in `run` with a budget of moves: the next paused value into `run`, how it stopped and its ladders into `batch`.
+// A batch of the case run in `run` with a budget of moves: the next paused value into `run`, how it stopped and its
+// ladders into `batch`.
 #[no_mangle]
 pub extern "C" fn rg_list_cases(run: &mut [u64], budget: u64, batch: &mut [u64]) -> u64
     ensures { λ r. ⌜ Lists caseSide 2 (now (run .entry)) budget (now (batch .entry)) (now (run .exit)) (now (batch .exit)) r ⌝ }
@@ -94,8 +97,8 @@ pub extern "C" fn rg_read(file: &[u8], table: &mut [u64]) -> u64
     c_files::read(file, table)
 }
 
-// The number of the line that decides, of a file of pairs where `either` is 0, else of a file of either kind, into `line`; 0 where the file is accepted or
-// longer than 65,536.
+// The number of the line that decides, of a file of pairs where `either` is 0, else of a file of either kind, into
+// `line`; 0 where the file is accepted or longer than 65,536.
 #[no_mangle]
 pub extern "C" fn rg_locate(file: &[u8], either: u64, line: &mut [u64]) -> u64
     ensures { λ r. ⌜ Locates (now (file .entry)) either (now (line .entry)) (now (line .exit)) r ⌝ }
@@ -252,7 +255,8 @@ pub extern "C" fn rg_commit(proposal: &[u64], table: &[u64], out: &mut [u64]) ->
     c_trials::commit(proposal, table, out)
 }
 
-// The order of the pairs that the chain lacks of the ladder to the front of `bytes`, two bytes a pair, and their number into `count`.
+// The order of the pairs that the chain lacks of the ladder to the front of `bytes`, two bytes a pair, and their
+// number into `count`.
 #[no_mangle]
 pub extern "C" fn rg_wiring(
     table: &[u64],
@@ -360,7 +364,8 @@ pub extern "C" fn rg_version() -> u64
     c_support::version()
 }
 
-// The words of a number that an entry returns into `words`, zeros behind, and how many bytes they are into `length`.
+// The words of a number that an entry returns into `words`, padded with zeros, and how many bytes they are into
+// `length`.
 #[no_mangle]
 pub extern "C" fn rg_words(number: u64, words: &mut [u8], length: &mut [u64]) -> u64
     ensures { λ r. ⌜ SaysWords number (now (words .entry)) (now (length .entry)) (now (words .exit)) (now (length .exit)) r ⌝ }
@@ -368,7 +373,7 @@ pub extern "C" fn rg_words(number: u64, words: &mut [u8], length: &mut [u64]) ->
     c_support::say(number, words, length)
 }
 
-// The plain order of `n` gauges or cases, 1, 2, 3 and on, into `order`.
+// The plain order of `n` gauges or cases, 1, 2, 3, .., into `order`.
 #[no_mangle]
 pub extern "C" fn rg_plain_order(n: u64, order: &mut [u64]) -> u64
     ensures { λ r. ⌜ GivesPlain n (now (order .entry)) (now (order .exit)) r ⌝ }

@@ -1,8 +1,10 @@
--- The table at a cutoff in 02's words: the table of a legal test has the pairs that 02 says (`legal-claims`), and so has what `table_at` answers
--- (`cutoff-claims`, which its contract has). Then what a caller reads out of the claims, a law for each sentence: a pair exists when the magnitude of the
--- reading reaches the cutoff (`reading-pair`, `pair-reading`), of a pattern test every entry is one (`entry-pair`); a listed zero is an entry without a
--- pair (`zero-pairless`); of two answers, the one at the higher cutoff has no pair that the other lacks (`raised-adds-none`). Last: one set of rows has
--- the claims (`claims-unique`), and a higher cutoff can take a pair away (`raising-drops`).
+-- The table at a cutoff in 02's words: the table of a legal test has the pairs that 02 says (`legal-claims`), and so
+-- has what `table_at` answers (`cutoff-claims`, which its contract has). Then what a caller reads out of the claims,
+-- a law for each sentence: a pair exists when the magnitude of the reading reaches the cutoff (`reading-pair`,
+-- `pair-reading`), of a pattern test every entry is one (`entry-pair`); a listed zero is an entry without a pair
+-- (`zero-pairless`); of two answers, the one at the higher cutoff has no pair that the other lacks
+-- (`raised-adds-none`). Last: one set of rows has the claims (`claims-unique`), and a higher cutoff can take a pair
+-- away (`raising-drops`).
 --
 -- Elsewhere: the same of the definition `tableOf` alone, for any cutoff, Reaching.antt.
 use mathlib.Core.Path.{_≡_, refl, sym, ap, _∙_, subst}
@@ -52,7 +54,7 @@ none-blank g c h = subst T (none-in (c - 1)) (subst (λ (x : ℕ). T (bit x (c -
     empty i (yes l) = getD-replicate {A = ℕ} 64 i 0 0 l
     empty i (no l) = List·getD-eq-default noRows 0 {n = i} (omega (arith, length-replicate {A = ℕ} 64 0))
 
--- what stands at a higher cutoff, refused or not
+-- what is at a higher cutoff, refused or not
 raised : (t : Test) → length (t .entries) ≡ 64 → (low high : ℕ) → low ≤ high → (g c : ℕ) → Has (tableAt t high .value .rows) g c → Has (tableOf t low .rows) g c
 raised t e low high h g c p = go (eqb (cutoffRefusal t high) 0) refl p
   where

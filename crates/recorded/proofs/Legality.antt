@@ -1,6 +1,7 @@
--- The checks of a test handed in decide `LegalTest`: a test passes exactly when it is legal (`test-legal`, `legal-test`). In order: a reading
--- by its place in the list, and by gauge and case as in the definition (`seat-reading`); what legality says of a place; a legal table as a
--- legal pattern test; legal tests with readings at both ends of the range, and one past it.
+-- The checks of a test handed in decide `LegalTest`: a test passes exactly when it is legal (`test-legal`,
+-- `legal-test`). In order: a reading by its place in the list, and by gauge and case as in the definition
+-- (`seat-reading`); what legality says of a place; a legal table as a legal pattern test; legal tests with readings
+-- at both ends of the range, and one past it.
 use mathlib.Core.Path.{_≡_, refl, sym, ap, _∙_, subst}
 use mathlib.Core.Bool.{Bool, true, false, _||_, cond}
 use mathlib.Core.Logic.{_⊎_, inl, inr}
@@ -51,7 +52,7 @@ none-there : (i k : ℕ) → i < 64 → T (bit (row noRows i) k) → ⊥
 unfolding bit
 none-there i k h t = rw (getD-replicate {A = ℕ} 64 i 0 0 h, zero-div (2 ^ k)) at t
 
--- a reading that is not zero stands at an entry of an integer test
+-- a reading that is not zero is at an entry of an integer test
 module _ (entries : List ℕ) (vs : List ℤ) (i k : ℕ) (h : i < 64) (l : k < 64) (n : ¬ (reading vs (i * 64 + k) ≡ pos 0)) where
   readable-there : (rows : List ℕ) → T (fitsAt rows vs (i * 64 + k)) → T (bit (row rows i) k)
   unfolding fitsAt placeFits
@@ -139,7 +140,7 @@ module _ (t : Test) where
             let e : reading (t .readings) p ≡ pos 0 = List·getD-eq-default (t .readings) (pos 0) (omega (arith, ok .readings-length)) in
             subst (λ (v : ℤ). natAbs v ≤ 1000000) (sym e) (omega arith)
 
-    -- a reading is 0, or stands at an entry; in a pattern test every one is 0
+    -- a reading is 0, or is at an entry; in a pattern test every one is 0
     pub zero-or-entry : (p : ℕ) → p < 4096 → (reading (t .readings) p ≡ pos 0) ⊎ T (bit (row (t .entries) (p / 64)) (p % 64))
     zero-or-entry p h = go (ℕ-discrete (natAbs (reading (t .readings) p)) 0)
       where

@@ -1,6 +1,7 @@
--- Recorded tests (02, R-5): the legal test, the checks of a test handed in, and the table that a cutoff gives. Rows and places of a row
--- are counted from 0 (gauge g is row g - 1, case c is place c - 1 of it), and the reading of place k of row i stands at place i * 64 + k.
--- That the checks decide `LegalTest`, and which pairs the table has, is proved in proofs/Legality.antt and proofs/Reaching.antt.
+-- Recorded tests (02, R-5): the legal test, the checks of a test handed in, and the table that a cutoff gives. Rows
+-- and places of a row are counted from 0 (gauge g is row g - 1, case c is place c - 1 of it), and the reading of
+-- place k of row i is at place i * 64 + k. That the checks decide `LegalTest`, and which pairs the table has, is
+-- proved in proofs/Legality.antt and proofs/Reaching.antt.
 use mathlib.Core.Path.{_≡_}
 use mathlib.Core.Bool.{Bool, _&&_, _||_, cond}
 use mathlib.Core.List.{List}
@@ -30,8 +31,8 @@ readingOf t g c = reading (t .readings) ((g - 1) * 64 + (c - 1))
 abbrev pub listed : Test → Table
 listed t = record { gauges = t .gauges; cases = t .cases; rows = t .entries }
 
--- a legal test: its entries within G by L, a non-zero reading only at an entry of an integer test, and every reading "in
--- -1,000,000..1,000,000"
+-- a legal test: its entries within G by L, a non-zero reading only at an entry of an integer test, and every reading
+-- "in -1,000,000..1,000,000"
 pub record LegalTest (t : Test) : Type 0 where
   pub entries-legal : Legal (listed t)
   pub readings-length : length (t .readings) ≡ 4096
@@ -61,8 +62,8 @@ fitsAt rows vs p = placeFits (row rows (p / 64)) (p % 64) (reading vs p)
 unfoldable pub withinAt : List ℤ → ℕ → Bool
 withinAt vs p = leb (natAbs (reading vs p)) 1000000
 
--- 02's number for a test handed in, or 0: "A test handed in gets 10, then 11 for an entry outside G by L or a non-zero reading at an
--- absent entry or in a pattern test, then 20"
+-- 02's number for a test handed in, or 0: "A test handed in gets 10, then 11 for an entry outside G by L or a
+-- non-zero reading at an absent entry or in a pattern test, then 20"
 unfoldable pub testRefusal : Test → ℕ
 testRefusal t =
     cond (eqb (tableRefusal (listed t)) 0)

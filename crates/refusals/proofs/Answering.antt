@@ -1,6 +1,6 @@
--- Reading answers. In order: from a number back to its refusal (`named-number`, the one law that goes by cases), so no two refusals have
--- one number and none has 0; what an answer is where a check refused or passed; and that no two verdicts read alike. The reading of a
--- crate's own answer, and that no two of those read alike, stands in that crate.
+-- Reading answers. In order: from a number back to its refusal (`named-number`, the one law that goes by cases), so
+-- no two refusals have one number and none has 0; what an answer is where a check refused or passed; and that no two
+-- verdicts read alike. The reading of a crate's own answer, and that no two of those read alike, is in that crate.
 use mathlib.Core.Path.{_≡_, refl, sym, ap, _∙_}
 use mathlib.Core.Logic.{⊎-elim}
 use mathlib.Core.List.{[], _∷_}

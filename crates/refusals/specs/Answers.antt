@@ -71,7 +71,7 @@ number TooManyChains = 24
 number NotMaximal = 25
 -- 02, R-10: "the proposal is not what the trial of its ladder and place on that table gives"
 number OtherProposal = 26
--- 02, R-12: "a preference that is no arrangement"
+-- 02, R-12: "27: not such an arrangement"
 number NotAnArrangement = 27
 -- 02, R-13: "the start is zero or the density above 256"
 number SampleInput = 28

@@ -1,5 +1,6 @@
--- The pass over the picks: what stands behind the first i of them (`Going`), one pick more, a pick that cannot have been made, the end, and
--- the answers; `replays-unique` says that there is one answer. Arrays are read by place: nothing is asked of what stands in them.
+-- The pass over the picks: what holds after the first i of them (`Going`), one pick more, a pick that cannot have
+-- been made, the end, and the answers; `replays-unique` says that there is one answer. Arrays are read by place:
+-- nothing is asked of what is in them.
 --
 -- Pins, which nothing else cites: `replays-unique`.
 use mathlib.Core.Path.{_≡_, refl, sym, ap, ap₂, _∙_, subst}

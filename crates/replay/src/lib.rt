@@ -1,6 +1,6 @@
-// Picks handed in (01, "Moves of a run"): whether they can have been made one after the other, each a candidate after those before it,
-// judged in one pass over the picks and one over what is unpicked then. Any rows and any picks are taken, nothing is refused, and no memory
-// is lent; the theory is proofs/Replaying.antt of crate `lists`.
+// Picks handed in (01, "Moves of a run"): whether they can have been made one after the other, each a candidate after
+// those before it, judged in one pass over the picks and one over what is unpicked then. Any rows and any picks are
+// taken, nothing is refused, and what is lent is only read; the theory is proofs/Replaying.antt of crate `lists`.
 use basics;
 use sets;
 use table::Table;
@@ -83,7 +83,8 @@ fn not_replayed() -> Replayed
     }
 }
 
-// A pick that leaves fewer cases starts anew; one that has all left cases has left the same as the last picks, and stands behind the last.
+// A pick that leaves fewer cases starts anew; one that has all left cases has left the same as the last picks, and
+// comes after the last.
 fn judge(row: u64, own: u64, before: u64, left: u64, last: usize, g: usize) -> Judged
     ensures { λ r. ⌜ Judges row own before left last g r ⌝ }
 {
@@ -126,7 +127,8 @@ fn none_against(rows: &[u64; 64], unpicked: u64, left: u64, before: u64, last: u
     true
 }
 
-// A gauge that has all left cases goes with the picks made where it leaves the same as the last ones, and stands behind the last.
+// A gauge that has all left cases goes with the picks made where it leaves the same as the last ones, and comes after
+// the last.
 fn against(row: u64, left: u64, before: u64, last: usize, h: usize) -> bool
     ensures { λ r. ⌜ Against row left before last h r ⌝ }
 {

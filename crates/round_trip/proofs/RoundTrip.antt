@@ -1,6 +1,7 @@
--- Reading what was written gives it back: every legal test, with its kind, shape, entries and readings (`test-round-trip`), at every cutoff
--- (`test-reads`), and every legal table (`round-trip`); whatever a writer takes is such a test or table (`written-test-reads`,
--- `written-reads`). In order: one entry, one row, the rows; the banner and the size line; the file; readers and writers.
+-- Reading what was written gives it back: every legal test, with its kind, shape, entries and readings
+-- (`test-round-trip`), at every cutoff (`test-reads`), and every legal table (`round-trip`); whatever a writer takes
+-- is such a test or table (`written-test-reads`, `written-reads`). In order: one entry, one row, the rows; the banner
+-- and the size line; the file; readers and writers.
 use Prim.Native.Nat.{ℕ, zero, suc, _+_, _-_, _*_, _/_, _%_, _^_, _≤_, _<_}
 use mathlib.Core.Path.{_≡_, refl, ap, sym, _∙_, subst}
 use mathlib.Core.List.{List, [], _∷_, _++_}
@@ -251,7 +252,7 @@ module _ (t : Test) (ok : LegalTest t) where
   file-read integers h =
       rw (line-front (bannerOf (t .kind)) (sizeText table ++ 10 ∷ body) (banner-over (t .kind))) (rw (banner-first integers (t .kind) h, readLines))
 
-  -- every reading that is not 0 stands at an entry
+  -- every reading that is not 0 is at an entry
   visited : (i : ℕ) → i < 4096 → (reading (t .readings) i ≡ pos 0) ⊎ Visits i (pairs table)
   visited i h = go (zero-or-entry t ok i h)
     where

@@ -1,11 +1,12 @@
 -- The laws of one move and of one call, and what a list of calls hands out, in how many moves.
 --
--- In order: the cost of a state, which a move that gives nothing lowers, so that it bounds the moves to the next hand-out or end (`cost`, `cost-lap`);
--- the law of a move and of a call (`call-law`), a refused one apart (`call-above`, `call-within`); the sets handed out, followed by those still to
--- come, are those of the leaves in order (`calls-front`, `calls-complete`); the two limits (`calls-start`, `calls-gap`), and that no end comes before
+-- In order: the cost of a state, which a move that gives nothing lowers, so that it bounds the moves to the next
+-- hand-out or end (`cost`, `cost-lap`); the law of a move and of a call, a refused one too
+-- (`call-law`); the sets handed out, followed by those still to come, are those of the leaves in
+-- order (`calls-front`, `calls-complete`); the two limits (`calls-start`, `calls-gap`), and that no end comes before
 -- the first hand-out (`start-same`).
 --
--- Elsewhere: what a call reports of its moves, Reports.antt; that calls come to an end, Ends.antt.
+-- Elsewhere: what a call reports of its moves, Reports.antt; that calls reach an end, Ends.antt.
 use mathlib.Core.Path.{_≡_, refl, ap, sym, _∙_}
 use mathlib.Core.Logic.{_⊎_, inl, inr}
 use mathlib.Core.Bool.{Bool, true, false, cond}

@@ -1,8 +1,9 @@
--- Runs that omit: the sets handed out, followed by the kept ones still to come, are the kept ones of the leaves in order, after every call.
--- So a list of calls hands out a front of them (`kept-front`), and all of them once a call has answered end (`kept-complete`); some list of
--- calls comes to that (`kept-ends`). A run with nothing to omit makes the calls of rules 1 to 5 (`all-kept`). Of one call, from any state that fits:
--- `call-kept`; that calls of one move each come to an end, wherever the moves do: `ends-from`. What a call reports of its moves is in Reports.antt, for
--- any rule for moves.
+-- Runs that omit: the sets handed out, followed by the kept ones still to come, are the kept ones of the leaves in
+-- order, after every call. So a list of calls hands out a front of them (`kept-front`), and all of them once a call
+-- has answered end (`kept-complete`); some list of calls reaches that (`kept-ends`). A run with nothing to omit makes
+-- the calls of rules 1 to 5 (`all-kept`). Of one call, from any state that fits: `call-kept`; that calls of one move
+-- each reach an end, wherever the moves do: `ends-from`. What a call reports of its moves is in Reports.antt, for any
+-- rule for moves.
 use mathlib.Core.Path.{_≡_, refl, ap, sym, _∙_}
 use mathlib.Core.Logic.{_⊎_, inl, inr}
 use mathlib.Core.Bool.{Bool, true, false, cond}

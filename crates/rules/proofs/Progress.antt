@@ -1,5 +1,5 @@
--- What is still to be handed out in a state, and that a move keeps it; and that a move keeps the picks fitting the phase. The front
--- of the leaves that calls hand out rests on this, with no word on when the machine ends.
+-- What is still to be handed out in a state, and that a move keeps it; and that a move keeps the picks fitting the
+-- phase. The front of the leaves that calls hand out rests on this, with no word on when the machine ends.
 use mathlib.Core.Path.{_≡_, refl, sym, _∙_}
 use mathlib.Core.List.{List, [], _∷_, _++_, head?, append-assoc, append-nil, List·Memᴰ·head, List·Memᴰ·tail, Memᴰ·append-right}
 use Prim.Native.Nat.{ℕ, zero, suc, _-_}
@@ -20,7 +20,7 @@ module _ (kids : List ℕ → List ℕ) (n : ℕ) where
   abbrev below : List ℕ → List (List ℕ)
   below p = leaves kids (n - length p) p
 
-  -- the leaves that stand after those below q ++ p, and below q
+  -- the leaves that are after those below q ++ p, and below q
   abbrev later : List ℕ → List ℕ → List (List ℕ)
   later q [] = []
   later q (x ∷ xs) = later (q ++ (x ∷ [])) xs ++ each below q (above x (kids q))

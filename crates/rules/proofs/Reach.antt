@@ -1,5 +1,6 @@
--- The states that some number of moves from a fresh start leads to are those whose picks fit the phase (`reachable`): the machine goes
--- through all below each kid and comes back, so it comes to every valid sequence, in every phase that fits.
+-- The states that some number of moves from a fresh start leads to are those whose picks fit the phase (`reachable`):
+-- the machine goes through all below each kid and comes back, so it reaches every valid sequence, in every phase that
+-- fits.
 use mathlib.Core.Path.{_≡_, refl, ap, sym, _∙_, subst}
 use mathlib.Core.Logic.{_↔_}
 use mathlib.Core.List.{List, [], _∷_, _++_, append-assoc, List·Memᴰ, List·Memᴰ·head, List·Memᴰ·tail, Memᴰ·append-right}
@@ -60,7 +61,7 @@ module _ (kids : List ℕ → List ℕ) (n : ℕ) (t : Tree kids n) where
   kid-finish : (p : List ℕ) (g : ℕ) → Valid kids p → List·Memᴰ g (kids p) → Leads kids (at (p ++ (g ∷ [])) Down) (at p (Back g))
   kid-finish p g v m = rw (cut-snoc p g) at (finish n (p ++ (g ∷ [])) (valid-snoc kids p g v m) (omega arith))
 
-  -- from Down at p the machine comes to each kid
+  -- from Down at p the machine reaches each kid
   arrive : (p a : List ℕ) → Valid kids p → (g : ℕ) (b : List ℕ) → kids p ≡ a ++ (g ∷ b) → Leads kids (at p Down) (at (p ++ (g ∷ [])) Down)
   arrive p a v = by-last (λ (a : List ℕ). (g : ℕ) (b : List ℕ) → kids p ≡ a ++ (g ∷ b) → Leads kids (at p Down) (at (p ++ (g ∷ [])) Down))
       (λ g b e. one kids (at p Down) (at (p ++ (g ∷ [])) Down) (rw e))

@@ -1,7 +1,8 @@
--- States whose numbers are renamed by a map f, number for number: a machine that goes by place makes the moves of one that goes by number,
--- renamed, where the place of f i is i (`moves-renamed`). So it comes to the same states (`after-renamed`) and makes the same calls, renamed
--- (`carry-renamed`, `call-renamed`, `calls-renamed`, `state-renamed`), also where it hands over the kept sets alone (`keeping-follows`). Last, what a
--- renamed list of calls hands out, and its moves.
+-- States whose numbers are renamed by a map f, number for number: a machine that goes by place makes the moves of one
+-- that goes by number, renamed, where the place of f i is i (`moves-renamed`). So it reaches the same states
+-- (`after-renamed`) and makes the same calls, renamed (`carry-renamed`, `call-renamed`, `calls-renamed`,
+-- `state-renamed`), also where it hands over the kept sets alone (`keeping-follows`). Last, what a renamed list of
+-- calls hands out, and its moves.
 --
 -- Elsewhere: the places of a preference, and the candidates by place, crate `lists`.
 use mathlib.Core.Path.{_≡_, refl, sym, ap, _∙_}
@@ -214,7 +215,7 @@ module _ (f : ℕ → ℕ) where
   moves-until-renamed stops [] = refl
   moves-until-renamed stops (c ∷ cs) = ap (λ (k : ℕ). c .moves + cond (stops (c .answer)) 0 k) (moves-until-renamed stops cs)
 
-  -- a call of it is a call renamed, and what stands before and after is
+  -- a call of it is a call renamed, and what comes before and after is
   pub record SplitAt (cs sooner later : List Call) (c : Call) : Type 0 where
     pub sooner′ : List Call
     pub later′ : List Call

@@ -1,8 +1,9 @@
 -- Laws of lists that ascend. Nothing of trees or moves is here.
 --
--- In order: what holds of each element (`All-map`, `All-append`, `All-get`, `All-of`); appending and mapping (`Sorted-append`, `Sorted-map`); the
--- elements above one (`above-at`); the order number by number (`before-irrefl`, `before-trans`, `before-part`); two lists against each other: lists
--- that ascend and have the same members are equal (`sorted-unique`), and a list without repetitions whose members are all in another is no longer
+-- In order: what holds of each element (`All-map`, `All-append`, `All-get`, `All-of`); appending and mapping
+-- (`Sorted-append`, `Sorted-map`); the elements above one (`above-at`); the order number by number (`before-irrefl`,
+-- `before-trans`, `before-part`); two lists against each other: lists that ascend and have the same members are equal
+-- (`sorted-unique`), and a list without repetitions whose members are all in another is no longer
 -- (`distinct-length`).
 use mathlib.Core.Path.{_≡_, refl, ap, sym, _∙_}
 use mathlib.Core.Logic.{_⊎_, inl, inr, _↔_, _≢_}
@@ -49,7 +50,7 @@ above-all : (g : ℕ) (l : List ℕ) → All (λ x. g < x) l → above g l ≡ l
 above-all g [] h = refl
 above-all g (x ∷ xs) h = rw (lt-ltb g x h.0) (ap (λ (t : List ℕ). x ∷ t) (above-all g xs h.1))
 
--- in an ascending list, above an element stand those after it
+-- in an ascending list, above an element are those after it
 pub above-at : (a : List ℕ) (g : ℕ) (b : List ℕ) → Ascending (a ++ (g ∷ b)) → above g (a ++ (g ∷ b)) ≡ b
 above-at [] g b h = rw (le-ltb g g (omega arith)) (above-all g b h.0)
 above-at (x ∷ xs) g b h = rw (le-ltb g x (let l : x < g = at xs h.0 in omega arith)) (above-at xs g b h.1)

@@ -1,5 +1,6 @@
--- Finite ordered trees of number sequences, given by `kids`, and their leaves in order: the definitions that the laws are about, lists
--- taken from their end, and sequences valid step by step. Which the leaves are and how many is in Leaves.antt.
+-- Finite ordered trees of number sequences, given by `kids`, and their leaves in order: the definitions that the laws
+-- are about, lists taken from their end, and sequences valid step by step. Which the leaves are and how many is in
+-- Leaves.antt.
 use mathlib.Core.Path.{_≡_, refl, ap}
 use mathlib.Core.List.{List, [], _∷_, _++_, append-assoc, append-nil, List·Memᴰ}
 use Prim.Native.Nat.{ℕ, zero, suc, _≤_, _<_}
@@ -72,6 +73,6 @@ module _ (kids : List ℕ → List ℕ) (n : ℕ) (t : Tree kids n) where
   pub kid-fits : (p : List ℕ) (g : ℕ) → Valid kids p → List·Memᴰ g (kids p) → length p < n
   kid-fits p g v m = omega (arith, t .depth (p ++ (g ∷ [])) (valid-snoc kids p g v m), length-snoc p g)
 
-  -- above a kid stand the kids after it
+  -- above a kid are the kids after it
   pub above-kid : (p a : List ℕ) (g : ℕ) (b : List ℕ) → Valid kids p → kids p ≡ a ++ (g ∷ b) → above g (kids p) ≡ b
   above-kid p a g b v e = rw e (above-at a g b (rw e at (t .ascends p v)))

@@ -1,10 +1,12 @@
--- States and rules 1 to 5 (01, "Moves of a run"), over any rule for candidates: `kids p` are the numbers that may be picked after the
--- picks p, the lowest first. "Lowest" and "above" go by `place` (02, R-12: they "go by place" in a preference); in 01 by the number itself.
--- Words of 01: "a paused run is a value" is `State`, whose picks stand first pick first, the table beside it; "take back" is `takeBack`.
+-- States and rules 1 to 5 (01, "Moves of a run"), over any rule for candidates: `kids p` are the numbers that may be
+-- picked after the picks p, the lowest first. "Lowest" and "above" go by `place` (02, R-12: they "go by place" in a
+-- preference); in 01 by the number itself. Words of 01: "a paused run is a value" is `State`, whose first pick comes
+-- first, the table beside it; "take back" is `takeBack`.
 --
--- In order: a state; one move of each rule; the rules together (`stepIn`, `moveIn`); the states that moves lead to (`afterBy`, `ReachedBy`).
+-- In order: a state; one move of each rule; the rules together (`stepIn`, `moveIn`); the states that moves lead to
+-- (`afterBy`, `ReachedBy`).
 --
--- Elsewhere: calls with a budget, Calls.antt; the candidates of a table, which stand for `kids`, crate `lists`.
+-- Elsewhere: calls with a budget, Calls.antt; the candidates of a table, which are `kids` here, crate `lists`.
 use mathlib.Core.Path.{_≡_}
 use mathlib.Core.Bool.{cond}
 use mathlib.Core.Option.{Option, none, some}
@@ -70,7 +72,8 @@ abbrev pub down : List ℕ → Option ℕ → Move
 down p (some g) = pick p g
 down p none = gives (hands p) (at p Handed)
 
--- "4. Back from g: pick the lowest candidate above g and become Down; if there is none, take back the last pick h and become Back from h"
+-- "4. Back from g: pick the lowest candidate above g and become Down; if there is none, take back the last pick h and
+-- become Back from h"
 abbrev pub back : List ℕ → Option ℕ → Move
 back p (some g) = pick p g
 back p none = takeBack (cutLast p)

@@ -1,6 +1,7 @@
-// Paused values and the answers of run calls in words: a value of either side read from a lent slice, put into one, and a call's answer put into one.
-// Either side's value is a `runs::SideRun`; the side's number, its first word, is by the mark that is handed over, and the one place where the sides part.
-// Any words are taken: those that no value of the side has read as a value that no moves lead to. No function has a `requires`.
+// Paused values and the answers of run calls in words: a value of either side read from a lent slice, put into one,
+// and a call's answer put into one. Either side's value is a `runs::SideRun`; the side's number, its first word, is
+// by the mark that is handed over, and the one place where the sides part. Any words are taken: those that no value
+// of the side has read as a value that no moves lead to. No function has a `requires`.
 use refusals;
 use runs::Mode;
 use runs::Outcome;
@@ -22,7 +23,8 @@ const GAUGES: u64 = 1;
 
 const CASES: u64 = 2;
 
-// Where a paused value has its table, its order, its picks, their count, its phase, what it is back from, and whether it omits.
+// Where a paused value has its table, its order, its picks, their count, its phase, what it is back from, and whether
+// it omits.
 const TABLE: u16 = 1;
 
 const ORDER: u32 = 67;
@@ -166,7 +168,8 @@ fn mark_at(w: &[u64], side: u64) -> Mark
     }
 }
 
-// Whether the words are of the side, with a phase and an omit that there are, and name a number only where the phase is Back.
+// Whether the words are of the side, with a phase and an omit that there are, and name a number only where the phase
+// is Back.
 fn is_value(w: &[u64], side: u64) -> bool
     ensures { λ r. ⌜ r ≡ valueWordsOf side (now (w .entry)) ⌝ }
 {
@@ -186,7 +189,7 @@ fn is_value(w: &[u64], side: u64) -> bool
     words::word_at(w, FROM) == 0
 }
 
-// The phase that a mark stands for.
+// The phase that a mark names.
 fn mode_of(mark: Mark) -> Mode
     ensures { λ r. ⌜ modePhase r ≡ phaseOf (mark .phase) (mark .from) ⌝ }
 {

@@ -1,5 +1,5 @@
--- The moves of a call, one after the other: the first m of b moves, and what the call comes to after a hand-out, an end, or the budget; first by
--- any rule for moves, then by the core's, which omits a hand-out that is not handed over.
+-- The moves of a call, one after the other: the first m of b moves, and what the call gives after a hand-out, an end,
+-- or the budget; first by any rule for moves, then by the core's, which omits a hand-out that is not handed over.
 use mathlib.Core.Path.{_≡_, sym, ap, _∙_, subst, fun-ext}
 use mathlib.Core.Bool.{Bool, true, false, not, cond}
 use mathlib.Core.List.{List}

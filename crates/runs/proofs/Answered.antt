@@ -1,5 +1,6 @@
--- From the core's words to the public ones, for either side: a value of which the core says that it stands for a state is the paused value
--- of a reached state; refusals and fresh starts. A call that is not refused is in SideCalls.antt.
+-- From the core's words to the public ones, for either side: a value of which the core says that it represents a
+-- state is the paused value of a reached state; refusals and fresh starts. A call that is not refused is in
+-- SideCalls.antt.
 use mathlib.Core.Path.{_≡_, refl, sym, ap, _∙_}
 use mathlib.Core.Bool.{Bool, true, false}
 use mathlib.Core.List.{List, map}
@@ -30,7 +31,7 @@ paused-state t k omit s z e =
     sym (state-by (v .picks) (v .count) (v .phase) s refl refl refl)
     ∙ state-by (v .picks) (v .count) (v .phase) z (ap (λ (y : Value). y .picks) e) (ap (λ (y : Value). y .count) e) (ap (λ (y : Value). y .phase) e)
 
--- a value that stands for a state, in the core's words and in the public ones
+-- a value that represents a state, in the core's words and in the public ones
 module _ (side : Table → Side) (v : Value) where
   abbrev t : Table
   t = v .table

@@ -1,6 +1,6 @@
--- A batch's answer and buffer are determined by the value, the budget and the buffer handed in (`batched-unique`), and there is an answer for each
--- (`batched-exists`): a refusal or what its calls come to (`batched-cases`). The state after a batch is reached (`batch-reached`), and each ladder has G
--- words (`gauge-words`, `case-words`).
+-- A batch's answer and buffer are determined by the value, the budget and the buffer handed in (`batched-unique`),
+-- and there is an answer for each (`batched-exists`): a refusal or what its calls give (`batched-cases`). The state
+-- after a batch is reached (`batch-reached`), and each ladder has G words (`gauge-words`, `case-words`).
 use mathlib.Core.Path.{_≡_, refl, sym, ap, _∙_, subst}
 use mathlib.Core.Logic.{_⊎_, inl, inr}
 use mathlib.Core.Bool.{Bool}
@@ -35,7 +35,7 @@ module _ (side : Table → Side) (v : Value) (b : ℕ) (before : List ℕ) (g : 
   denied-same : (n : ℕ) (r : Batch) (now : List ℕ) (q : Batch) (then : List ℕ) → Denied n before r now → Denied n before q then → Same r now q then
   denied-same n r now q then x y = (x .says ∙ sym (y .says), x .buffer ∙ sym (y .buffer))
 
-  -- a refusal, or what its calls come to from the state that v is paused at
+  -- a refusal, or what its calls give from the state that v is paused at
   abbrev Either : Batch → List ℕ → Type 0
   Either r now =
       ((n : ℕ) × ¬ (n ≡ 0) × Denied n before r now)

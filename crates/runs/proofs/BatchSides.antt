@@ -1,5 +1,6 @@
--- A batch of either side, put together from what the core lists under the value's preference: the run's moves and ladders (`listed-by`, `gauge-out`,
--- `case-out`), a refusal (`batch-refused`), what its calls come to (`batch-given`), and that they are run calls (`adds-calls`).
+-- A batch of either side, put together from what the core lists under the value's preference: the run's moves and
+-- ladders (`listed-by`, `gauge-out`, `case-out`), a refusal (`batch-refused`), what its calls give (`batch-given`),
+-- and that they are run calls (`adds-calls`).
 use mathlib.Core.Path.{_≡_, refl, sym, ap, ap₂, _∙_, subst, fun-ext}
 use mathlib.Core.Bool.{Bool, true, false}
 use mathlib.Core.List.{List, [], _∷_, _++_, map}
@@ -276,7 +277,7 @@ module _ (side : Table → Side) (v : Value) (b : ℕ) (before k′ now : List �
               absurd (not-denied mv (handOut (side t)) room b s (number why) l (ap (λ (u : Tale). u .ending) (w .comes) ∙ ap ending e));
         }
 
-  -- ---- what the calls come to
+  -- ---- what the calls give
   module _ (c : OneOf (0 ∷ 1 ∷ 2 ∷ []) (tag (o .outcome))) where
     abbrev answer : Batch
     answer = batchFrom v k′ o

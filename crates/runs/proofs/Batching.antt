@@ -1,5 +1,6 @@
--- A batch on a value handed in: from the checks and the calls (`list-refused`, `list-went`), and by place from the batch by number (`lists-over`), as
--- Ordering.antt has it for a call: for the order 1, 2, 3 and on (`plain-list`) and for any other (`arranged-list`).
+-- A batch on a value handed in: from the checks and the calls (`list-refused`, `list-went`), and by place from the
+-- batch by number (`lists-over`), as Ordering.antt has it for a call: for the plain order (`plain-list`) and for any
+-- other (`arranged-list`).
 use mathlib.Core.Path.{_≡_, refl, sym, ap, ap₂, _∙_, subst}
 use mathlib.Core.Bool.{Bool, true, false, cond}
 use mathlib.Core.List.{List, [], _∷_, map}
@@ -141,7 +142,7 @@ module _ {f : ℕ → ℕ} {good good′ : State → Type 0} {mv mv′ : State �
 fails : true ≡ false → ⊥
 fails z = clash cc
 
--- ---- 1, 2, 3 and on
+-- ---- the plain order
 pub plain-list : (n : ℕ) (rows order : List ℕ) → Sized n rows → length order ≡ 64 → (test : Bool) → test ≡ isPlain n order → test ≡ true
     → (turning omit : Bool) (w : List ℕ) (g room : ℕ) (k : List ℕ) (count : ℕ) (p : Phase) (b : ℕ) (before k′ now : List ℕ) (o : Tally)
     → ListsBy (moveBy (take n rows) omit w) (FitsOn (take n rows)) (ladderFor turning true order n g (take n rows)) room k count p b before k′ now o

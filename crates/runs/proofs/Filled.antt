@@ -1,5 +1,5 @@
--- Counting the places that are not zero: a list of numbers with zeros behind them has as many as it has numbers, and where as many are in
--- front, the rest are zeros.
+-- Counting the places that are not zero: a list of numbers padded with zeros has as many as it has numbers, and where
+-- as many are in front, the rest are zeros.
 use mathlib.Core.Path.{_≡_, refl, sym, ap, _∙_}
 use mathlib.Core.Bool.{Bool, cond}
 use mathlib.Core.List.{List, map}
@@ -67,7 +67,7 @@ module _ (k : List ℕ) where
       go (yes z) = z
       go (no z) = absurd (omega (arith, filled-all m f, filled-up m i a, filled-some k i z, filled-up (suc i) 64 (omega arith)))
 
--- picks by number, with zeros behind them
+-- picks by number, padded with zeros
 pub filled-picks : (p : List ℕ) → length p ≤ 64 → filled (padded (map suc p)) 64 ≡ length p
 filled-picks p l =
     filled-rest (padded (map suc p)) (length p) 64 l (λ i a b. pad-getD (map suc p) i ∙ List·getD-eq-default (map suc p) 0 (omega (arith, length-numbers p)))

@@ -1,5 +1,6 @@
--- How a spot and its arrays stand for a state: the state is determined, a pick and a pick taken back keep it so, and the facts of the
--- last pick that the code's indices need. The rows r are the side's; the code's own step by step use is in Stepping.antt.
+-- How a spot and its arrays represent a state: the state is determined, a pick and a pick taken back keep it so, and
+-- the facts of the last pick that the code's indices need. The rows r are the side's; the code's own step by step use
+-- is in Stepping.antt.
 use mathlib.Core.Path.{_≡_, refl, sym, ap, ap₂, _∙_, subst}
 use mathlib.Core.Bool.{false}
 use mathlib.Core.List.{List, [], _∷_, _++_, map}
@@ -45,7 +46,7 @@ placed-numbered Handed = refl
 placed-numbered (Back i) = let e : suc i - 1 ≡ i = omega arith in ap Back e
 placed-numbered Ended = refl
 
--- the state that picks by number, with zeros behind them, their count and a phase by number stand for
+-- the state that picks by number, padded with zeros, their count and a phase by number represent
 pub state-by : (k : List ℕ) (count : ℕ) (f : Phase) (x : State) → k ≡ padded (map suc (x .picks)) → count ≡ length (x .picks) → f ≡ numbered (x .phase)
     → at (placesOf k count) (placed f) ≡ x
 state-by k count f x a b c =

@@ -1,8 +1,9 @@
--- A call by place from the core's call by number (`carried-over`): where the moves follow one another, number for number, and the arrays stand for
--- one another's states. So it is for the order 1, 2, 3 and on, where both are the same (`plain-carried`), and for any other order, on the gathered
--- rows and the picks by place (`arranged-carried`).
+-- A call by place from the core's call by number (`carried-over`): where the moves follow one another, number for
+-- number, and the arrays represent one another's states. So it is for the plain order, where both are the same
+-- (`plain-carried`), and for any other order, on the gathered rows and the picks by place (`arranged-carried`).
 --
--- In order: the law; the side that rows are; 1, 2, 3 and on; rows gathered, values by place, values by number again, chains; any order.
+-- In order: the law; the side that rows are; the plain order; rows gathered, values by place, values by number again,
+-- chains; any order.
 use mathlib.Core.Path.{_≡_, refl, sym, ap, ap₂, _∙_, subst, fun-ext}
 use mathlib.Core.Bool.{Bool, true, false, not}
 use mathlib.Core.List.{List, [], map}
@@ -55,7 +56,7 @@ use Rattle.runs.specs.declared.engine.Report.{Report}
 use Rattle.runs.proofs.Padding.{take-padded}
 
 -- ---- from one call to the other
--- what stands for the state x by number stands for its renamed one by place
+-- what represents the state x by number represents its renamed one by place
 pub record Stand (f : ℕ → ℕ) (good good′ : State → Type 0) (k₁ k : List ℕ) (count : ℕ) (p₁ p : Phase) : Type 0 where
   pub there : (x : State) → StandsBy good k₁ count p₁ x → StandsBy good′ k count p (renamed f x)
   pub again : (x : State) → good x → StandsBy good′ k count p (renamed f x) → StandsBy good k₁ count p₁ x
@@ -100,7 +101,7 @@ module _ {f : ℕ → ℕ} {good good′ : State → Type 0} {mv mv′ : State �
             stands = t .stands (g .to) (g .stands);
           }
 
--- ---- the side whose rows these are, seen as they stand
+-- ---- the side whose rows these are, seen as they are
 abbrev side : ℕ → List ℕ → Side
 side n r = record { count = n; rows = r; view = λ x. x; byGauges = λ x. x }
 
@@ -132,7 +133,7 @@ both-follow {f} r₁ r o w₁ w follow same true =
     rw (number-keeps r₁ w₁, place-keeps r o w)
     (keeping-follows follow (chainOf r₁) (chainOf r) (handsOver true (length r₁) w₁) (handsOver true (length r) w) same)
 
--- ---- 1, 2, 3 and on: the rows, the picks and the chain as they stand
+-- ---- the plain order: the rows, the picks and the chain as they are
 module _ (n : ℕ) (r : List ℕ) (counted : length r ≡ n) where
   abbrev plainSide : Side
   plainSide = side n r
@@ -444,7 +445,7 @@ asked-for r omit flag e w v h k count f b c′ k′ rep d =
     same false g = number-moves r w ∙ sym (number-moves r v)
     same true g = ap (moveBy r true) (g refl)
 
--- 1, 2, 3 and on goes straight to the core
+-- the plain order goes straight to the core
 pub plain-call : (n : ℕ) (rows order : List ℕ) → Sized n rows → length order ≡ 64 → (test : Bool) → test ≡ isPlain n order → test ≡ true → (omit : Bool)
     (w k : List ℕ) (count : ℕ) (p : Phase) (b : ℕ) (c k′ : List ℕ) (rep : Report)
     → CarriesOn (moveBy (take n rows) omit w) (take n rows) k count p b c k′ rep

@@ -1,5 +1,5 @@
--- Picks in an array of 64: one more at the first zero, and the last one cleared. Laws of a list with zeros behind it are in crate `table`,
--- proofs/Padding.antt; picks by number and by place in crate `replay`, proofs/Numbers.antt.
+-- Picks in an array of 64: one more at the first zero, and the last one cleared. Laws of a list padded with zeros are
+-- in crate `table`, proofs/Padding.antt; picks by number and by place in crate `replay`, proofs/Numbers.antt.
 use mathlib.Core.Path.{_≡_, refl, sym, ap, _∙_}
 use mathlib.Core.List.{List, [], _∷_, _++_}
 use Prim.Native.Nat.{ℕ, suc, _-_, _<_}

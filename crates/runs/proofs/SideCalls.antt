@@ -1,6 +1,6 @@
--- A run call of either side, put together from what the core reports under the value's preference: which refusal, or the moves with the chain by
--- gauge rows and the next value (`call-answer`), and the three answers of the functions above the core. Each promises demand 3, or what is promised
--- of the runs that omit, beside (`promise`).
+-- A run call of either side, put together from what the core reports under the value's preference: which refusal, or
+-- the moves with the chain by gauge rows and the next value (`call-answer`), and the three answers of the functions
+-- above the core. Each promises demand 3, or what is promised of the runs that omit, beside (`promise`).
 use mathlib.Core.Path.{_≡_, refl, sym, ap, _∙_, subst}
 use mathlib.Core.Bool.{Bool, true, false}
 use mathlib.Core.List.{List, [], _∷_, map}
@@ -102,7 +102,7 @@ module _ (side : Table → Side) (v : Value) (b : ℕ) (c′ k′ : List ℕ) (o
   abbrev mv : State → Move
   mv = movesOf t (side t) q (v .omit)
 
-  -- the step that the report o comes to
+  -- the step that the report o gives
   abbrev step : List ℕ → Outcome → Step
   step rows oc = stepBy t (v .order) (v .omit) o k′ rows oc
 
@@ -257,7 +257,7 @@ module _ (side : Table → Side) (v : Value) (b : ℕ) (c′ k′ : List ℕ) (o
     told-other c d moved other =
         by-table _ (λ w x n. absurd (never-refused (o .outcome) moved w x)) (λ z. call-other side v b c′ k′ o (worked z) f ef c d moved other)
 
--- ---- what it is told: its table's refusal, or what the core comes to
+-- ---- what it is told: its table's refusal, or what the core gives
 module _ (side : Table → Side) (v : Value) (b : ℕ) (c′ k′ : List ℕ) (o : Report) where
   pub table-reported : (why : Refusal) → o ≡ refusedReport why → number why ≡ tableRefusal (v .table) → Reports side v b c′ k′ o
   table-reported why d e = record {
@@ -270,7 +270,8 @@ module _ (side : Table → Side) (v : Value) (b : ℕ) (c′ k′ : List ℕ) (o
       → Reports side v b c′ k′ o
   core-reported z f e k d h = record { table = λ l. absurd (omega arith); rules = λ y. rw (← e, ← d) h }
 
--- an answer that is what `CalledOf` says is what both kinds of run promise, and carries on demand 3, and what is promised of the runs that omit
+-- an answer that is what `CalledOf` says is what both kinds of run promise, and carries on demand 3, and what is
+-- promised of the runs that omit
 pub promise : (side : Table → Side) (v : Value) (b : ℕ) (r : Step) → Starts side v → CalledOf side v b r
     → Called side v b r × (CarriesDemand side v b r × (CalledEither side v b r × CarriesOmits side v b r))
 promise side v b r f h =

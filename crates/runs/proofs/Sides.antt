@@ -1,5 +1,6 @@
--- The two sides of a legal table as the core has them (`Works`): the gauge side's rows are the table's own, the case side's those of the
--- table with its sides exchanged; and the chain of the picks by gauge rows, as each side shows it (`gauge-chain`, `case-chain`).
+-- The two sides of a legal table as the core has them (`Works`): the gauge side's rows are the table's own, the case
+-- side's those of the table with its sides exchanged; and the chain of the picks by gauge rows, as each side shows it
+-- (`gauge-chain`, `case-chain`).
 use mathlib.Core.Path.{_≡_, refl, sym, ap, ap₂, _∙_}
 use mathlib.Core.List.{List}
 use Prim.Native.Nat.{ℕ, _^_, _≤_, _<_, min}
@@ -67,7 +68,7 @@ transpose-padded g x h cs =
         row-past (transpose 64 (padded x)) k (omega (arith, length-transpose 64 (padded x)))
         ∙ sym (row-past (transpose g x) k (omega (arith, length-transpose g x)))
 
--- the ladder of the picks p stands in the array `rows` by gauge rows
+-- the ladder of the picks p is in the array `rows` by gauge rows
 pub record Ladder (t : Table) (s : Side) (p rows : List ℕ) : Type 0 where
   pub rows-are : rows ≡ padded (handOut s p)
   pub size : length (handOut s p) ≡ t .gauges

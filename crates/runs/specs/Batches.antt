@@ -1,9 +1,11 @@
--- Batches: many hand-outs of a run in one call, with a budget of moves for all of them. A batch is a list of run calls, as Calling.antt has them: the
--- first gets the budget, each next what is left of it, until as many ladders are handed out as have room, or a call hands none out. The value is the
--- one that the last of them returns, so that run calls and batches of a run may follow one another in any turn.
+-- Batches: many hand-outs of a run in one call, with a budget of moves for all of them. A batch is a list of run
+-- calls, as Calling.antt has them: the first gets the budget, each next what is left of it, until as many ladders are
+-- handed out as have room, or a call hands none out. The value is the one that the last of them returns, so that run
+-- calls and batches of a run may follow one another in any turn.
 --
--- In order: an answer and how the three structs read; the calls of a batch, by any rule for moves (`batchBy`, and their budgets, `budgetsBy`); what a
--- batch answers for every value, every budget and every buffer (`Batched`); its promise (`CarriesBatch`).
+-- In order: an answer and how the three structs read; the calls of a batch, by any rule for moves (`batchBy`, and
+-- their budgets, `budgetsBy`); what a batch answers for every value, every budget and every buffer (`Batched`); its
+-- promise (`CarriesBatch`).
 use mathlib.Core.Path.{_≡_}
 use mathlib.Core.Bool.{Bool, true, false}
 use mathlib.Core.List.{List, [], _∷_, _++_, map}
@@ -27,7 +29,8 @@ use Rattle.runs.specs.declared.batches.GaugeBatch.{GaugeBatch}
 use Rattle.runs.specs.declared.batches.CaseBatch.{CaseBatch}
 
 -- ---- an answer
--- how a batch stopped: it was refused, by the number; as many ladders as have room were handed out; the budget was spent; or the run ended
+-- how a batch stopped: it was refused, by the number; as many ladders as have room were handed out; the budget was
+-- spent; or the run ended
 pub data Ending : Type 0 where
   denied : ℕ → Ending
   full : Ending
@@ -58,7 +61,8 @@ abbrev pub caseBatch : CaseBatch → Batch
 caseBatch r = record { ending = ending (r .outcome); ladders = r .ladders; moves = r .moves; next = caseValue (r .next) }
 
 -- ---- the calls of a batch
--- what they come to: how the batch stopped, the sets handed out, in turn, the moves of all calls, and the state after the last
+-- what they give: how the batch stopped, the sets handed out, in turn, the moves of all calls, and the state after
+-- the last
 pub record Tale : Type 0 where
   pub ending : Ending
   pub sets : List (List ℕ)
@@ -110,8 +114,8 @@ pub record Denied (n : ℕ) (before : List ℕ) (r : Batch) (now : List ℕ) : T
   pub says : r ≡ denial n
   pub buffer : now ≡ before
 
--- r is the batch that comes to u, of a run on the table t with the preference in order, one that omits or does not: the words of its ladders, in turn,
--- are over the front of the buffer, and behind them is what was there
+-- r is the batch that gives u, of a run on the table t with the preference in order, one that omits or does not: the
+-- words of its ladders, in turn, are over the front of the buffer, and behind them is what was there
 abbrev pub given : Table → List ℕ → Bool → Tale → Batch
 given t order omit u = record { ending = u .ending; ladders = length (u .sets); moves = u .moves; next = paused t order omit (u .next) }
 
@@ -119,7 +123,8 @@ pub record Comes (t : Table) (order : List ℕ) (omit : Bool) (u : Tale) (before
   pub says : r ≡ given t order omit u
   pub buffer : now ≡ joined (u .sets) ++ drop (length (joined (u .sets))) before
 
--- the batch on the side of the value v from the state s: G words a ladder, and room for as many as the buffer's length has times G
+-- the batch on the side of the value v from the state s: G words a ladder, and room for as many as the buffer's
+-- length has times G
 abbrev pub batchOn : (Table → Side) → Value → ℕ → ℕ → State → Tale
 batchOn side v words b s =
     batchBy (movesOf (v .table) (side (v .table)) (held side v) (v .omit)) (handOut (side (v .table))) (words / v .table .gauges) b s
@@ -128,8 +133,8 @@ abbrev pub budgetsOn : (Table → Side) → Value → ℕ → ℕ → State → 
 budgetsOn side v words b s =
     budgetsBy (movesOf (v .table) (side (v .table)) (held side v) (v .omit)) (handOut (side (v .table))) (words / v .table .gauges) b s
 
--- r is the answer of a batch on the side of v's table with the budget b, and now is the buffer after it: 10, 11, 27 and 15 as a run call has them, then
--- 18, whether there is room or not; else what its calls come to
+-- r is the answer of a batch on the side of v's table with the budget b, and now is the buffer after it: 10, 11, 27
+-- and 15 as a run call has them, then 18, whether there is room or not; else what its calls give
 pub record Batched (side : Table → Side) (v : Value) (b : ℕ) (before : List ℕ) (r : Batch) (now : List ℕ) : Type 0 where
   pub table : 0 < valueRefusal side v → Denied (valueRefusal side v) before r now
   pub value : valueRefusal side v ≡ 0 → ((s : State) → PausedAt side v s → ⊥) → Denied 15 before r now
@@ -154,9 +159,9 @@ abbrev pub leftOver : ℕ → List Step → List ℕ
 leftOver b [] = []
 leftOver b (r ∷ rs) = b ∷ leftOver (b - r .moves) rs
 
--- the calls of a batch are run calls from v on, the first with the budget b, each next with what is left of it: they hand out the batch's sets in its
--- moves, and leave its value; and every list of calls from a fresh start that leaves v, with these calls added, keeps demand 3, or what is promised of a
--- run that omits
+-- the calls of a batch are run calls from v on, the first with the budget b, each next with what is left of it: they
+-- hand out the batch's sets in its moves, and leave its value; and every list of calls from a fresh start that leaves
+-- v, with these calls added, keeps demand 3, or what is promised of a run that omits
 pub record AddsCalls (side : Table → Side) (v : Value) (words b : ℕ) (s : State) : Type 0 where
   pub calls : CallsEither side v (budgetsOn side v words b s) (stepsOn side v words b s)
   pub budgets : budgetsOn side v words b s ≡ leftOver b (stepsOn side v words b s)

@@ -1,6 +1,7 @@
--- Run calls (01, "A run call has a budget ..", refusals 10, 11, 27, 15 and 18). A call's answer, of either side, reads as a `Step`; `Called` says
--- what it is for every paused value and budget, under the value's preference (02, R-12), where the value is not of a run that omits; `Calls` says
--- it of a list of calls, each from the value that the last unrefused call returned, and `lastValue` is the value that such a list leaves.
+-- Run calls (01, "A run call has a budget ..", refusals 10, 11, 27, 15 and 18). A call's answer, of either side,
+-- reads as a `Step`; `Called` says what it is for every paused value and budget, under the value's preference (02,
+-- R-12), where the value is not of a run that omits; `Calls` says it of a list of calls, each from the value that the
+-- last unrefused call returned, and `lastValue` is the value that such a list leaves.
 --
 -- Elsewhere: demand 3, Demand.antt; the runs that omit (R-2), Omitting.antt.
 use mathlib.Core.Path.{_≡_}
@@ -23,8 +24,9 @@ use Rattle.runs.specs.declared.Outcome.the-variants.{HandedOut, Spent, E
 use Rattle.runs.specs.declared.gauges.GaugeStep.{GaugeStep}
 use Rattle.runs.specs.declared.cases.CaseStep.{CaseStep}
 
--- the answer of a call: 01's answer, the moves, the chain by gauge rows, its pick sequence (02, R-6: "Each handed-out ladder now carries its pick
--- sequence, in the case run that of the cases"), by number in 64 places as a paused value has its picks, and the next paused value
+-- the answer of a call: 01's answer, the moves, the chain by gauge rows, its pick sequence (02, R-6: "Each handed-out
+-- ladder now carries its pick sequence, in the case run that of the cases"), by number in 64 places as a paused value
+-- has its picks, and the next paused value
 pub record Step : Type 0 where
   pub answer : Reply
   pub moves : ℕ
@@ -63,7 +65,8 @@ caseStep r = record {
 abbrev pub refusalStep : ℕ → Step
 refusalStep n = record { answer = refused n; moves = 0; chain = blankChain; picks = noNumbers; next = blankValue }
 
--- the pick sequence of the set x on the side s under the preference o, "from the ladder alone" (01), by number with zeros behind it
+-- the pick sequence of the set x on the side s under the preference o, "from the ladder alone" (01), by number,
+-- padded with zeros
 abbrev pub sequence : Side → List ℕ → List ℕ → List ℕ
 sequence s o x = padded (map suc (pickSeqBy o (s .view x)))
 
@@ -71,8 +74,9 @@ sequence s o x = padded (map suc (pickSeqBy o (s .view x)))
 abbrev pub arrangement : Side → List ℕ → List ℕ
 arrangement s k = orderOf (s .count) k
 
--- what the rules give for a call on the side s of the table t, with the preference in k: the chain stands by gauge rows where one is handed out,
--- with its pick sequence, and both are blank elsewhere; the next value keeps the preference, and omits where the last one did
+-- what the rules give for a call on the side s of the table t, with the preference in k: the chain is by gauge rows
+-- where one is handed out, with its pick sequence, and both are blank elsewhere; the next value keeps the preference,
+-- and omits where the last one did
 abbrev pub byRules : Table → Side → List ℕ → Bool → Reply → ℕ → State → Step
 byRules t s k omit (refused n) m y = refusalStep n
 byRules t s k omit spent m y = record { answer = spent; moves = m; chain = blankChain; picks = noNumbers; next = paused t k omit y }
@@ -97,15 +101,16 @@ held side v = arrangement (side (v .table)) (v .order)
 abbrev pub valueRefusal : (Table → Side) → Value → ℕ
 valueRefusal side v = preferredRefusal (v .table) (side (v .table) .count) (v .order)
 
--- v is the paused value of the state s, and some number of moves from a fresh start with its preference leads to s; nothing is asked of whether
--- it omits
+-- v is the paused value of the state s, and some number of moves from a fresh start with its preference leads to s;
+-- nothing is asked of whether it omits
 pub record PausedAt (side : Table → Side) (v : Value) (s : State) : Type 0 where
   pub reached : ReachedOn (side (v .table)) (held side v) s
   pub stands : v ≡ paused (v .table) (v .order) (v .omit) s
 
--- r is the answer of a call on the side of v's table, with the budget b: 10 and 11 for the table, and "right after the table's checks, before all
--- others" 27 for the preference (02, R-12); then 15 for "a value that no number of moves, 0 included, from a fresh start on its table leads to";
--- then, with 18 in it, what rules 1 to 5 give, where the value's run omits nothing
+-- r is the answer of a call on the side of v's table, with the budget b: 10 and 11 for the table, and "right after
+-- the table's checks, before all others" 27 for the preference (02, R-12); then 15 for "a value that no number of
+-- moves, 0 included, from a fresh start on its table leads to"; then, with 18 in it, what rules 1 to 5 give, where
+-- the value's run omits nothing
 pub record Called (side : Table → Side) (v : Value) (b : ℕ) (r : Step) : Type 0 where
   pub table : 0 < valueRefusal side v → r ≡ refusalStep (valueRefusal side v)
   pub value : valueRefusal side v ≡ 0 → ((s : State) → PausedAt side v s → ⊥) → r ≡ refusalStep 15
@@ -120,7 +125,8 @@ keptValue spent v next = next
 keptValue (handed x) v next = next
 keptValue end v next = next
 
--- rs are the answers of calls with the budgets bs, the first from the value v, where P says what the answer of a call is
+-- rs are the answers of calls with the budgets bs, the first from the value v, where P says what the answer of a call
+-- is
 abbrev pub CallsBy : (Value → ℕ → Step → Type 0) → Value → List ℕ → List Step → Type 0
 CallsBy P v [] [] = Unit {0}
 CallsBy P v [] (r ∷ rs) = ⊥

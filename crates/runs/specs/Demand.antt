@@ -1,5 +1,6 @@
--- Demand 3, of the runs that omit nothing. `Demand3` is its sentences, in turn, of the answers alone: no move, state or rule is mentioned. `FromRules`
--- is the one sentence of 01 on rules 1 to 5. Every list of calls from a fresh start keeps both (`KeepsDemand`), and each run call carries them on
+-- Demand 3, of the runs that omit nothing. `Demand3` is its sentences, in turn, of the answers alone: no state and no rule
+-- is mentioned, and of moves only the numbers that calls report. `FromRules` is the one sentence of 01 on rules 1 to 5.
+-- Every list of calls from a fresh start keeps both (`KeepsDemand`), and each run call carries them on
 -- (`CarriesDemand`); all runs of a table share one set (`SharesAll`).
 --
 -- What a list of calls is, `Calls`, is said with `Called`, word for word the promise of the run calls: of what a caller gets from them `Calls` holds,

@@ -1,7 +1,8 @@
--- Paused values (01: "A paused run is a value: the table, the gauges picked so far, and a phase"; 02, R-2: "Whether a run omits is fixed at its
--- fresh start and kept in its paused value"; R-12: "A paused run keeps its preference"), read from the two structs alike, and the value of a state
--- of rules 1 to 5 on a table. Picks stand by number from 1, in 64 places with zeros behind the last, as the preference does; a state of the theory
--- has them by row index from 0. A value is legal exactly when it is the paused value of a state that some number of moves reaches.
+-- Paused values (01: "A paused run is a value: the table, the gauges picked so far, and a phase"; 02, R-2: "Whether a
+-- run omits is fixed at its fresh start and kept in its paused value"; R-12: "A paused run keeps its preference"),
+-- read from the two structs alike, and the value of a state of rules 1 to 5 on a table. Picks are given by number
+-- from 1, in 64 places padded with zeros, as the preference is; a state of the theory has them by row index from 0. A
+-- value is legal exactly when it is the paused value of a state that some number of moves reaches.
 use mathlib.Core.Bool.{Bool, false}
 use mathlib.Core.List.{List, map}
 use Prim.Native.Nat.{ℕ, suc}
@@ -46,7 +47,7 @@ paused t k omit s =
 abbrev pub noNumbers : List ℕ
 noNumbers = replicate 64 0
 
--- what stands beside a refusal
+-- what is given beside a refusal
 abbrev pub blankValue : Value
 blankValue = record { table = blankTable; order = noNumbers; picks = noNumbers; count = 0; phase = Down; omit = false }
 

@@ -1,5 +1,6 @@
--- A paused run of either side on plain numbers, with a mark that says of which (`sideOf`), and what is promised of it: how it reads, its fresh start, and the
--- answer of its call; and the checks of a value that must be in one phase (`ChecksAt`). What other crates do alike on both sides they say once, over these.
+-- A paused run of either side on plain numbers, with a mark that says of which (`sideOf`), and what is promised of
+-- it: how it reads, its fresh start, and the answer of its call; and the checks of a value that must be in one phase
+-- (`ChecksAt`). What other crates do alike on both sides they say once, over these.
 --
 -- Elsewhere: what a call answers, Calling.antt, for every side.
 use mathlib.Core.Path.{_≡_}
@@ -17,7 +18,7 @@ use Rattle.runs.specs.declared.side.SideRun.{SideRun}
 use Rattle.runs.specs.declared.side.SideStart.{SideStart}
 use Rattle.runs.specs.declared.side.SideStep.{SideStep}
 
--- the side that a mark stands for: true for the cases
+-- the side that a mark names: true for the cases
 abbrev pub sideOf : Bool → Table → Side
 sideOf false = gaugeSide
 sideOf true = caseSide
@@ -39,8 +40,8 @@ sideStep r = record {
 }
 
 -- ---- the checks of a value
--- n is the number with which the value v is refused where its phase must be f, or 0: 10 and 11 for the table, then 27 for the preference, then 15 for a value
--- that no number of moves leads to, and for another phase
+-- n is the number with which the value v is refused where its phase must be f, or 0: 10 and 11 for the table, then 27
+-- for the preference, then 15 for a value that no number of moves leads to, and for another phase
 pub record ChecksAt (side : Table → Side) (v : Value) (f : Phase) (n : ℕ) : Type 0 where
   pub table : 0 < valueRefusal side v → n ≡ valueRefusal side v
   pub value : valueRefusal side v ≡ 0 → ((p : List ℕ) → PausedAt side v (at p f) → ⊥) → n ≡ 15

@@ -1,6 +1,7 @@
-// The case run: its types, its fresh start and its call. gauges.rt is the same for gauges, line by line; where the two differ beside names, cases.rt turns
-// the rows of a ladder that is handed out. The fresh start of either side is in side.rt, the core's call on a side in sided.rt; the value is taken apart and
-// put together here, once for each side, since a run call over the one struct of both sides takes twice as long.
+// The case run: its types, its fresh start and its call. gauges.rt is the same for gauges, line by line; where the
+// two differ beside names, cases.rt turns the rows of a ladder that is handed out. The fresh start of either side is
+// in side.rt, the core's call on a side in sided.rt; the value is taken apart and put together here, once for each
+// side, since a run call over the one struct of both sides takes twice as long.
 use crate::Outcome;
 use crate::engine;
 use crate::engine::Mode;
@@ -39,11 +40,11 @@ pub enum CasePhase {
     Ended,
 }
 
-// The cases picked so far, by number, in the order of the picks; zeros behind them.
+// The cases picked so far, by number, in the order of the picks, padded with zeros.
 pub struct CasePicks(pub [u8; 64]);
 
-// A paused case run: its table, as it was given and not exchanged, its order of the cases, the picks and how many, the phase, and whether it
-// omits the ladders that hold no essential pair.
+// A paused case run: its table, as it was given and not exchanged, its order of the cases, the picks and how many,
+// the phase, and whether it omits the ladders that hold no essential pair.
 pub struct CaseRun {
     pub table: Table,
     pub order: CaseOrder,
@@ -53,8 +54,8 @@ pub struct CaseRun {
     pub omit: bool,
 }
 
-// The answer of a case run call: the moves made, the maximal chain where one is handed out, by gauge rows, its pick sequence, and the next
-// paused value.
+// The answer of a case run call: the moves made, the maximal chain where one is handed out, by gauge rows, its pick
+// sequence, and the next paused value.
 pub struct CaseStep {
     pub outcome: Outcome,
     pub moves: u64,
@@ -69,9 +70,9 @@ pub struct CaseStart {
     pub run: CaseRun,
 }
 
-// A fresh case run of `t` under an order of its cases: 10, 11 and 27 are refused. Every list of run calls from it keeps demand 3, and shares its
-// set with every run of the table; from one that omits, every list of run calls hands out a front of the ladders that hold an essential pair,
-// and all of them by its end.
+// A fresh case run of `t` under an order of its cases: 10, 11 and 27 are refused. Every list of run calls from it
+// keeps demand 3, and shares its set with every run of the table; from one that omits, every list of run calls hands
+// out a front of the ladders that hold an essential pair, and all of them by its end.
 pub fn start_cases(t: Table, order: CaseOrder, omit: bool) -> CaseStart
     ensures { λ r. ⌜ caseStart r ≡ answer (preferredRefusal t (t .cases) (order .0)) (paused t (order .0) omit fresh) blankValue ⌝ }
     ensures demand { λ r. ⌜ (omit ≡ false → KeepsDemand caseSide t (order .0) (caseValue (r .run))) ⌝ }
@@ -88,8 +89,8 @@ pub fn start_cases(t: Table, order: CaseOrder, omit: bool) -> CaseStart
     }
 }
 
-// A call of the case run with a budget of moves, on any paused value: 10, 11, 27, 15 and 18 are refused. Added to the calls that led to
-// the value, it keeps demand 3, or what is promised of a run that omits.
+// A call of the case run with a budget of moves, on any paused value: 10, 11, 27, 15 and 18 are refused. Added to the
+// calls that led to the value, it keeps demand 3, or what is promised of a run that omits.
 pub fn run_cases(p: CaseRun, budget: u64) -> CaseStep
     ensures { λ r. ⌜ Called caseSide (caseValue p) budget (caseStep r) ⌝ }
     ensures demand { λ r. ⌜ CarriesDemand caseSide (caseValue p) budget (caseStep r) ⌝ }

@@ -1,7 +1,8 @@
-// The core of both runs, on plain numbers: `rows` are the side's rows, of which the first `n` are the table's. A spot is a state of rules 1
-// to 5 with the set of the unpicked gauges; two arrays go along with it: the chain of the picks, which is also where the left cases are
-// found again when a pick is taken back, and the picks by number. A side's call is `call`; where it omits, `wanted` has the pairs of which a
-// chain must hold one to be handed over, by the side's rows, and else it is not looked at.
+// The core of both runs, on plain numbers: `rows` are the side's rows, of which the first `n` are the table's. A spot
+// is a state of rules 1 to 5 with the set of the unpicked gauges; two arrays go along with it: the chain of the
+// picks, which is also where the left cases are found again when a pick is taken back, and the picks by number. A
+// side's call is `call`; where it omits, `wanted` has the pairs of which a chain must hold one to be handed over, by
+// the side's rows, and else it is not looked at.
 use crate::Outcome;
 use crate::listing;
 use basics;
@@ -34,7 +35,7 @@ const PLACES: usize = Table::MOST_GAUGES as usize;
 // All 64 cases: the left cases before any pick.
 const ALL: u64 = 0xffff_ffff_ffff_ffff;
 
-// The phase of a spot; a pick that was taken back stands by its number.
+// The phase of a spot; a pick that was taken back is given by its number.
 pub enum Mode {
     Down,
     Handed,
@@ -57,15 +58,16 @@ pub enum Moved {
     Over(Spot),
 }
 
-// What a call comes to: its outcome, how many moves it made, and where the run is then.
+// What a call gives: its outcome, how many moves it made, and where the run is then.
 pub struct Report {
     pub outcome: Outcome,
     pub moves: u64,
     pub spot: Spot,
 }
 
-// A call on the value of the first `count` picks and a mode, with a budget: 15 and 18 as 01 has them, else up to `budget` moves. `chain`
-// comes empty, and has the chain of the picks after the moves; `picks` are then those of the next value.
+// A call on the value of the first `count` picks and a mode, with a budget: 15 and 18 as 01 has them, else up to
+// `budget` moves. `chain` comes empty, and has the chain of the picks after the moves; `picks` are then those of the
+// next value.
 pub fn call(
     rows: &[u64; 64],
     n: usize,
@@ -115,7 +117,8 @@ pub fn call(
     }
 }
 
-// The checks of such a call alone: 15 and 18, or no move, and where the run is. `chain` comes empty, and has then the chain of the picks.
+// The checks of such a call alone: 15 and 18, or no move, and where the run is. `chain` comes empty, and has then the
+// chain of the picks.
 pub fn open(
     rows: &[u64; 64],
     n: usize,
@@ -233,7 +236,8 @@ fn lay(rows: &[u64; 64], n: usize, chain: &mut [u64; 64], picks: &[u8; 64], coun
     }
 }
 
-// Up to `budget` moves: it stops after the first hand-out or end. A chain that is omitted does not stop it; its move counts.
+// Up to `budget` moves: it stops after the first hand-out or end. A chain that is omitted does not stop it; its move
+// counts.
 pub fn advance(
     rows: &[u64; 64],
     n: usize,

@@ -1,6 +1,7 @@
-// The gauge run: its types, its fresh start and its call. cases.rt is the same for cases, line by line; where the two differ beside names, cases.rt turns
-// the rows of a ladder that is handed out. The fresh start of either side is in side.rt, the core's call on a side in sided.rt; the value is taken apart and
-// put together here, once for each side, since a run call over the one struct of both sides takes twice as long.
+// The gauge run: its types, its fresh start and its call. cases.rt is the same for cases, line by line; where the two
+// differ beside names, cases.rt turns the rows of a ladder that is handed out. The fresh start of either side is in
+// side.rt, the core's call on a side in sided.rt; the value is taken apart and put together here, once for each side,
+// since a run call over the one struct of both sides takes twice as long.
 use crate::Outcome;
 use crate::engine;
 use crate::engine::Mode;
@@ -36,11 +37,11 @@ pub enum Phase {
     Ended,
 }
 
-// The gauges picked so far, by number, in the order of the picks; zeros behind them.
+// The gauges picked so far, by number, in the order of the picks, padded with zeros.
 pub struct GaugePicks(pub [u8; 64]);
 
-// A paused gauge run: its table, its order of the gauges, the picks and how many, the phase, and whether it omits the ladders that hold no
-// essential pair.
+// A paused gauge run: its table, its order of the gauges, the picks and how many, the phase, and whether it omits the
+// ladders that hold no essential pair.
 pub struct GaugeRun {
     pub table: Table,
     pub order: GaugeOrder,
@@ -50,8 +51,8 @@ pub struct GaugeRun {
     pub omit: bool,
 }
 
-// The answer of a gauge run call: the moves made, the maximal chain where one is handed out, by gauge rows, its pick sequence, and the next
-// paused value.
+// The answer of a gauge run call: the moves made, the maximal chain where one is handed out, by gauge rows, its pick
+// sequence, and the next paused value.
 pub struct GaugeStep {
     pub outcome: Outcome,
     pub moves: u64,
@@ -66,9 +67,9 @@ pub struct GaugeStart {
     pub run: GaugeRun,
 }
 
-// A fresh gauge run of `t` under an order of its gauges: 10, 11 and 27 are refused. Every list of run calls from it keeps demand 3, and shares its
-// set with every run of the table; from one that omits, every list of run calls hands out a front of the ladders that hold an essential pair,
-// and all of them by its end.
+// A fresh gauge run of `t` under an order of its gauges: 10, 11 and 27 are refused. Every list of run calls from it
+// keeps demand 3, and shares its set with every run of the table; from one that omits, every list of run calls hands
+// out a front of the ladders that hold an essential pair, and all of them by its end.
 pub fn start_gauges(t: Table, order: GaugeOrder, omit: bool) -> GaugeStart
     ensures { λ r. ⌜ gaugeStart r ≡ answer (preferredRefusal t (t .gauges) (order .0)) (paused t (order .0) omit fresh) blankValue ⌝ }
     ensures demand { λ r. ⌜ (omit ≡ false → KeepsDemand gaugeSide t (order .0) (gaugeValue (r .run))) ⌝ }
@@ -85,8 +86,8 @@ pub fn start_gauges(t: Table, order: GaugeOrder, omit: bool) -> GaugeStart
     }
 }
 
-// A call of the gauge run with a budget of moves, on any paused value: 10, 11, 27, 15 and 18 are refused. Added to the calls that led to
-// the value, it keeps demand 3, or what is promised of a run that omits.
+// A call of the gauge run with a budget of moves, on any paused value: 10, 11, 27, 15 and 18 are refused. Added to
+// the calls that led to the value, it keeps demand 3, or what is promised of a run that omits.
 pub fn run_gauges(p: GaugeRun, budget: u64) -> GaugeStep
     ensures { λ r. ⌜ Called gaugeSide (gaugeValue p) budget (gaugeStep r) ⌝ }
     ensures demand { λ r. ⌜ CarriesDemand gaugeSide (gaugeValue p) budget (gaugeStep r) ⌝ }

@@ -1,5 +1,6 @@
-// Many ladders in one call: a batch. The value is checked once, and the core goes on from a held spot, call after call, each with the moves that are
-// left; each ladder handed out is written by gauge rows behind the ones before it. Below both sides, as the core is.
+// Many ladders in one call: a batch. The value is checked once, and the core goes on from a held spot, call after
+// call, each with the moves that are left; each ladder handed out is written by gauge rows behind the ones before it.
+// Below both sides, as the core is.
 use crate::Outcome;
 use crate::engine;
 use crate::engine::Mode;
@@ -20,7 +21,8 @@ ghost use Rattle.runs.specs.Paused.{modePhase};
 ghost use Rattle.runs.specs.private.Working.{Sized, Holds, FitsOn, stateOf, moveBy, placedMove};
 ghost use Rattle.runs.specs.private.Listing.{refusedTally, ladderFor, Puts, Hands, wordsOf, Lists, ListsBy, ListsIn};
 
-// What a batch comes to: how it stopped, how many ladders it handed out, how many moves it made, and where the run is then.
+// What a batch gives: how it stopped, how many ladders it handed out, how many moves it made, and where the run is
+// then.
 pub struct Tally {
     pub outcome: Outcome,
     pub ladders: u64,
@@ -210,9 +212,10 @@ fn list(
     )
 }
 
-// Calls from a held spot, each with the moves that are left, until so many ladders are handed out or a call hands none out. A batch writes each ladder
-// behind the ones before it; a run call is for one, and it is not written. One loop for both: the compiler puts the moves into it where it is their
-// only caller, and a ladder of a batch takes a third less time so.
+// Calls from a held spot, each with the moves that are left, until so many ladders are handed out or a call hands
+// none out. A batch writes each ladder behind the ones before it; a run call is for one, and it is not written. One
+// loop for both: the compiler puts the moves into it where it is their only caller, and a ladder of a batch takes a
+// third less time so.
 pub fn list_on(
     rows: &[u64; 64],
     n: usize,

@@ -1,6 +1,7 @@
-// The core under a preference (02, R-12): a call that goes by place in an order of the side's numbers, of any order that is handed in. The order 1, 2, 3
-// and on goes straight to the core. For another one the rows are gathered as it has them and the picks turned into places, so that on these the
-// core's order by number is the order by place; then the picks and the chain go back by number. Below both sides, as the core is.
+// The core under a preference (02, R-12): a call that goes by place in an order of the side's numbers, of any order
+// that is handed in. The plain order 1, 2, 3, .. goes straight to the core. For another one the rows are gathered as
+// it has them and the picks turned into places, so that on these the core's order by number is the order by place;
+// then the picks and the chain go back by number. Below both sides, as the core is.
 use crate::engine;
 use crate::engine::Mode;
 use crate::engine::Report;
@@ -16,8 +17,9 @@ ghost use Rattle.preference.specs.Placing.{inverse, gathered, renumber};
 ghost use Rattle.runs.specs.Paused.{modePhase};
 ghost use Rattle.runs.specs.private.Working.{Sized, placedMove, InOrder, moveBy, CarriesOn, renumberedPhase};
 
-// A call on the value of the first `count` picks and a mode, under the order of the `n` rows: 27, 15 and 18 as 02 and 01 have them, else up to
-// `budget` moves. `chain` comes empty, and has the chain of the picks after the moves; `picks` are then those of the next value.
+// A call on the value of the first `count` picks and a mode, under the order of the `n` rows: 27, 15 and 18 as 02 and
+// 01 have them, else up to `budget` moves. `chain` comes empty, and has the chain of the picks after the moves;
+// `picks` are then those of the next value.
 pub fn call(
     rows: &[u64; 64],
     n: usize,
@@ -65,8 +67,9 @@ pub fn call(
     )
 }
 
-// The same for any order, placed first. It is called at two places so that it stays a function of its own: then `call` is small, becomes part of
-// both sides' calls, and the order 1, 2, 3 and on costs no call on the way to the core.
+// The same for any order, placed first. It is called at two places so that it stays a function of its own: then
+// `call` is small, becomes part of both sides' calls, and the plain order 1, 2, 3, .. costs no call on the way to the
+// core.
 fn by_order(
     rows: &[u64; 64],
     n: usize,

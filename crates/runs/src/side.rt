@@ -1,6 +1,7 @@
-// A paused run of either side on plain numbers, with a mark that says of which: what is done alike on both sides is written and proved once, over `SideRun`.
-// The types of the sides, which keep a case from standing where a gauge belongs, are taken off and put on here. The fresh start is here, of either side;
-// `run_side` calls the side's own run call, which has its value by its types.
+// A paused run of either side on plain numbers, with a mark that says of which: what is done alike on both sides is
+// written and proved once, over `SideRun`. The types of the sides, which keep a case from being where a gauge
+// belongs, are taken off and put on here. The fresh start is here, of either side; `run_side` calls the side's own
+// run call, which has its value by its types.
 use crate::Outcome;
 use crate::cases;
 use crate::cases::CasePicks;
@@ -58,8 +59,8 @@ pub struct SideStart {
     pub run: SideRun,
 }
 
-// A fresh run of the side of `t` that the mark names, under an order of that side's numbers: 10, 11 and 27 are refused. `start_gauges` and `start_cases` are
-// this, by the types of a side, with the same promises.
+// A fresh run of the side of `t` that the mark names, under an order of that side's numbers: 10, 11 and 27 are
+// refused. `start_gauges` and `start_cases` are this, by the types of a side, with the same promises.
 pub fn start_side(cases: bool, t: Table, order: [u8; 64], omit: bool) -> SideStart
     ensures { λ r. ⌜ sideStart r ≡ answer (preferredRefusal t (sideOf cases t .count) order) (paused t order omit fresh) blankValue ⌝ }
     ensures demand { λ r. ⌜ (omit ≡ false → KeepsDemand (sideOf cases) t order (sideValue (r .run))) ⌝ }
@@ -137,7 +138,8 @@ pub fn check_handed(p: SideRun) -> Verdict
     check_phase(p, is_handed(mode))
 }
 
-// A run call without a budget makes no move: it refuses the values that 10, 11, 27 and 15 refuse, and no other. Then 15 where the phase does not fit.
+// A run call without a budget makes no move: it refuses the values that 10, 11, 27 and 15 refuse, and no other. Then
+// 15 where the phase does not fit.
 fn check_phase(p: SideRun, fits: bool) -> Verdict
     ensures { λ r. ⌜ ChecksPhase (sideOf (p .cases)) (sideValue p) fits (verdict r) ⌝ }
 {

@@ -1,6 +1,7 @@
-// The core's calls on a side of a table, written once for both sides: the case run has the table's rows turned, and a run that omits its essential pairs, by
-// the rows of its side. What a call comes to by the types of a side is in gauges.rt and cases.rt, and a batch in batches.rt; below are ordered.rt, the core's
-// call under an order, and listing.rt, its batch.
+// The core's calls on a side of a table, written once for both sides: the case run has the table's rows turned, and a
+// run that omits its essential pairs, by the rows of its side. What a call gives by the types of a side is in
+// gauges.rt and cases.rt, and a batch in batches.rt; below are ordered.rt, the core's call under an order, and
+// listing.rt, its batch.
 use crate::engine::Mode;
 use crate::engine::Report;
 use crate::listing;
@@ -27,10 +28,11 @@ pub struct Shape {
     pub omit: bool,
 }
 
-// A run call on the side that the mark names, of the table with these rows. `chain` comes empty, and has the chain of the picks after the moves, by the rows
-// of the side; `picks` are then those of the next value. The essential pairs are looked for only where the run omits; else the core looks at none, and gets
-// any rows. That is a function of its own for both sides: then this one is small, becomes part of both sides' calls, and a run that omits nothing
-// copies no row.
+// A run call on the side that the mark names, of the table with these rows. `chain` comes empty, and has the chain of
+// the picks after the moves, by the rows of the side; `picks` are then those of the next value. The essential pairs
+// are looked for only where the run omits; else the core looks at none, and gets any rows. That is a function of its
+// own for both sides: then this one is small, becomes part of both sides' calls, and a run that omits nothing copies
+// no row.
 pub fn call(
     mark: bool,
     shape: Shape,

@@ -1,4 +1,5 @@
--- The loop over the gauges, turn by turn: the rows so far and those still to be made are all rows, with zeros behind (`MakingRows`).
+-- The loop over the gauges, turn by turn: the rows so far and those still to be made are all rows, padded with zeros
+-- (`MakingRows`).
 use mathlib.Core.Path.{_≡_, refl, sym, ap, _∙_}
 use mathlib.Core.List.{List, [], _∷_, _++_, append-nil, append-assoc}
 use Prim.Native.Nat.{ℕ, zero, suc, _+_, _-_, _≤_, _<_}

@@ -1,5 +1,6 @@
--- What the rows of the unpicked gauges and the left cases say of a table and picks (`After`), how one pick more changes them, and that the
--- candidates among them are 01's: the lowest that a search finds is the head of the table's candidates.
+-- What the rows of the unpicked gauges and the left cases say of a table and picks (`After`), how one pick more
+-- changes them, and that the candidates among them are 01's: the lowest that a search finds is the head of the
+-- table's candidates.
 use mathlib.Core.Path.{_≡_, refl, sym, ap, ap₂, _∙_, subst, fun-ext}
 use mathlib.Core.Bool.{Bool, true, false, not, _&&_, _||_, cond}
 use mathlib.Core.Option.{some}
@@ -171,7 +172,7 @@ module _ (r p unpicked : List ℕ) (left : ℕ) (ok : Rows r) (o : After r p unp
           ∙ sym (ap (λ (b : Bool). b && (not (isIn g p) && (not (eqb (remainder r p g) 0) && allBelow (λ h. not (rulesOut r p g h)) n)))
           (le-ltb g n (omega arith)))
 
-  -- the same where all 64 places are looked at: nothing stands past the table's
+  -- the same where all 64 places are looked at: nothing is past the table's
   pub candidate-wide : (g : ℕ) → candidateIn unpicked left 64 g ≡ candidate r p g
   candidate-wide g = candidate-more unpicked left (length r) g (ok .few) past ∙ candidate-in g
     where

@@ -99,7 +99,7 @@ lowest-unique f from n r q a b = go (decLt r q) (decLt q r)
     go (no l) (yes m) = absurd (short q r b a m)
     go (no l) (no m) = omega arith
 
--- places past the first n at which nothing stands change nothing
+-- places past the first n, where nothing is, change nothing
 pub candidate-more : (unpicked : List ℕ) (left n g : ℕ) → n ≤ 64 → ((i : ℕ) → n ≤ i → row unpicked i ≡ 0)
     → candidateIn unpicked left 64 g ≡ candidateIn unpicked left n g
 unfolding meet

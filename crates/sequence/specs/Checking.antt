@@ -1,5 +1,5 @@
--- What one who has a list of ladders to check needs beside crate `lists`: that one list stands in another, in its order, and that
--- each of its sets was compared with the next.
+-- What one who has a list of ladders to check needs beside crate `lists`: that one list is in another, in its order,
+-- and that each of its sets was compared with the next.
 --
 -- Elsewhere: what such a reader finds, `checked-part`, `checked-whole` and `checked-pairwise` in proofs/Complete.antt.
 use mathlib.Core.Path.{_≡_}

@@ -1,5 +1,5 @@
--- A set changed at one place: without it, with it, and the places from one on, as the code computes them; then that each leaves one answer, and what a reader
--- finds in them beyond that (`added-places`, `rest-falls`).
+-- A set changed at one place: without it, with it, and the places from one on, as the code computes them; then that
+-- each leaves one answer, and what a reader finds in them beyond that (`added-places`, `rest-falls`).
 --
 -- Pins, which nothing else cites: `rest-unique`, `without-unique`, `upper-unique`.
 use mathlib.Core.Path.{_≡_, refl, sym, ap, ap₂, _∙_}
@@ -220,6 +220,6 @@ added-places a k r h = (
     or-false true = refl
     or-false false = refl
 
--- the lowest places of a set, taken one after the other, come to an end: what is left is a smaller number each time
+-- the lowest places of a set, taken one after the other, reach an end: what is left is a smaller number each time
 pub rest-falls : (a r : ℕ) → Rest a r → ¬ (a ≡ 0) → r < a
 rest-falls a r h n = h .fewer n

@@ -1,5 +1,5 @@
-// Sets of cases as 64-bit numbers: inclusion, membership, the lowest n cases, the lowest place, a set changed at one place.
-// Every function takes any numbers and refuses nothing; the laws that the other crates rest on are in proofs/.
+// Sets of cases as 64-bit numbers: inclusion, membership, the lowest n cases, the lowest place, a set changed at one
+// place. Every function takes any numbers and refuses nothing; the laws that the other crates rest on are in proofs/.
 ghost use mathlib.Core.Path.{_≡_};
 ghost use lib.Count.{ones};
 ghost use Rattle.sets.specs.First.{First, Rest, Without, With, Upper};
@@ -28,7 +28,8 @@ pub fn has(a: u64, k: u64) -> bool
     (a >> k) % 2 == 1
 }
 
-// The set of the lowest `n` cases; all 64 where `n` is larger. A number has no bit 64 to shift to, so all cases stand apart.
+// The set of the lowest `n` cases; all 64 where `n` is larger. A number has no bit 64 to shift to, so `n` = 64 is
+// looked at by itself.
 pub fn lowest(n: u64) -> u64
     ensures { λ r. ⌜ r ≡ lowestCases n ⌝ }
 {

@@ -1,10 +1,12 @@
--- What a reader finds in the promises about parts, sentence by sentence. Of a part (`Divides`): it is a part by itself (`part-itself`); the parts of its
--- candidates may stand in its place, and their lists, one after the other, are then still the list (`part-replaced`, `candidates-join`); what the runs of
--- parts of the whole list hand over, one after the other, is what a run of the whole list does (`whole-joins`). Of the run calls from a part (`PartRun`): what
--- they hand out of it is a front of its list, and all of it once it is closed (`part-handed`, `closed-handed`); a call that is spent where the run's picks
--- have left the part's closes it (`left-closes`), and nothing of the part comes later (`nothing-later`); until then every ladder is of the part
--- (`inside-handed`). Of any choice of parts in place of a part, each run to its close (`WholeRun`): what they hand out, one after the other, is what a run
--- hands over of the part's list (`whole-handed`), which from a fresh start is the whole list (`whole-list`, `fresh-whole`).
+-- What a reader finds in the promises about parts, sentence by sentence. Of a part (`Divides`): it is a part by
+-- itself (`part-itself`); the parts of its candidates may take its place, and their lists, one after the other, are
+-- then still the list (`part-replaced`, `candidates-join`); what the runs of parts of the whole list hand over, one
+-- after the other, is what a run of the whole list does (`whole-joins`). Of the run calls from a part (`PartRun`):
+-- what they hand out of it is a front of its list, and all of it once it is closed (`part-handed`, `closed-handed`);
+-- a call that is spent where the run's picks have left the part's closes it (`left-closes`), and nothing of the part
+-- comes later (`nothing-later`); until then every ladder is of the part (`inside-handed`). Of any choice of parts in
+-- place of a part, each run to its close (`WholeRun`): what they hand out, one after the other, is what a run hands
+-- over of the part's list (`whole-handed`), which from a fresh start is the whole list (`whole-list`, `fresh-whole`).
 use mathlib.Core.Path.{_≡_, refl, sym, ap, _∙_}
 use mathlib.Core.Bool.{Bool, true, false, _||_}
 use mathlib.Core.List.{List, [], _∷_, _++_, map}
@@ -40,7 +42,8 @@ pub part-replaced : (t : Table) (s : Side) (o p : List ℕ) → Divides t s o p 
     → Splits t s o q (b ++ (p ∷ c)) → PartLists t s o (b ++ (splitAt s o p ++ c)) xss → PartList t s o q (joined xss)
 part-replaced t s o p d q b c xss h l = d .joins q (b ++ (splitAt s o p ++ c)) xss (d .more q b c h) l
 
--- of parts that split the empty sequence: their lists are, one after the other, the side's list, and what is handed over of them that of a run
+-- of parts that split the empty sequence: their lists are, one after the other, the side's list, and what is handed
+-- over of them that of a run
 pub whole-joins : (t : Table) (s : Side) (o p : List ℕ) → Divides t s o p → (ps : List (List ℕ)) (xss : List (List (List ℕ))) → Splits t s o [] ps
     → PartLists t s o ps xss → (xs : List (List ℕ)) → PreferredList t s o xs
     → (joined xss ≡ xs) × ((omit : Bool) → joined (map (handedOver t omit) xss) ≡ handedOver t omit xs)

@@ -1,13 +1,15 @@
--- The whole claim about parts, said once: a list is split into parts, some of these into parts again, as often as one likes; each part that is left is run
--- until it closes; and what the runs hand out of their parts, one after the other, is the list. It is said of the entries' own answers: the candidates that
--- they name, the values that they make, the answers of the run calls from these. It holds of any part, with the part's own list; from a fresh start's value
--- that is the whole list; and of runs that omit (02, R-2) it is what such a run hands over of the list.
+-- The whole claim about parts, said once: a list is split into parts, some of these into parts again, as often as one
+-- likes; each part that is left is run until it closes; and what the runs hand out of their parts, one after the
+-- other, is the list. It is said of the entries' own answers: the candidates that they name, the values that they
+-- make, the answers of the run calls from these. It holds of any part, with the part's own list; from a fresh start's
+-- value that is the whole list; and of runs that omit (02, R-2) it is what such a run hands over of the list.
 --
--- In order: parts in place of a part (`Choice`); their runs, each to its close (`EachClosed`), and what they hand out (`setsOfAll`); what is promised
--- (`WholeRun`, `ListsWhole`).
+-- In order: parts in place of a part (`Choice`); their runs, each to its close (`EachClosed`), and what they hand out
+-- (`setsOfAll`); what is promised (`WholeRun`, `ListsWhole`).
 --
--- Elsewhere: the entries, Entries.antt; the calls that list one part, and when it is closed, Listing.antt; that a part with a candidate can be split, that
--- every choice can be run to its close, and that all choices hand out the same, proofs/Choices.antt; the same in words, c_parts/specs/Serving.
+-- Elsewhere: the entries, Entries.antt; the calls that list one part, and when it is closed, Listing.antt; that a
+-- part with a candidate can be split, that every choice can be run to its close, and that all choices hand out the
+-- same, proofs/Choices.antt; the same in words, c_parts/specs/Serving.
 use mathlib.Core.Path.{_≡_}
 use mathlib.Core.Bool.{true}
 use mathlib.Core.Logic.{_≢_}
@@ -44,7 +46,8 @@ pub record SplitInto (side : Table → Side) (w : Value) (ws : List Value) : Typ
   pub parts : PartsOf side w (numbersIn picks) ws
   pub some : ws ≢ []
 
--- vs is a choice of parts that stand for the part v: v alone, or one in which some part w has given its place to the parts of its candidates
+-- vs is a choice of parts that make up the part v: v alone, or one in which some part w has given its place to the
+-- parts of its candidates
 pub data Choice (side : Table → Side) (v : Value) : List Value → Type 0 where
   itself : Choice side v (v ∷ [])
   replaced : (b c ws : List Value) (w : Value) → Choice side v (b ++ (w ∷ c)) → SplitInto side w ws → Choice side v (b ++ (ws ++ c))
@@ -70,14 +73,15 @@ setsOfAll (w ∷ vs) [] = []
 setsOfAll (w ∷ vs) (rs ∷ rss) = partSets w rs ++ setsOfAll vs rss
 
 -- ---- what is promised
--- of the part v, with the picks p: what they hand out is what a run hands over of its list; a part with no picks is the whole list
+-- of the part v, with the picks p: what they hand out is what a run hands over of its list; a part with no picks is
+-- the whole list
 pub record WholeRun (side : Table → Side) (v : Value) (p : List ℕ) (vs : List Value) (rss : List (List Step)) : Type 0 where
   pub list : List (List ℕ)
   pub listed : PartList (v .table) (side (v .table)) (held side v) p list
   pub whole : p ≡ [] → PreferredList (v .table) (side (v .table)) (held side v) list
   pub handed : setsOfAll vs rss ≡ handedOver (v .table) (v .omit) list
 
--- every choice of parts that stand for v, each run to its close
+-- every choice of parts that make up v, each run to its close
 abbrev pub ListsWhole : (Table → Side) → Value → Type 0
 ListsWhole side v =
     valueRefusal side v ≡ 0 → (p : List ℕ) → PausedAt side v (at p Down)

@@ -1,5 +1,6 @@
-// Parts of a run's list, of either side, on plain numbers: the work of gauges.rt and cases.rt, written and proved once. Each step is over checks of crate
-// `runs`, which make no move: whether a number can be picked next is whether they let the value with that pick pass.
+// Parts of a run's list, of either side, on plain numbers: the work of gauges.rt and cases.rt, written and proved
+// once. Each step is over checks of crate `runs`, which make no move: whether a number can be picked next is whether
+// they let the value with that pick pass.
 use refusals::Refusal;
 use refusals::Verdict;
 use runs;
@@ -20,7 +21,7 @@ const PLACES: u64 = Table::MOST_GAUGES;
 
 const ROOM: usize = Table::MOST_GAUGES as usize;
 
-// The numbers that can be picked next, in the order of the value's preference, zeros behind them; or a refusal.
+// The numbers that can be picked next, in the order of the value's preference, padded with zeros; or a refusal.
 pub struct SideCandidates {
     pub verdict: Verdict,
     pub picks: [u8; 64],

@@ -1,4 +1,5 @@
--- A set of pairs in its 64 rows: a list with zeros behind it has the list's entries, and zeros past them, and changes as the list does.
+-- A set of pairs in its 64 rows: a list padded with zeros has the list's entries, and zeros past them, and changes as
+-- the list does.
 use mathlib.Core.Path.{_≡_, sym, ap, _∙_}
 use mathlib.Core.List.{List, _++_}
 use Prim.Native.Nat.{ℕ, _+_, _-_, _≤_, _<_}
@@ -11,7 +12,7 @@ use Rattle.table.specs.Tables.{padded}
 pub pad-length : (xs : List ℕ) → length xs ≤ 64 → length (padded xs) ≡ 64
 pad-length xs h = omega (arith, length-append xs (replicate (64 - length xs) 0), length-replicate {A = ℕ} (64 - length xs) 0)
 
--- the zeros behind are what stands past the end
+-- the zeros after it are what is past the end
 pub pad-getD : (xs : List ℕ) (i : ℕ) → getD (padded xs) i 0 ≡ getD xs i 0
 pad-getD xs i = go (decLt i (length xs))
   where

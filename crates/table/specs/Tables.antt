@@ -1,5 +1,6 @@
--- Legal tables and the checks of a table and of a chain handed in (01, "A table has G gauges and L load cases .." and the refusals
--- 10 to 13). The tests are written out in 01's order; that they decide `Legal` and `Within` is proved in proofs/Legality.antt.
+-- Legal tables and the checks of a table and of a chain handed in (01, "A table has G gauges and L load cases .." and
+-- the refusals 10 to 13). The tests are written out in 01's order; that they decide `Legal` and `Within` is proved in
+-- proofs/Legality.antt.
 use mathlib.Core.Path.{_≡_}
 use mathlib.Core.Bool.{Bool, true, _&&_, cond}
 use mathlib.Core.List.{List, [], _∷_, _++_}
@@ -40,7 +41,8 @@ rowsFit g l [] = true
 rowsFit zero l (r ∷ rows) = eqb r 0 && rowsFit zero l rows
 rowsFit (suc g) l (r ∷ rows) = ltb r (2 ^ l) && rowsFit g l rows
 
--- 01's number for a table handed in, or 0: "10 G or L not in 1..64; then 11 a bit at L or above, or a row past G not zero"
+-- 01's number for a table handed in, or 0: "10 G or L not in 1..64; then 11 a bit at L or above, or a row past G not
+-- zero"
 unfoldable pub tableRefusal : Table → ℕ
 tableRefusal t =
     cond (inRange 64 (t .gauges) && inRange 64 (t .cases))
@@ -68,7 +70,7 @@ noRows = replicate 64 0
 abbrev pub padded : List ℕ → List ℕ
 padded x = x ++ replicate (64 - length x) 0
 
--- what stands beside a refusal
+-- what is given beside a refusal
 abbrev pub blankChain : Chain
 blankChain = record { gauges = 0; rows = noRows }
 

@@ -1,4 +1,4 @@
--- The union of rows that stand next to each other: the cases that any of them has. Rows count from 0.
+-- The union of rows that are next to each other: the cases that any of them has. Rows count from 0.
 use mathlib.Core.List.{List}
 use Prim.Native.Nat.{ℕ, zero, suc, _+_, _-_, min}
 use Rattle.sets.specs.Sets.{join}

@@ -7,7 +7,7 @@ pub const FILL: u8 = b'#';
 // One byte more than the longest file.
 pub const ROOM: usize = 65537;
 
-// What `\c` stands for: a line of 1,024 bytes and its LF.
+// What `\c` means: a line of 1,024 bytes and its LF.
 const COMMENT: u64 = 256;
 
 const COMMENT_LINE: u64 = 1025;

@@ -8,7 +8,7 @@ const OUT: i32 = 1;
 // A table with more pairs is shown by its shape and their number.
 const MOST_SHOWN: u64 = 8;
 
-// Writes bytes as they stand.
+// Writes bytes as they are.
 pub fn text(bytes: &[u8]) {
     io::write_all(OUT, bytes);
 }

@@ -1,5 +1,5 @@
-// The parts of the script on standard input: bytes, parts, numbers, and the fields of a case's line. Every place may be asked for: past the
-// end there is a zero byte, an empty number and no field.
+// The parts of the script on standard input: bytes, parts, numbers, and the fields of a case's line. Every place may
+// be asked for: past the end there is a zero byte, an empty number and no field.
 
 // Between the fields of a line.
 const BAR: u8 = b'|';
@@ -17,7 +17,7 @@ pub fn after(at: usize) -> usize {
     std::num::wrapping_add_usize(at, 1)
 }
 
-// Where a byte stands first from a place on; the end where it does not.
+// Where a byte is first, from a place onward; the end where it is not.
 pub fn find(s: &[u8], from: usize, wanted: u8) -> usize {
     let mut i = from;
     while i < s.len() {
@@ -82,7 +82,7 @@ pub fn label(line: &[u8]) -> &[u8] {
     part(line, from, find(line, from, BAR))
 }
 
-// What stands behind the second field.
+// What comes after the second field.
 pub fn content(line: &[u8]) -> &[u8] {
     let from = after(find(line, 0, BAR));
     part(line, after(find(line, from, BAR)), line.len())

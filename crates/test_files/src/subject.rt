@@ -1,5 +1,6 @@
-// The library under test, with plain numbers in place of its enums: a refusal is its number in 01, as `refusals::refusal_number` gives it,
-// and no refusal is 0. Nothing else here names a type of the library but `Table`.
+// The library under test, with plain numbers in place of its enums: a refusal is its number in 01, as
+// `refusals::refusal_number` gives it, and no refusal is 0. Nothing else here names a type of the library but
+// `Table`.
 use file_reader::Found;
 use refusals::Refusal;
 use refusals::Verdict;
@@ -32,7 +33,7 @@ fn number(why: Refusal) -> u64 {
     refusals::refusal_number(why)
 }
 
-// Where a comment stands, or the number of a refusal.
+// Where a comment is, or the number of a refusal.
 pub struct Place {
     pub refused: u64,
     pub start: usize,

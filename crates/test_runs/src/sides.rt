@@ -1,4 +1,4 @@
-// The library under test: the one file that names the types of its runs. Both sides stand under one form.
+// The library under test: the one file that names the types of its runs. Both sides have one form.
 use super::plain;
 use preference::CaseOrder;
 use preference::GaugeOrder;
@@ -8,7 +8,7 @@ use runs::Outcome;
 use table::Chain;
 use table::Table;
 
-// What a call came to; a refusal is its number in 01.
+// What a call gave; a refusal is its number in 01.
 pub const HANDED_OUT: u64 = 101;
 
 pub const SPENT: u64 = 102;

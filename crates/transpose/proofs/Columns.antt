@@ -1,4 +1,5 @@
--- A column gathered from the last row to the first, and the columns put in their places: what each turn and each answer says.
+-- A column gathered from the last row to the first, and the columns put in their places: what each turn and each
+-- answer says.
 use mathlib.Core.Path.{_≡_, refl, sym, ap, _∙_, subst}
 use mathlib.Core.List.{List, _++_}
 use Prim.Native.Nat.{ℕ, zero, suc, _+_, _*_, _-_, _/_, _%_, _^_, _≤_, _<_, min}
@@ -36,7 +37,7 @@ places-most : (n m : ℕ) (rows : List ℕ) → m ≡ min n 64 → places m rows
 unfolding places
 places-most n m rows e = let d : min m 64 ≡ min n 64 = omega arith in ap (tabulate (row rows)) d
 
--- the rows of a set with zeros behind them
+-- the rows of a set padded with zeros
 pub places-padded : (n : ℕ) (x : List ℕ) → n ≤ 64 → length x ≡ n → places n (padded x) ≡ x
 places-padded n x l e = ext-getD 0 (places n (padded x)) x (length-places n (padded x) ∙ omega arith) (λ i h.
     row-places n (padded x) i (omega (arith, length-places n (padded x))) ∙ pad-getD x i)
@@ -185,7 +186,7 @@ module _ (xs before : List ℕ) (at : ℕ) where
   pub putting-all : (k w : ℕ) (now : List ℕ) → k ≤ w → w ≤ k → Putting xs before at k now → Putting xs before at w now
   putting-all k w now h l p = let e : k ≡ w = omega arith in subst (λ (m : ℕ). Putting xs before at m now) e p
 
--- put into an array without rows, they have zeros behind them
+-- put into an array without rows, they are padded with zeros
 array-is : (w : ℕ) (xs : List ℕ) → w ≤ 64 → stored noRows 0 (transpose w xs) ≡ padded (transpose w xs)
 array-is w xs h =
     sets-eq (transpose w xs) noRows 0 (omega (arith, length-transpose w xs, length-replicate {A = ℕ} 64 0))

@@ -1,5 +1,6 @@
-// A set of pairs with gauges and cases exchanged (01: "the table with gauges and cases exchanged"), as many rows and columns of it as are
-// asked for, as an array or straight into a buffer. Any numbers are taken, and nothing is refused.
+// A set of pairs with gauges and cases exchanged (01: "the table with gauges and cases exchanged"), as many rows and
+// columns of it as are asked for, as an array or straight into a buffer. Any numbers are taken, and nothing is
+// refused.
 use table;
 ghost use mathlib.Core.Path.{_≡_};
 ghost use Prim.Native.Nat.{_+_, _≤_, _<_, min};
@@ -19,7 +20,7 @@ struct Four {
     pub d: u64,
 }
 
-// The first `width` columns of the first `many` rows, at most 64 of each; zeros behind them.
+// The first `width` columns of the first `many` rows, at most 64 of each, padded with zeros.
 pub fn transposed(rows: &[u64; 64], many: usize, width: usize) -> [u64; 64]
     ensures { λ r. ⌜ r ≡ padded (transpose (min width 64) (places many (now (rows .entry)))) ⌝ }
 {
@@ -30,7 +31,8 @@ pub fn transposed(rows: &[u64; 64], many: usize, width: usize) -> [u64; 64]
     columns
 }
 
-// The same columns, straight into a buffer from place `at` on: no array is cleared and copied. Where the buffer has no room for them, nothing changes.
+// The same columns, straight into a buffer from place `at` on: no array is cleared and copied. Where the buffer has
+// no room for them, nothing changes.
 pub fn transpose_into(rows: &[u64; 64], many: usize, width: usize, out: &mut [u64], at: usize)
     ensures { λ r. ⌜ PutsIn (transpose (min width 64) (places many (now (rows .entry)))) (now (out .entry)) at (now (out .exit)) ⌝ }
 {
@@ -44,7 +46,8 @@ pub fn transpose_into(rows: &[u64; 64], many: usize, width: usize, out: &mut [u6
     put_columns(rows, table::at_most_rows(many), last, out, at);
 }
 
-// Puts the first `width` columns of the first `many` rows from a place on. They are gathered by fours while there are as many, which halves the time.
+// Puts the first `width` columns of the first `many` rows from a place on. They are gathered by fours while there are
+// as many, which halves the time.
 fn put_columns(rows: &[u64; 64], many: usize, width: usize, out: &mut [u64], at: usize)
     requires { ⌜ (many ≤ 64) × (width ≤ 64) × (at + width ≤ length (now out)) ⌝ }
     ensures { λ r. ⌜ Putting (places many (now (rows .entry))) (now (out .entry)) at width (now (out .exit)) ⌝ }

@@ -1,11 +1,14 @@
--- Trial, then commit (02, R-10). *Ladder* is 02's word for a maximal chain, `IsMaximal` of crate `table`; the place of an entry is a gauge g and a
--- case c, and the entry is there when g:c is a pair. A set of pairs stands by gauge rows; a table's 64 rows and a chain's are looked at whole.
+-- Trial, then commit (02, R-10). *Ladder* is 02's word for a maximal chain, `IsMaximal` of crate `table`; the place
+-- of an entry is a gauge g and a case c, and the entry is there when g:c is a pair. A set of pairs is given by gauge
+-- rows; a table's 64 rows and a chain's are looked at whole.
 --
--- In order: the table with one entry flipped (`Flipped`); what a flip does to a maximal chain (`HasEffect`, a line for each verdict); the numbers, the
--- proposal and the answer of a trial (`Proposes`, `Tried`); the answer of a commit (`Committed`); how the answer of a trial reads.
+-- In order: the table with one entry flipped (`Flipped`); what a flip does to a maximal chain (`HasEffect`, a line
+-- for each verdict); the numbers, the proposal and the answer of a trial (`Proposes`, `Tried`); the answer of a
+-- commit (`Committed`); how the answer of a trial reads.
 --
--- Elsewhere: that each relation can be met and leaves one answer, that the verdicts exclude each other and leave none out, and R-10's laws of flips,
--- trials and commits: proofs/Flips.antt, Effects.antt, Answers.antt. Runs that are paused on the old table: crate `kept_runs`.
+-- Elsewhere: that each relation can be met and leaves one answer, that the verdicts exclude each other and leave none
+-- out, and R-10's laws of flips, trials and commits: proofs/Flips.antt, Effects.antt, Answers.antt. Runs that are
+-- paused on the old table: crate `kept_runs`.
 use mathlib.Core.Path.{_≡_}
 use mathlib.Core.Logic.{_↔_}
 use mathlib.Core.Bool.{_&&_, cond}
@@ -24,8 +27,8 @@ use Rattle.trials.specs.declared.Proposal.{Proposal}
 use Rattle.trials.specs.declared.Proposed.{Proposed}
 
 -- ---- the table with one entry flipped
--- u is the table t "with that one entry flipped and every other kept": at the place g:c a pair is there exactly when it was not, at every other place
--- exactly when it was; the shape is kept
+-- u is the table t "with that one entry flipped and every other kept": at the place g:c a pair is there exactly when
+-- it was not, at every other place exactly when it was; the shape is kept
 pub record Flipped (t : Table) (g c : ℕ) (u : Table) : Type 0 where
   pub gauges : u .gauges ≡ t .gauges
   pub cases : u .cases ≡ t .cases
@@ -59,15 +62,15 @@ pub record Proposes (t : Table) (s : Chain) (g c : ℕ) (p : Proposal) : Type 0 
   pub flips : Flipped t g c new
   pub effect : HasEffect (p .effect) new s
 
--- what stands beside a refusal; "A refusal yields its number and nothing else"
+-- what is given beside a refusal; "A refusal yields its number and nothing else"
 abbrev pub blankProposal : Proposal
 blankProposal = record { table = blankTable; chain = blankChain; gauge = record { 0 = 0 }; case = record { 0 = 0 }; effect = NotWithin }
 
 abbrev pub noProposal : ℕ → Answer Proposal
 noProposal n = record { refusal = n; value = blankProposal }
 
--- a answers the trial of the chain s and the place g:c on the table t: a refusal of what was handed in; then "25: not a ladder of the table"; and
--- else the proposal
+-- a answers the trial of the chain s and the place g:c on the table t: a refusal of what was handed in; then "25: not
+-- a ladder of the table"; and else the proposal
 pub record Tried (t : Table) (s : Chain) (g c : ℕ) (a : Answer Proposal) : Type 0 where
   pub refused : 0 < trialRefusal t s g c → a ≡ noProposal (trialRefusal t s g c)
   pub not-maximal : trialRefusal t s g c ≡ 0 → ¬ IsMaximal (tableRows t) (chainRows s) → a ≡ noProposal 25
@@ -81,8 +84,9 @@ IsTrialOn t p = Tried t (p .chain) (p .gauge .0) (p .case .0) (record { refusal 
 abbrev pub noTable : ℕ → Answer Table
 noTable n = record { refusal = n; value = blankTable }
 
--- a answers the commit of the proposal p on the current table t: "26, at commit, after the current table's checks: the proposal is not what the trial
--- of its ladder and place on that table gives, a refused trial included"; and else the table with the entry flipped
+-- a answers the commit of the proposal p on the current table t: "26, at commit, after the current table's checks:
+-- the proposal is not what the trial of its ladder and place on that table gives, a refused trial included"; and else
+-- the table with the entry flipped
 pub record Committed (p : Proposal) (t : Table) (a : Answer Table) : Type 0 where
   pub refused : 0 < tableRefusal t → a ≡ noTable (tableRefusal t)
   pub other : tableRefusal t ≡ 0 → ¬ IsTrialOn t p → a ≡ noTable 26

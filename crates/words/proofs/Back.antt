@@ -1,9 +1,10 @@
--- What was put is read back: words that stand one list behind the other in a slice.
+-- What was put is read back: words that are one list after the other in a slice.
 --
--- In order: what is read has 64 rows and 64 numbers (`rows-size`, `numbers-size`), and is known by its words (`rows-are`, `numbers-are`, `number-small`,
--- `number-large`); a slice with words over its front (`front-is`); the words, a table and a chain that stand behind other words (`word-behind`,
--- `table-behind`, `chain-behind`); a table and a chain put over the front of a slice are read there (`table-back`, `chain-back`), so what an entry that
--- returned 0 left in a slice reads as its answer (`table-left`, `chain-left`).
+-- In order: what is read has 64 rows and 64 numbers (`rows-size`, `numbers-size`), and is known by its words
+-- (`rows-are`, `numbers-are`, `number-small`, `number-large`); a slice with words over its front (`front-is`); the
+-- words, a table and a chain that come after other words (`word-behind`, `table-behind`, `chain-behind`); a table and
+-- a chain put over the front of a slice are read there (`table-back`, `chain-back`), so what an entry that returned 0
+-- left in a slice reads as its answer (`table-left`, `chain-left`).
 --
 -- Elsewhere: how words are put, Storing.antt; proposals, crate `c_trials`.
 use mathlib.Core.Path.{_≡_, refl, ap, ap₂, sym, _∙_, subst}

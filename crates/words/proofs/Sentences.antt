@@ -1,8 +1,10 @@
--- What a caller reads off the promises, sentence by sentence (specs/Serving): of every entry of the C library, that writes to one slice or to two.
+-- What a caller reads off the promises, sentence by sentence (specs/Serving): of every entry of the C library, that
+-- writes to one slice or to two.
 --
--- In order, of one slice and then of two: the number is 100 where a lent slice is shorter than its layout (`gives-100`, `two-100`); else it is that of an
--- answer which the library promises (`served-number`, `two-number`); where it is 0, that answer's words stand over the front, and the words behind them are
--- as they were (`served-front`, `two-front`); where it is not, every word is (`served-kept`, `two-kept`).
+-- In order, of one slice and then of two: the number is 100 where a lent slice is shorter than its layout
+-- (`gives-100`, `two-100`); else it is that of an answer which the library promises (`served-number`, `two-number`);
+-- where it is 0, that answer's words are over the front, and the words behind them are as they were (`served-front`,
+-- `two-front`); where it is not, every word is (`served-kept`, `two-kept`).
 --
 -- Elsewhere: one number and one slice for every input, Answers.antt; what the words read as, Back.antt.
 use mathlib.Core.Path.{_≡_, sym, _∙_}

@@ -1,4 +1,5 @@
--- `blocks::list_some` meets its contract: what the batch comes to, and the files of its ladders, are a turn (OneTurn.antt), one for each outcome.
+-- `blocks::list_some` meets its contract: what the batch gives, and the files of its ladders, are a turn
+-- (OneTurn.antt), one for each outcome.
 use mathlib.Core.Path.{_≡_, refl, sym, ap, _∙_, subst}
 use mathlib.Core.List.{List}
 use Prim.Native.Nat.{ℕ, _-_, _≤_}

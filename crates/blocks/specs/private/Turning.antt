@@ -1,5 +1,5 @@
--- What the private steps promise: the check of a value, files written at a place, the words lent to a batch, and one turn, which is a batch of calls and
--- the files of what they hand out.
+-- What the private steps promise: the check of a value, files written at a place, the words lent to a batch, and one
+-- turn, which is a batch of calls and the files of what they hand out.
 use mathlib.Core.Path.{_≡_}
 use mathlib.Core.Bool.{Bool, true, false}
 use mathlib.Core.List.{List, [], _∷_, _++_}
@@ -40,7 +40,8 @@ abbrev pub ladders : ℕ → ℕ → List ℕ → List (List ℕ)
 ladders g zero words = []
 ladders g (suc n) words = take g words ∷ ladders g n (drop g words)
 
--- the files of the sets xs, where each has a legal table and all have room, are at the place at, and next is the place behind them
+-- the files of the sets xs, where each has a legal table and all have room, are at the place at, and next is the
+-- place behind them
 pub record PutAll (t : Table) (xs : List (List ℕ)) (before : List ℕ) (at next : ℕ) (now : List ℕ) : Type 0 where
   pub inside : next ≤ length before
   pub are : All (λ (x : List ℕ). tableRefusal (pairTable t x) ≡ 0) xs → at + length (files t xs) ≤ length before
@@ -50,7 +51,8 @@ pub record PutAll (t : Table) (xs : List (List ℕ)) (before : List ℕ) (at nex
 abbrev pub mostBytes : ℕ → ℕ → ℕ
 mostBytes g l = 60 + g * (6 * l)
 
--- the words lent to a batch where so many bytes are free: for one ladder of a run that omits, and else for no more than are called for
+-- the words lent to a batch where so many bytes are free: for one ladder of a run that omits, and else for no more
+-- than are called for
 pub record Lent (g l : ℕ) (omit : Bool) (room words : ℕ) : Type 0 where
   pub few : words ≤ 1024
   pub one : 1 ≤ g → g ≤ 64 → l ≤ 64 → omit ≡ true → words / g ≡ 1
@@ -58,8 +60,9 @@ pub record Lent (g l : ℕ) (omit : Bool) (room words : ℕ) : Type 0 where
   pub called : 1 ≤ g → g ≤ 64 → l ≤ 64 → (words / g - 1) * mostBytes g l + longest ≤ room
 
 -- ---- a turn
--- calls made from the state s on, on t under the preference in the numbers of order, as many as some: none is made where no call follows. The files of
--- what they hand out stand at the place at, and w and next are what they leave; stop says that one handed nothing out, and over that one answered end
+-- calls made from the state s on, on t under the preference in the numbers of order, as many as some: none is made
+-- where no call follows. The files of what they hand out are at the place at, and w and next are what they leave;
+-- stop says that one handed nothing out, and over that one answered end
 pub record Added (t : Table) (order : List ℕ) (omit : Bool) (s : State) (before : List ℕ) (at : ℕ) (w : Value) (next : ℕ) (stop over : Bool)
     (now : List ℕ) : Type 0 where
   pub many : ℕ

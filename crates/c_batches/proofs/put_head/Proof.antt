@@ -1,4 +1,4 @@
--- `c_batches::put_head` meets its contract: each word stands where the one before it ends.
+-- `c_batches::put_head` meets its contract: each word is where the one before it ends.
 use mathlib.Core.Path.{refl}
 use Rattle.words.proofs.Storing.{put-two}
 use borrow.Author.Needs.{needs}

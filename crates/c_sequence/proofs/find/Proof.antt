@@ -1,4 +1,4 @@
--- `c_sequence::find` meets its contract: the promise of the side that the mark stands for.
+-- `c_sequence::find` meets its contract: the promise of the side that the mark names.
 use mathlib.Core.Path.{sym}
 use mathlib.Core.Bool.{true, false}
 use borrow.Author.Needs.{needs}

@@ -1,4 +1,4 @@
--- `c_support::filled` meets its contract: the bytes passed are those of the text, or zeros behind it.
+-- `c_support::filled` meets its contract: the bytes passed are those of the text, or zeros after it.
 use borrow.Author.Needs.{needs}
 use native.Mathlib.Omega.{arith}
 use Prim.Native.Nat.{_-_}

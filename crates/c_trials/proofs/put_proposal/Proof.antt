@@ -1,4 +1,4 @@
--- `c_trials::put_proposal` meets its contract: each part stands where the one before it ends.
+-- `c_trials::put_proposal` meets its contract: each part is where the one before it ends.
 use mathlib.Core.Path.{_≡_, refl}
 use lib.ListN.{length}
 use Rattle.words.proofs.Storing.{put-two, put-as}

@@ -1,5 +1,5 @@
--- `count::count_ladders` meets its contract: a refused table or order by its number, 18, no budget, or what the recursive step came to on the rows as
--- the order has them.
+-- `count::count_ladders` meets its contract: a refused table or order by its number, 18, no budget, or what the
+-- recursive step gave on the rows as the order has them.
 use native.Mathlib.Omega.{arith}
 use borrow.Author.Needs.{needs}
 use Rattle.refusals.proofs.Answering.{verdict-refused, verdict-accepted}

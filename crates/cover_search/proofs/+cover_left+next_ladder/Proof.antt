@@ -1,6 +1,7 @@
--- The cycle of `cover_search::cover_left`, one for each uncovered set, and `cover_search::next_ladder`, one for each next ladder: a law of Steps.antt for
--- each return. They fall on k and on the ladders still to come: with n ladders, k * (n + 2) for an uncovered set, and for the ladders from place i
--- on, under which k more may be tried, k * (n + 2) + (n - i + 1).
+-- The cycle of `cover_search::cover_left`, one for each uncovered set, and `cover_search::next_ladder`, one for each
+-- next ladder: a law of Steps.antt for each return. They fall on k and on the ladders still to come: with n ladders,
+-- k * (n + 2) for an uncovered set, and for the ladders from place i on, under which k more may be tried, k * (n + 2)
+-- + (n - i + 1).
 use mathlib.Core.Path.{subst}
 use Prim.Native.Nat.{ℕ, _+_, _-_, _*_, _<_}
 use native.Mathlib.Omega.{arith}
@@ -110,7 +111,7 @@ unfolding minus meet
           (falls-to-left (length (s .args .ladders .now)) (s .args .k * (length (s .args .ladders .now) + 2)) (s .args .i)),
       omega (arith, s .pre .1),
     ))
-    -- what it came to
+    -- what it found
     (λ c. search needs)
     (λ c. search needs)
     (λ c. omega (arith, c .before .before .before .before .before .before .before .before .before .before .pre .1))

@@ -1,4 +1,4 @@
--- What the two functions that call each other come to, one for each uncovered set, one for each next ladder.
+-- What the two functions that call each other find, one for each uncovered set, one for each next ladder.
 use mathlib.Core.List.{List}
 use Prim.Native.Nat.{ℕ}
 use lib.ListN.{drop}

@@ -1,6 +1,7 @@
--- What the private steps compute and keep: a union of rows for each pair, by which two pairs' conflicts are compared in a few steps on
--- sets (`includes-short` in proofs/Comparing.antt), and the store of these unions. Places count from 0: place k of row i is the pair of
--- gauge i + 1 and case k + 1. Rows are the 64 of a table, of which those from the n-th on are empty.
+-- What the private steps compute and keep: a union of rows for each pair, by which two pairs' conflicts are compared
+-- in a few steps on sets (`includes-short` in proofs/Comparing.antt), and the store of these unions. Places count
+-- from 0: place k of row i is the pair of gauge i + 1 and case k + 1. Rows are the 64 of a table, of which those from
+-- the n-th on are empty.
 use mathlib.Core.Path.{_≡_}
 use mathlib.Core.Logic.{_↔_}
 use mathlib.Core.Bool.{Bool, not, _&&_, _||_, cond}
@@ -40,7 +41,7 @@ includes u k outer inner = not (bit u k) && isSubset (meet u outer) inner
 abbrev pub Past : List ℕ → ℕ → Type 0
 Past r n = (i : ℕ) → n ≤ i → row r i ≡ 0
 
--- the store has the unions of the pairs of the first m rows: that of place k of row i stands at 64 i + k
+-- the store has the unions of the pairs of the first m rows: that of place k of row i is at 64 i + k
 pub record Stored (r : List ℕ) (n m : ℕ) (store : List ℕ) : Type 0 where
   pub size : length store ≡ 4096
   pub entry : (i k : ℕ) → i < m → k < 64 → T (bit (row r i) k) → getD store (i * 64 + k) 0 ≡ against r (row r i) k n

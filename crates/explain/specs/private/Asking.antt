@@ -1,4 +1,5 @@
--- What the private steps of either side say of one another: the checks before the picks are looked at, and the search on the rows and picks in their arrays.
+-- What the private steps of either side say of one another: the checks before the picks are looked at, and the search
+-- on the rows and picks in their arrays.
 use mathlib.Core.Path.{_≡_}
 use mathlib.Core.Bool.{Bool, true, false, cond}
 use mathlib.Core.List.{List}
@@ -14,12 +15,13 @@ use Rattle.runs.specs.Paused.{Value}
 use Rattle.runs.specs.Calling.{valueRefusal, PausedAt}
 use Rattle.explain.specs.Reasons.{firstLacking, madeBefore}
 
--- the number of a pair that stands on a side, by its mark
+-- the number of a pair that belongs to a side, by its mark
 abbrev pub ownOf : Bool → ℕ → ℕ → ℕ
 ownOf false g c = g
 ownOf true g c = c
 
--- n is the number for a question, or 0: that of the value, whose phase must be Handed, then 19 where the table does not have the pair
+-- n is the number for a question, or 0: that of the value, whose phase must be Handed, then 19 where the table does
+-- not have the pair
 pub record AsksAt (side : Table → Side) (v : Value) (present : Bool) (n : ℕ) : Type 0 where
   pub table : 0 < valueRefusal side v → n ≡ valueRefusal side v
   pub value : valueRefusal side v ≡ 0 → ((p : List ℕ) → PausedAt side v (at p Handed) → ⊥) → n ≡ 15
@@ -44,6 +46,7 @@ pub record Numbered (k : List ℕ) (count : ℕ) : Type 0 where
 abbrev pub rowHas : List ℕ → ℕ → ℕ → Bool
 rowHas rows k x = bit (row rows (x - 1)) k
 
--- the first of the first `count` numbers in the array whose row lacks place k, before `own` is come to; 0 where there is none
+-- the first of the first `count` numbers in the array whose row lacks place k, before `own` is reached; 0 where there
+-- is none
 abbrev pub foundIn : List ℕ → ℕ → List ℕ → ℕ → ℕ → ℕ
 foundIn rows k picks count own = firstLacking (rowHas rows k) (madeBefore own (take count picks))

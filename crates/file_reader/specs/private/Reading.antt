@@ -1,9 +1,11 @@
--- What reading a file gives, told as the code tells it: line by line from the top, with what is gathered, until a line fails or the file ends (01, "The file"
--- and the refusals 1 to 9, in the order of its table; 02, R-5). One definition, `readRecorded`, reads either kind of file to a test: entries, and in an
--- integer file their readings. 01's reader, `readFile`, the one with a cutoff, `readTest`, and comment lookup, `commentAt`, stand on it.
+-- What reading a file gives, told as the code tells it: line by line from the top, with what is gathered, until a
+-- line fails or the file ends (01, "The file" and the refusals 1 to 9, in the order of its table; 02, R-5). One
+-- definition, `readRecorded`, reads either kind of file to a test: entries, and in an integer file their readings.
+-- 01's reader, `readFile`, the one with a cutoff, `readTest`, and comment lookup, `commentAt`, rest on it.
 --
--- No public promise mentions it: what the readers promise, by the lines of the file alone, is in Promises.antt, and what is read here is the one answer that
--- meets it (`table-of-file`, `test-of-file`, `comment-of-file` and their `-unique` in proofs/Promising.antt). What one line says is in crate `file_kinds`.
+-- No public promise mentions it: what the readers promise, by the lines of the file alone, is in Promises.antt, and
+-- what is read here is the one answer that meets it (`table-of-file`, `test-of-file`, `comment-of-file` and their
+-- `-unique` in proofs/Promising.antt). What one line says is in crate `file_kinds`.
 use Prim.Native.Nat.{ℕ, _+_, _-_, _*_, _^_}
 use mathlib.Core.List.{List, [], _∷_}
 use mathlib.Core.Bool.{Bool, true, false, cond}
@@ -53,8 +55,9 @@ addPair rows g c = set rows (g .0 - 1) (withCase (row rows (g .0 - 1)) c)
 abbrev pub addReading : List ℤ → Gauge → Case → ℤ → List ℤ
 addReading vs g c v = set vs ((g .0 - 1) * 64 + (c .0 - 1)) v
 
--- the entry lines up to the gauge gs and the case cs, of which left are still to come: "6 .. 7 .. then 8 pair repeated; then 9 more than N
--- pairs", and at the end of the file "9 fewer than N pairs"; 20 comes after 7, and "N, 8 and 9 speak of entries"
+-- the entry lines up to the gauge gs and the case cs, of which left are still to come: "6 .. 7 .. then 8 pair
+-- repeated; then 9 more than N pairs", and at the end of the file "9 fewer than N pairs"; 20 comes after 7, and "N, 8
+-- and 9 speak of entries"
 unfoldable pub readEntries : Kind → Gauge → Case → ℕ → List ℕ → List ℤ → List Line → Answer Test
 readEntries kind gs cs left rows vs [] =
     cond (eqb left 0) (accepted (record { kind = kind; gauges = gs .0; cases = cs .0; entries = rows; readings = vs })) (refusedFile PairCount)
@@ -93,7 +96,8 @@ unfoldable pub readRecorded : Bool → List ℕ → Answer Test
 readRecorded integers file = elim (ltb 65536 (length file)) [ true ↦ refusedFile FileTooLong | false ↦ readLines integers (lines file) ]
 
 -- ---- the two readers
--- 01's reader: the table whose pairs are the entries of a file of pairs; an integer file's first line is "not the banner" (2)
+-- 01's reader: the table whose pairs are the entries of a file of pairs; an integer file's first line is "not the
+-- banner" (2)
 abbrev pub pairsOf : Answer Test → Answer Table
 pairsOf a = record { refusal = a .refusal; value = listed (a .value) }
 

@@ -1,5 +1,5 @@
 -- The number of the line at which reading stops, told as the code tells it: line k is the next. 0 where no line fails. That it is the number of
--- the first failing line, `Fault`, is `fault-line` in proofs/FileLaws.antt.
+-- the first failing line, `Fault`, is `fault-read` in proofs/FileLaws.antt.
 use Prim.Native.Nat.{ℕ, suc, _-_}
 use mathlib.Core.List.{List, [], _∷_}
 use mathlib.Core.Bool.{Bool, true, false, cond}

@@ -1,6 +1,6 @@
--- A set of pairs with its rows in the order of a preference: row i is that of the gauge at place i. On the arranged rows places are indices, so
--- that the order by place is the order by number there: the laws are proved by this, and the code works so. No promise of a user's entry
--- mentions it.
+-- A set of pairs with its rows in the order of a preference: row i is that of the gauge at place i. On the arranged
+-- rows places are indices, so that the order by place is the order by number there: the laws are proved by this, and
+-- the code works so. No promise of a user's entry mentions it.
 use mathlib.Core.List.{List, map}
 use Prim.Native.Nat.{ℕ}
 use lib.ListN.{length, getD}
@@ -17,7 +17,7 @@ indexAt o i = getD o i 0
 unfoldable pub arrange : List ℕ → List ℕ → List ℕ
 arrange o x = map (row x) o
 
--- and by index again: row i stands at its place
+-- and by index again: row i is at its place
 unfoldable pub unarrange : List ℕ → List ℕ → List ℕ
 unarrange o y = tabulate (λ i. row y (placeOf o i)) (length o)
 

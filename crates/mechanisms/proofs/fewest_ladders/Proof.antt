@@ -1,4 +1,4 @@
--- `mechanisms::fewest_ladders` meets its contract: one law for each check, in their order, and what the search came to.
+-- `mechanisms::fewest_ladders` meets its contract: one law for each check, in their order, and what the search found.
 use mathlib.Core.Path.{_≡_, sym}
 use Prim.Native.Nat.{ℕ, _≤_}
 use native.Mathlib.Omega.{arith}

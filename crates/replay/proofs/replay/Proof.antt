@@ -1,5 +1,5 @@
--- `replay::replay` meets its contract: the picks passed stand as `Going` says, one that cannot have been made fails its test, and at the end
--- no unpicked gauge is against them.
+-- `replay::replay` meets its contract: the picks passed are as `Going` says, one that cannot have been made fails its
+-- test, and at the end no unpicked gauge is against them.
 use Prim.Native.Nat.{_≤_, _<_, _-_}
 use mathlib.Core.Path.{_≡_, refl, sym, _∙_}
 use native.Mathlib.Omega.{arith}
@@ -23,7 +23,8 @@ returns c = replays-no _ _ _ _ _ (c .not-replayed .ensures) (λ p h. omega (arit
 loop-holds : tie.Need-loop-holds Inv-loop μ-loop
 loop-holds c = (omega arith, low-none _ _ (c .lowest .ensures), going-none _ _ _ _ _ _ (c .lowest .ensures) (sym full-is) (sym full-is))
 
--- the places of a turn, one from the other: its start, its test, the number, whether that is unpicked, its row, and what is judged
+-- the places of a turn, one from the other: its start, its test, the number, whether that is unpicked, its row, and
+-- what is judged
 abbrev turn : tie.After-index Inv-loop μ-loop → tie.At-loop Inv-loop μ-loop
 turn c = c .before .before .before
 

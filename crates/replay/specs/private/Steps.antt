@@ -1,5 +1,5 @@
--- What the steps of the pass say of one another: a pick beside the picks before it, and an unpicked gauge beside all of them. The theory is
--- proofs/Replaying.antt of crate `lists`.
+-- What the steps of the pass say of one another: a pick beside the picks before it, and an unpicked gauge beside all
+-- of them. The theory is proofs/Replaying.antt of crate `lists`.
 use mathlib.Core.Path.{_≡_}
 use mathlib.Core.Bool.{Bool, true, false}
 use mathlib.Core.List.{List}
@@ -9,7 +9,7 @@ use Rattle.sets.specs.Sets.{bit}
 use Rattle.table.specs.Pairs.{row}
 use Rattle.replay.specs.declared.Judged.{Judged}
 
--- a gauge that has all left cases left the same as the last picks, and stands behind the last
+-- a gauge that has all left cases left the same as the last picks, and comes after the last
 abbrev pub Goes : ℕ → ℕ → ℕ → ℕ → ℕ → Type 0
 Goes row before left last g = (bitAnd row before ≡ left) × (last ≤ g)
 

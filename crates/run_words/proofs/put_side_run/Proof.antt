@@ -1,4 +1,4 @@
--- `run_words::put_side_run` meets its contract: each part stands where the one before it ends.
+-- `run_words::put_side_run` meets its contract: each part is where the one before it ends.
 use mathlib.Core.Path.{_≡_, refl, ap}
 use lib.ListN.{length}
 use Rattle.words.proofs.Storing.{put-two, put-as}

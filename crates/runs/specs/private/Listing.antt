@@ -43,11 +43,11 @@ ladderOf turning plain pl n g c = take g (turnedRows turning n g (numberedRows p
 abbrev pub ladderFor : Bool → Bool → List ℕ → ℕ → ℕ → List ℕ → List ℕ → List ℕ
 ladderFor turning plain pl n g r p = ladderOf turning plain pl n g (padded (chainOf r p))
 
--- the words vs stand at a place of the buffer
+-- the words vs are at a place of the buffer
 pub record Puts (before : List ℕ) (at : ℕ) (vs now : List ℕ) : Type 0 where
   pub words : now ≡ stored before at vs
 
--- the ladder of c stands at a place of the buffer
+-- the ladder of c is at a place of the buffer
 pub record Hands (turning plain : Bool) (c pl : List ℕ) (n g : ℕ) (before : List ℕ) (at : ℕ) (now : List ℕ) : Type 0 where
   pub words : now ≡ stored before at (ladderOf turning plain pl n g c)
   pub size : length (ladderOf turning plain pl n g c) ≡ g
@@ -63,7 +63,7 @@ abbrev pub writtenIn : Bool → List ℕ → List ℕ → List ℕ
 writtenIn true before ws = stored before 0 ws
 writtenIn false before ws = before
 
--- what calls for k ladders with b moves from the state x come to, by the rule mv; for one ladder it is one call
+-- what calls for k ladders with b moves from the state x give, by the rule mv; for one ladder it is one call
 pub record Lists (writing : Bool) (mv : State → Move) (out : List ℕ → List ℕ) (n : ℕ) (rows : List ℕ) (k b : ℕ) (x : State) (before c′ k′ now : List ℕ)
     (o : Tally) : Type 0 where
   pub sets : List (List ℕ)

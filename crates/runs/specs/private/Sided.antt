@@ -1,5 +1,5 @@
--- What the calls of either side say of one another: the side of a table that a mark names, the pairs that a run which omits looks for, and what the core comes
--- to on them. No public promise mentions these.
+-- What the calls of either side say of one another: the side of a table that a mark names, the pairs that a run which
+-- omits looks for, and what the core comes to on them. No public promise mentions these.
 use mathlib.Core.Path.{_≡_}
 use mathlib.Core.Bool.{Bool, true}
 use mathlib.Core.List.{List}
@@ -35,11 +35,12 @@ tableIn h rows = tableOf (h .gauges) (h .cases) rows
 abbrev pub sideIn : Bool → Shape → List ℕ → Side
 sideIn m h rows = sideOf m (tableIn h rows)
 
--- the pairs w are those that a run on this side of t looks for where it omits: the set of the picks has one of them exactly where it is kept
+-- the pairs w are those that a run on this side of t looks for where it omits: the set of the picks has one of them
+-- exactly where it is kept
 abbrev pub Wants : Table → Side → List ℕ → Type 0
 Wants t s w = (p : List ℕ) → handsOver true (length (s .rows)) w (chainOf (s .rows) p) ≡ keepsOf t (handOut s p)
 
--- what the core comes to on the side, by the moves of the run
+-- what the core gives on the side, by the moves of the run
 abbrev pub CallsSide : Bool → Shape → List ℕ → List ℕ → List ℕ → ℕ → Phase → ℕ → List ℕ → List ℕ → Report → Type 0
 CallsSide m h rows order k count f b c′ k′ o =
     InOrder (λ q. movesOf (tableIn h rows) (sideIn m h rows) q (h .omit)) (sideIn m h rows .count) (sideIn m h rows .rows) order k count f b c′ k′ o
@@ -58,7 +59,7 @@ batchFrom v k o = record {
   next = record { table = v .table; order = v .order; picks = k; count = o .spot .count; phase = modePhase (o .spot .mode); omit = v .omit };
 }
 
--- what a run call on the value v is told: the refusal of its table, or what the core comes to
+-- what a run call on the value v is told: the refusal of its table, or what the core gives
 pub record Reports (side : Table → Side) (v : Value) (b : ℕ) (c′ k′ : List ℕ) (o : Report) : Type 0 where
   pub table : 0 < tableRefusal (v .table) → (why : Refusal) × ((o .outcome ≡ Refused why) × (number why ≡ tableRefusal (v .table)))
   pub rules : tableRefusal (v .table) ≡ 0 → InOrder (λ q. movesOf (v .table) (side (v .table)) q (v .omit)) (side (v .table) .count) (side (v .table) .rows)

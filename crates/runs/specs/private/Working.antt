@@ -1,5 +1,5 @@
--- What the core's private steps say of one another: how a spot and its arrays stand for a state of rules 1 to 5. No public promise
--- mentions these.
+-- What the core's private steps say of one another: how a spot and its arrays represent a state of rules 1 to 5. No
+-- public promise mentions these.
 use mathlib.Core.Path.{_≡_}
 use mathlib.Core.List.{List, map}
 use mathlib.Core.Bool.{Bool, true, false, not, cond}
@@ -63,11 +63,12 @@ placed Ended = Ended
 abbrev pub placesOf : List ℕ → ℕ → List ℕ
 placesOf k count = map (λ x. x - 1) (take count k)
 
--- the state that a spot stands for: its picks by place, of the numbers in k, and its phase
+-- the state that a spot represents: its picks by place, of the numbers in k, and its phase
 abbrev pub stateOf : List ℕ → Spot → State
 stateOf k at = record { picks = placesOf k (at .count); phase = placed (modePhase (at .mode)) }
 
--- the rows u of the unpicked gauges, the arrays c and k and the spot stand for the state x of the rows r: the chain, and the picks
+-- the rows u of the unpicked gauges, the arrays c and k and the spot represent the state x of the rows r: the chain,
+-- and the picks
 pub record HoldsAt (r u c k : List ℕ) (at : Spot) (x : State) : Type 0 where
   pub after : After r (x .picks) u (at .left)
   pub size : length u ≡ 64
@@ -80,11 +81,11 @@ pub record HoldsAt (r u c k : List ℕ) (at : Spot) (x : State) : Type 0 where
 abbrev pub Holds : ℕ → List ℕ → List ℕ → List ℕ → Spot → Type 0
 Holds n rows c k at = HoldsAt (take n rows) (within (at .unpicked) rows) c k at (stateOf k at)
 
--- a spot that stands for the state after the move m
+-- a spot that represents the state after the move m
 abbrev pub spotDown : ℕ → ℕ → ℕ → Spot
 spotDown count unpicked left = record { count = count; unpicked = unpicked; left = left; mode = modeDown }
 
--- the move by rules 1 to 5 from the state that a spot stands for
+-- the move by rules 1 to 5 from the state that a spot represents
 abbrev pub movedFrom : ℕ → List ℕ → List ℕ → Spot → Move
 movedFrom n rows k at = move (candidates (take n rows)) (stateOf k at)
 
@@ -120,7 +121,8 @@ apart n w c = allBelow (λ i. eqb (bitAnd (getD c i 0) (getD w i 0)) 0) n
 unfoldable pub handsOver : Bool → ℕ → List ℕ → List ℕ → Bool
 handsOver omit n w c = cond omit (not (apart n w c)) true
 
--- the moves of the core on the rows r: rules 1 to 5, and where it omits, nothing is given of a set that has no pair of w
+-- the moves of the core on the rows r: rules 1 to 5, and where it omits, nothing is given of a set that has no pair
+-- of w
 unfoldable pub moveBy : List ℕ → Bool → List ℕ → State → Move
 moveBy r false w x = move (candidates r) x
 moveBy r true w x = moveKeeping (move (candidates r)) (chainOf r) (handsOver true (length r) w) x
@@ -154,7 +156,8 @@ unfoldable pub filled : List ℕ → ℕ → ℕ
 filled k zero = 0
 filled k (suc n) = filled k n + cond (eqb (getD k n 0) 0) 0 1
 
--- c is empty, and the first `count` numbers in k are those of picks that can have been made: what is asked where their chain is laid
+-- c is empty, and the first `count` numbers in k are those of picks that can have been made: what is asked where
+-- their chain is laid
 pub record Laying (n : ℕ) (rows c k : List ℕ) (count : ℕ) : Type 0 where
   pub empty : c ≡ noRows
   pub picks : List ℕ
@@ -176,15 +179,16 @@ pub record StandsBy (good : State → Type 0) (k : List ℕ) (count : ℕ) (f : 
   pub phased : f ≡ numbered (s .phase)
   pub fits : good s
 
--- b moves from the state x: they come out as the report says, and the arrays and numbers are those of the state that they lead to
+-- b moves from the state x: they come out as the report says, and the arrays and numbers are those of the state that
+-- they lead to
 pub record WentBy (mv : State → Move) (good : State → Type 0) (chain : List ℕ → List ℕ) (b : ℕ) (x : State) (c′ k′ : List ℕ) (o : Report) : Type 0 where
   pub to : State
   pub comes : ComesOut mv b x (o .outcome) (o .moves) to
   pub chained : c′ ≡ padded (chain (to .picks))
   pub stands : StandsBy good k′ (o .spot .count) (modePhase (o .spot .mode)) to
 
--- what a call on the value of k, `count` and f comes to: no good state is its state; or it is the value of one, and the budget is too large, or it
--- makes its moves, by the rule mv; `chain` has the chain of some picks
+-- what a call on the value of k, `count` and f gives: no good state is its state; or it is the value of one, and the
+-- budget is too large, or it makes its moves, by the rule mv; `chain` has the chain of some picks
 pub record CarriesBy (mv : State → Move) (good : State → Type 0) (chain : List ℕ → List ℕ) (k : List ℕ) (count : ℕ) (f : Phase) (b : ℕ)
     (c′ k′ : List ℕ) (o : Report) : Type 0 where
   pub value : ((s : State) → StandsBy good k count f s → ⊥) → o .outcome ≡ Refused NotReached
@@ -201,7 +205,7 @@ StandsFor r k count f s = StandsBy (FitsOn r) k count f s
 abbrev pub CarriesOn : (State → Move) → List ℕ → List ℕ → ℕ → Phase → ℕ → List ℕ → List ℕ → Report → Type 0
 CarriesOn mv r k count f b c′ k′ o = CarriesBy mv (FitsOn r) (chainOf r) k count f b c′ k′ o
 
--- what the checks of such a call come to, before it moves: a refusal, or a spot that holds the value's state
+-- what the checks of such a call give, before it moves: a refusal, or a spot that holds the value's state
 pub record Opens (n : ℕ) (rows k : List ℕ) (count : ℕ) (f : Phase) (b : ℕ) (c′ : List ℕ) (o : Report) : Type 0 where
   pub value : ((s : State) → StandsFor (take n rows) k count f s → ⊥) → o .outcome ≡ Refused NotReached
   pub large : (s : State) → StandsFor (take n rows) k count f s → mostBudget < b → o .outcome ≡ Refused BudgetTooLarge
@@ -224,7 +228,8 @@ renumberedPhase l n Handed = Handed
 renumberedPhase l n (Back g) = Back (renumber l n g)
 renumberedPhase l n Ended = Ended
 
--- what a call under the preference in the n numbers of `order` comes to: 27 where they are none, and else as above, by the rule mv at each arrangement
+-- what a call under the preference in the n numbers of `order` gives: 27 where they are none, and else as above, by
+-- the rule mv at each arrangement
 pub record InOrder (mv : List ℕ → State → Move) (n : ℕ) (r order k : List ℕ) (count : ℕ) (f : Phase) (b : ℕ) (c′ k′ : List ℕ) (o : Report) : Type 0 where
   pub none : isPreference n order ≡ false → o .outcome ≡ Refused NotAnArrangement
   pub carried : isPreference n order ≡ true → CarriesBy (mv (orderOf n order)) (ReachedIn r (orderOf n order)) (chainOf r) k count f b c′ k′ o

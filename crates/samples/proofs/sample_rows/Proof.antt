@@ -1,4 +1,5 @@
--- `samples::sample_rows` meets its contract: the rows so far and those still to be made are all rows, with zeros behind (`MakingRows`).
+-- `samples::sample_rows` meets its contract: the rows so far and those still to be made are all rows, padded with
+-- zeros (`MakingRows`).
 use Prim.Native.Nat.{_-_}
 use native.Mathlib.Omega.{arith}
 use Rattle.samples.proofs.Rows.{MakingRows, rows-none, rows-more, rows-done}

@@ -1,4 +1,4 @@
--- `table::refuse` meets its contract: beside the refusal's number stands the blank table.
+-- `table::refuse` meets its contract: beside the refusal's number is the blank table.
 use mathlib.Core.Path.{ap}
 use Rattle.refusals.specs.Answers.{refused}
 use borrow.Author.Needs.{needs}

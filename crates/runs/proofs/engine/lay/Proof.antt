@@ -14,7 +14,7 @@ Inv-loop rows n chain₀ picks count left₀ i₀ chain left i =
 abbrev μ-loop : tie.MeasureT-loop
 μ-loop rows n chain₀ picks count left₀ i₀ chain left i = count - i
 
--- what stands at the start of a turn
+-- what is at the start of a turn
 laid : (c : tie.At-loop Inv-loop μ-loop)
     → Laid (c .before .args .n) (c .before .args .rows .now) (c .before .args .chain .now) (c .before .args .picks .now) (c .before .args .count)
     (c .before .pre .0) (c .before .pre .1)

@@ -1,5 +1,5 @@
--- `runs::listing::call` meets its contract: 1, 2, 3 and on goes straight to the core (`plain-list`), what is no arrangement is refused
--- (`refused-list`), and any other order goes by place.
+-- `runs::listing::call` meets its contract: the plain order goes straight to the core (`plain-list`), what is no
+-- arrangement is refused (`refused-list`), and any other order goes by place.
 use denote.Ref.{now}
 use borrow.Author.Tests.{not-true, not-false}
 use Rattle.preference.proofs.Placing.{places-are, places-none}

@@ -1,5 +1,5 @@
--- `runs::ordered::call` meets its contract: 1, 2, 3 and on goes straight to the core (`plain-call`); any other order goes by order, with the flag as it
--- was found (`flag-found`).
+-- `runs::ordered::call` meets its contract: the plain order goes straight to the core (`plain-call`); any other order
+-- goes by order, with the flag as it was found (`flag-found`).
 use mathlib.Core.Bool.{true, false}
 use borrow.Author.Needs.{needs}
 use denote.Ref.{now}
