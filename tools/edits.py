@@ -2,7 +2,7 @@
 
 An edit is a file crates/NAME/must-fail/LABEL.edit. A piece of it is a line `# name`, words of which the last line ends in "Fails: `f`.", and one or more
 replacements: `file:` (which holds for what follows), `old:` and `new:`, a line each, for rt reads no second line. What stands above the first `# name`
-is the head of the file. tools/edit-logs and tools/bundle are built on it.
+is the head of the file. tools/edit-logs, tools/bundle and tools/names are built on it.
 
 In order: pieces; functions and constants of a source file; the functions that a piece changes; calls among functions.
 """

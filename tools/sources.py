@@ -1,7 +1,7 @@
 """Reads the repository's sources as text: the crates, the declarations of an antt file, its imports, and the contracts of a Rattle file.
 
 It knows the layout that `rt fmt` gives and no more: a declaration starts at its section's margin with its signature, and its clauses and fields
-follow. tools/trust-list and tools/unused are built on it.
+follow. tools/trust-list, tools/pins, tools/unused and tools/names are built on it.
 """
 
 import os
