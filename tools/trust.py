@@ -122,25 +122,33 @@ def entries():
                     yield crate, path, imports, name, line, sources.strip_comments(clauses, "//")
 
 
+THEOREM = re.compile(r"^((?:--.*\n)*)-- Theorem alone: `([^`]+)` in (proofs/[\w/]+)\.antt.*\n(?:--.*\n)*pub record (\S+)", re.M)
+
+
+class Theorem:
+    """A record of specs/ that says above it that a theorem alone has it: its crate, its file below that, its law and the law's file, and the words above."""
+
+    def __init__(self, crate, path, record, law, file, words):
+        self.crate, self.path, self.record, self.law, self.file, self.words = crate, path, record, law, file, words
+
+
 def theorems():
-    """(crate, path below it, record, law, its file) for each record of specs/ that says above it that a theorem alone has it."""
     found = []
     for crate in sources.crates():
         for path in sources.files(crate, "specs", ".antt"):
             below = os.path.relpath(path, os.path.join(sources.ROOT, "crates", crate))[: -len(".antt")]
-            text = sources.read(path)
-            for law, file, record in re.findall(r"^-- Theorem alone: `([^`]+)` in (proofs/[\w/]+)\.antt.*\n(?:--.*\n)*pub record (\S+)", text, re.M):
-                found.append((crate, below, record, law, file))
+            for words, law, file, record in THEOREM.findall(sources.read(path)):
+                found.append(Theorem(crate, below, record, law, file, " ".join(re.sub(r"^[\s-]+", "", w) for w in words.split("\n")).strip()))
     return found
 
 
 def collect(asked_for=None, but=()):
     """What the public contracts, and the theorems that no contract has, rest on; of these entries alone where some are given."""
     trust = Trust(but)
-    for crate, path, record, law, file in theorems() if asked_for is None else []:
-        trust.need(crate, path, record)
-        if not trust.has_law(crate, file, law, record):
-            trust.wrong.append(f"crates/{crate}/{file}.antt has no public law `{law}` that says `{record}`")
+    for claim in theorems() if asked_for is None else []:
+        trust.need(claim.crate, claim.path, claim.record)
+        if not trust.has_law(claim.crate, claim.file, claim.law, claim.record):
+            trust.wrong.append(f"crates/{claim.crate}/{claim.file}.antt has no public law `{claim.law}` that says `{claim.record}`")
     for e in asked_for or []:
         m = re.match(r"^(\w+)/((?:specs|proofs)/[\w/]+):(\S+)$", e)
         if m:
