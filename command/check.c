@@ -1,5 +1,6 @@
 /* check: whether a list that some lister wrote is the list of a table. It is said to be complete only where the run, called to its end, handed out as many
- * ladders as the list has entries, and each was one of them; so that it rests on what is promised of the run, and on nothing that is decided here.
+ * ladders as the list has entries, and each was one of them; so that no ladder is missing by what is promised of the run.
+ * That entries and ladders are compared and counted rightly is this file's, and is tested and not proved.
  *
  * Entries come from entries.c and are judged by the library (entry.c); the run goes beside them (course.c). A list in the run's order is gone through once,
  * in fixed memory. Where an entry comes behind a later one, the list is read again and its ladders are sorted (sorting.c). */

@@ -1,5 +1,6 @@
-/* planner: one command for every question of the core. It reads its words, calls the library of include/ragymolev.h, which decides everything, and
- * writes what that answers.
+/* planner: the questions of the core from a shell. It reads its words, calls the library of include/ragymolev.h, and writes what that answers. Which
+ * ladders there are, what a set of pairs is and where a file fails is the library's answer, which is proved; how a list is split, compared, sorted, saved
+ * and joined is decided here, which is tested.
  *
  * Here: what the files share, file by file. words.c has how the command ends and says so; request.c its words and options; numbers.c numbers, pairs and
  * preferences as they are typed; files.c what is read, output.c what is written; reasons.c and banner.c why a file was refused, witness.c why a set of
