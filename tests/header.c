@@ -38,14 +38,14 @@ static uint64_t runs(const rg_table *table, const rg_run *stored) {
            rg_list_gauges(RG_LEND(run), RG_BUDGET, RG_LEND(five)) | rg_explain_gauge(RG_LEND_CONST(*stored), 1, 1, RG_LEND(pick));
 }
 
-static uint64_t files(const uint8_t *file, size_t length) {
+static uint64_t files(const uint8_t *file, size_t length, const rg_test *stored, const rg_readings *stored_readings) {
     rg_span span;
     rg_test test;
     rg_readings readings;
     rg_table table;
     uint64_t answer;
     return rg_comment(file, length, 1, RG_LEND(span)) | rg_read_test(file, length, 1, RG_LEND(test), RG_LEND_READINGS(readings), RG_LEND(table)) |
-           rg_equal(RG_LEND(test), RG_LEND_READINGS(readings), RG_LEND(test), RG_LEND_READINGS(readings), RG_LEND(answer));
+           rg_equal(RG_LEND(test), RG_LEND_READINGS(readings), RG_LEND_CONST(*stored), RG_LEND_CONST_READINGS(*stored_readings), RG_LEND(answer));
 }
 
 int main(void) {
@@ -55,5 +55,7 @@ int main(void) {
     const rg_proposal proposal = {{3, 3, {3, 3, 6}}, {3, {3, 3, 2}}, 3, 1, RG_ONLY_CHAIN};
     const rg_run run = {RG_SIDE_GAUGES, {3, 3, {3, 3, 6}}, {{1, 2, 3}}, {0}, 0, RG_PHASE_DOWN, 0, 0};
     const uint8_t file[] = "%%MatrixMarket matrix coordinate pattern general\n3 3 0\n";
-    return questions(&table, &order, &chain, &proposal) | runs(&table, &run) | files(file, sizeof file - 1) ? 1 : RG_ACCEPTED;
+    const rg_test test = {RG_INTEGER, 3, 3, {1}};
+    const rg_readings readings = {{{-200}}};
+    return questions(&table, &order, &chain, &proposal) | runs(&table, &run) | files(file, sizeof file - 1, &test, &readings) ? 1 : RG_ACCEPTED;
 }
