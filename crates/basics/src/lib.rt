@@ -1,5 +1,7 @@
 // What any crate may use and none is about: a byte as a number and as an index, and the law that a clash of numbers proves anything (proofs/Clash.antt).
 // A cast of a byte in one expression with the place that it is read from asks more of a proof than both apart.
+#![tactic(auto)]
+
 ghost use Rattle.std.specs.Prelude.{◌≡◌};
 
 // A byte as a number.

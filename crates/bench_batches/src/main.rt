@@ -3,79 +3,100 @@
 // words of its buffer, at most 65,536, as one word of three numbers, and `omit` or `reversed` as for crate
 // `bench_runs`. It writes what that one writes: the number of ladders and a sum that depends on every row of each and
 // on their order.
-ghost use Rattle.std.specs.Prelude.{◌+◌, ◌≤◌, length};
+#![tactic(auto)]
+
+ghost use Rattle.std.specs.Prelude.{◌+◌, ◌≤◌, length, IfOk};
 
 use file_text::Fields;
-use libc::{STDIN_FILENO, STDOUT_FILENO};
 use preference::{CaseOrder, GaugeOrder};
 use refusals::Verdict;
 use runs::Outcome;
+use std::env::Env;
+use std::io;
+use std::io::Read;
 use table::Table;
 
 // The ladders so far, and their sum.
-#[derive(Drop)]
+#[derive(Clone, Copy)]
 struct Tally {
     count: u64,
     sum: u64,
 }
 
-fn main() {
-    let mut file = io::large_buffer();
-    let n = io::read_full(STDIN_FILENO, &mut file);
+fn main(rt: HostRuntime) -> io::Result<()> {
+    let mut file = [0u8; 65536];
+    let n = read_input(&mut rt.stdin(), &mut file)?;
     let made = file_reader::read(&file[..n]);
     let verdict = made.verdict;
     let t = made.table;
     match verdict {
-        Verdict::Accepted => answer(t),
-        Verdict::Refused(_) => {
-            io::write_all(STDOUT_FILENO, b"refused\n");
-        }
+        Verdict::Accepted => answer(&rt, t),
+        Verdict::Refused(_) => println!(rt; "refused"),
     }
+}
+
+// Reads until the buffer is full or the input ends, and gives how many bytes there are.
+fn read_input(input: &mut impl Read, file: &mut [u8]) -> io::Result<usize>
+    ensures { IfOk result (λ n. n ≤ length file.new) }
+{
+    let mut have: usize = 0;
+    while have < file.len() {
+        let more = input.read(&mut file[have..])?;
+        if more == 0 {
+            return Ok(have);
+        }
+        have += more;
+    }
+    Ok(have)
 }
 
 // Lists as the arguments ask.
-fn answer(t: Table) {
+fn answer(rt: &(impl Env + Print), t: Table) -> io::Result<()> {
     let mut word = [0u8; 64];
-    let n = os::arg(2, &mut word);
+    let n = argument(rt, 2, &mut word);
     let fields = file_text::fields_of(&word[..n]);
     match fields {
-        Fields::Three(budget, repeats, words) => tell(measured(t, budget, repeats, words)),
-        _ => {
-            io::write_all(
-                STDOUT_FILENO,
-                b"usage: SIDE 'BUDGET REPEATS WORDS' [omit|reversed]\n",
-            );
-        }
+        Fields::Three(budget, repeats, words) => tell(rt, measured(rt, t, budget, repeats, words)),
+        _ => println!(rt; "usage: SIDE 'BUDGET REPEATS WORDS' [omit|reversed]"),
     }
 }
 
-fn measured(t: Table, budget: u64, repeats: u64, words: u64) -> Tally {
-    let omit = is_given(3, b"omit");
+fn measured(rt: &impl Env, t: Table, budget: u64, repeats: u64, words: u64) -> Tally {
+    let omit = is_given(rt, 3, b"omit");
+    let backward = is_given(rt, 3, b"reversed");
     let room = words as usize;
     let mut space = [0u64; 65536];
-    if is_given(1, b"cases") {
-        return repeat_cases(t, omit, budget, repeats, &mut space, room);
+    if is_given(rt, 1, b"cases") {
+        return repeat_cases(t, omit, backward, budget, repeats, &mut space, room);
     }
-    repeat_gauges(t, omit, budget, repeats, &mut space, room)
+    repeat_gauges(t, omit, backward, budget, repeats, &mut space, room)
 }
 
 // Whether an argument is this word.
-fn is_given(place: usize, wanted: &[u8]) -> bool {
+fn is_given(rt: &impl Env, place: usize, wanted: &[u8]) -> bool {
     let mut word = [0u8; 64];
-    let n = os::arg(place, &mut word);
+    let n = argument(rt, place, &mut word);
     file_text::same_bytes(&word[..n], wanted)
 }
 
-fn tell(tally: Tally) {
-    io::print_decimal(STDOUT_FILENO, tally.count);
-    io::write_all(STDOUT_FILENO, b" ");
-    io::print_decimal(STDOUT_FILENO, tally.sum);
-    io::write_all(STDOUT_FILENO, b"\n");
+// An argument to the front of a buffer, and its length; 0 where there is none, or one that is longer than the buffer.
+fn argument(rt: &impl Env, place: usize, space: &mut [u8]) -> usize
+    ensures { result ≤ length space.new }
+{
+    match rt.arg(place, space) {
+        Ok(n) => n,
+        Err(_) => 0,
+    }
+}
+
+fn tell(rt: &impl Print, tally: Tally) -> io::Result<()> {
+    println!(rt; "{} {}", tally.count, tally.sum)
 }
 
 fn repeat_gauges(
     t: Table,
     omit: bool,
+    backward: bool,
     budget: u64,
     repeats: u64,
     out: &mut [u64],
@@ -84,7 +105,7 @@ fn repeat_gauges(
     let mut tally = Tally { count: 0, sum: 0 };
     let mut left = repeats;
     while 0 < left {
-        tally = list_gauges(t, omit, budget, tally, out, room);
+        tally = list_gauges(t, omit, backward, budget, tally, out, room);
         left -= 1;
     }
     tally
@@ -93,6 +114,7 @@ fn repeat_gauges(
 fn repeat_cases(
     t: Table,
     omit: bool,
+    backward: bool,
     budget: u64,
     repeats: u64,
     out: &mut [u64],
@@ -101,15 +123,15 @@ fn repeat_cases(
     let mut tally = Tally { count: 0, sum: 0 };
     let mut left = repeats;
     while 0 < left {
-        tally = list_cases(t, omit, budget, tally, out, room);
+        tally = list_cases(t, omit, backward, budget, tally, out, room);
         left -= 1;
     }
     tally
 }
 
 // The numbers of an order: 1, 2, 3, .., or from the last to the first.
-fn numbers(n: u64) -> [u8; 64] {
-    if is_given(3, b"reversed") {
+fn numbers(n: u64, backward: bool) -> [u8; 64] {
+    if backward {
         return reversed(n);
     }
     let plain = GaugeOrder::plain(n);
@@ -139,6 +161,7 @@ fn less(n: u64) -> u64 {
 fn list_gauges(
     t: Table,
     omit: bool,
+    backward: bool,
     budget: u64,
     before: Tally,
     out: &mut [u64],
@@ -148,7 +171,7 @@ fn list_gauges(
     if out.len() < room {
         return before;
     }
-    let start = runs::start_gauges(t, GaugeOrder(numbers(t.gauges)), omit);
+    let start = runs::start_gauges(t, GaugeOrder(numbers(t.gauges, backward)), omit);
     let mut run = start.run;
     let mut tally = before;
     let mut calls = u64::MAX;
@@ -181,6 +204,7 @@ fn list_gauges(
 fn list_cases(
     t: Table,
     omit: bool,
+    backward: bool,
     budget: u64,
     before: Tally,
     out: &mut [u64],
@@ -190,7 +214,7 @@ fn list_cases(
     if out.len() < room {
         return before;
     }
-    let start = runs::start_cases(t, CaseOrder(numbers(t.cases)), omit);
+    let start = runs::start_cases(t, CaseOrder(numbers(t.cases, backward)), omit);
     let mut run = start.run;
     let mut tally = before;
     let mut calls = u64::MAX;
@@ -249,7 +273,7 @@ fn with(tally: Tally, out: &[u64], at: usize, width: usize) -> Tally
     sum = sum ^ (sum >> 7);
     sum = sum ^ (sum << 17);
     Tally {
-        count: std::num::wrapping_add_u64(tally.count, 1),
+        count: tally.count.wrapping_add(1),
         sum: sum ^ folded(out, at, width),
     }
 }

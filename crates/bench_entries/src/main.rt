@@ -3,68 +3,91 @@
 // numbers. It writes a sum that depends on every answer: ladders and calls for `count`, the first row for `grow` and `read`, the length and a byte
 // for `write`. What is handed in differs from turn to turn, so that no call can be left out: `count` and `read` get a budget and a file that are
 // one shorter after an odd sum, `grow` a chain of one row, of each place in turn, `write` a buffer that was written before.
+#![tactic(auto)]
+
+ghost use Rattle.std.specs.Prelude.{◌≤◌, length, IfOk};
+
 use basics;
 use count::Count;
 use file_text::Fields;
 use file_writer::Written;
-use libc::{STDIN_FILENO, STDOUT_FILENO};
 use preference::GaugeOrder;
 use refusals::Verdict;
+use std::env::Env;
+use std::io;
+use std::io::Read;
 use table::{Chain, Table};
 
-fn main() {
-    let mut file = io::large_buffer();
-    let n = io::read_full(STDIN_FILENO, &mut file);
+fn main(rt: HostRuntime) -> io::Result<()> {
+    let mut file = [0u8; 65536];
+    let n = read_input(&mut rt.stdin(), &mut file)?;
     let made = file_reader::read(&file[..n]);
     let verdict = made.verdict;
     let t = made.table;
     match verdict {
-        Verdict::Accepted => answer(&file[..n], t),
-        Verdict::Refused(_) => {
-            io::write_all(STDOUT_FILENO, b"refused\n");
-        }
+        Verdict::Accepted => answer(&rt, &file[..n], t),
+        Verdict::Refused(_) => println!(rt; "refused"),
     }
+}
+
+// Reads until the buffer is full or the input ends, and gives how many bytes there are.
+fn read_input(input: &mut impl Read, file: &mut [u8]) -> io::Result<usize>
+    ensures { IfOk result (λ n. n ≤ length file.new) }
+{
+    let mut have: usize = 0;
+    while have < file.len() {
+        let more = input.read(&mut file[have..])?;
+        if more == 0 {
+            return Ok(have);
+        }
+        have += more;
+    }
+    Ok(have)
 }
 
 // Calls as the arguments ask.
-fn answer(file: &[u8], t: Table) {
+fn answer(rt: &(impl Env + Print), file: &[u8], t: Table) -> io::Result<()> {
     let mut word = [0u8; 64];
-    let n = os::arg(2, &mut word);
+    let n = argument(rt, 2, &mut word);
     let fields = file_text::fields_of(&word[..n]);
     match fields {
-        Fields::Two(budget, repeats) => tell(measured(file, t, budget, repeats)),
-        _ => {
-            io::write_all(
-                STDOUT_FILENO,
-                b"usage: count|grow|read|write 'BUDGET REPEATS'\n",
-            );
-        }
+        Fields::Two(budget, repeats) => tell(rt, measured(rt, file, t, budget, repeats)),
+        _ => println!(rt; "usage: count|grow|read|write 'BUDGET REPEATS'"),
     }
 }
 
-fn measured(file: &[u8], t: Table, budget: u64, repeats: u64) -> u64 {
-    if is_given(b"count") {
+fn measured(rt: &impl Env, file: &[u8], t: Table, budget: u64, repeats: u64) -> u64 {
+    if is_given(rt, b"count") {
         return repeat_count(t, budget, repeats);
     }
-    if is_given(b"grow") {
+    if is_given(rt, b"grow") {
         return repeat_grow(t, repeats);
     }
-    if is_given(b"read") {
+    if is_given(rt, b"read") {
         return repeat_read(file, repeats);
     }
     repeat_write(t, repeats)
 }
 
 // Whether the first argument is this word.
-fn is_given(wanted: &[u8]) -> bool {
+fn is_given(rt: &impl Env, wanted: &[u8]) -> bool {
     let mut word = [0u8; 64];
-    let n = os::arg(1, &mut word);
+    let n = argument(rt, 1, &mut word);
     file_text::same_bytes(&word[..n], wanted)
 }
 
-fn tell(sum: u64) {
-    io::print_decimal(STDOUT_FILENO, sum);
-    io::write_all(STDOUT_FILENO, b"\n");
+// An argument to the front of a buffer, and its length; 0 where there is none, or one that is longer than the buffer.
+fn argument(rt: &impl Env, place: usize, space: &mut [u8]) -> usize
+    ensures { result ≤ length space.new }
+{
+    match rt.arg(place, space) {
+        Ok(n) => n,
+        Err(_) => 0,
+    }
+}
+
+fn tell(rt: &impl Print, sum: u64) -> io::Result<()> {
+    println!(rt; "{sum}")
 }
 
 fn repeat_count(t: Table, budget: u64, repeats: u64) -> u64 {
@@ -142,7 +165,7 @@ fn first_row(file: &[u8], before: u64) -> u64 {
 }
 
 fn repeat_write(t: Table, repeats: u64) -> u64 {
-    let mut space = io::large_buffer();
+    let mut space = [0u8; 65536];
     let mut sum: u64 = 0;
     let mut left = repeats;
     while 0 < left {
@@ -170,7 +193,7 @@ fn byte_at(space: &[u8], place: u64) -> u64 {
 }
 
 fn plus(a: u64, b: u64) -> u64 {
-    std::num::wrapping_add_u64(a, b)
+    a.wrapping_add(b)
 }
 
 fn less(a: u64, b: u64) -> u64 {

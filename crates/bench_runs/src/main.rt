@@ -3,95 +3,117 @@
 // as one word of two numbers, and `omit` for a run that omits the ladders with no essential pair, or `reversed` for
 // one that prefers the last number to the first. It writes the number of ladders and a sum that depends on every row
 // of each and on their order. The plain lister in bench/plain.rs writes the same, never omits and goes by number.
+#![tactic(auto)]
+
+ghost use Rattle.std.specs.Prelude.{◌≤◌, length, IfOk};
+
 use file_text::Fields;
-use libc::{STDIN_FILENO, STDOUT_FILENO};
 use preference::{CaseOrder, GaugeOrder};
 use refusals::Verdict;
 use runs::Outcome;
+use std::env::Env;
+use std::io;
+use std::io::Read;
 use table::{Chain, Table};
 
 // The ladders so far, and their sum.
-#[derive(Drop)]
+#[derive(Clone, Copy)]
 struct Tally {
     count: u64,
     sum: u64,
 }
 
-fn main() {
-    let mut file = io::large_buffer();
-    let n = io::read_full(STDIN_FILENO, &mut file);
+fn main(rt: HostRuntime) -> io::Result<()> {
+    let mut file = [0u8; 65536];
+    let n = read_input(&mut rt.stdin(), &mut file)?;
     let made = file_reader::read(&file[..n]);
     let verdict = made.verdict;
     let t = made.table;
     match verdict {
-        Verdict::Accepted => answer(t),
-        Verdict::Refused(_) => {
-            io::write_all(STDOUT_FILENO, b"refused\n");
-        }
+        Verdict::Accepted => answer(&rt, t),
+        Verdict::Refused(_) => println!(rt; "refused"),
     }
+}
+
+// Reads until the buffer is full or the input ends, and gives how many bytes there are.
+fn read_input(input: &mut impl Read, file: &mut [u8]) -> io::Result<usize>
+    ensures { IfOk result (λ n. n ≤ length file.new) }
+{
+    let mut have: usize = 0;
+    while have < file.len() {
+        let more = input.read(&mut file[have..])?;
+        if more == 0 {
+            return Ok(have);
+        }
+        have += more;
+    }
+    Ok(have)
 }
 
 // Lists as the arguments ask.
-fn answer(t: Table) {
+fn answer(rt: &(impl Env + Print), t: Table) -> io::Result<()> {
     let mut word = [0u8; 64];
-    let n = os::arg(2, &mut word);
+    let n = argument(rt, 2, &mut word);
     let fields = file_text::fields_of(&word[..n]);
     match fields {
-        Fields::Two(budget, repeats) => tell(measured(t, budget, repeats)),
-        _ => {
-            io::write_all(
-                STDOUT_FILENO,
-                b"usage: SIDE 'BUDGET REPEATS' [omit|reversed]\n",
-            );
-        }
+        Fields::Two(budget, repeats) => tell(rt, measured(rt, t, budget, repeats)),
+        _ => println!(rt; "usage: SIDE 'BUDGET REPEATS' [omit|reversed]"),
     }
 }
 
-fn measured(t: Table, budget: u64, repeats: u64) -> Tally {
-    let omit = is_given(3, b"omit");
-    if is_given(1, b"cases") {
-        return repeat_cases(t, omit, budget, repeats);
+fn measured(rt: &impl Env, t: Table, budget: u64, repeats: u64) -> Tally {
+    let omit = is_given(rt, 3, b"omit");
+    let backward = is_given(rt, 3, b"reversed");
+    if is_given(rt, 1, b"cases") {
+        return repeat_cases(t, omit, backward, budget, repeats);
     }
-    repeat_gauges(t, omit, budget, repeats)
+    repeat_gauges(t, omit, backward, budget, repeats)
 }
 
 // Whether an argument is this word.
-fn is_given(place: usize, wanted: &[u8]) -> bool {
+fn is_given(rt: &impl Env, place: usize, wanted: &[u8]) -> bool {
     let mut word = [0u8; 64];
-    let n = os::arg(place, &mut word);
+    let n = argument(rt, place, &mut word);
     file_text::same_bytes(&word[..n], wanted)
 }
 
-fn tell(tally: Tally) {
-    io::print_decimal(STDOUT_FILENO, tally.count);
-    io::write_all(STDOUT_FILENO, b" ");
-    io::print_decimal(STDOUT_FILENO, tally.sum);
-    io::write_all(STDOUT_FILENO, b"\n");
+// An argument to the front of a buffer, and its length; 0 where there is none, or one that is longer than the buffer.
+fn argument(rt: &impl Env, place: usize, space: &mut [u8]) -> usize
+    ensures { result ≤ length space.new }
+{
+    match rt.arg(place, space) {
+        Ok(n) => n,
+        Err(_) => 0,
+    }
 }
 
-fn repeat_gauges(t: Table, omit: bool, budget: u64, repeats: u64) -> Tally {
+fn tell(rt: &impl Print, tally: Tally) -> io::Result<()> {
+    println!(rt; "{} {}", tally.count, tally.sum)
+}
+
+fn repeat_gauges(t: Table, omit: bool, backward: bool, budget: u64, repeats: u64) -> Tally {
     let mut tally = Tally { count: 0, sum: 0 };
     let mut left = repeats;
     while 0 < left {
-        tally = list_gauges(t, omit, budget, tally);
+        tally = list_gauges(t, omit, backward, budget, tally);
         left -= 1;
     }
     tally
 }
 
-fn repeat_cases(t: Table, omit: bool, budget: u64, repeats: u64) -> Tally {
+fn repeat_cases(t: Table, omit: bool, backward: bool, budget: u64, repeats: u64) -> Tally {
     let mut tally = Tally { count: 0, sum: 0 };
     let mut left = repeats;
     while 0 < left {
-        tally = list_cases(t, omit, budget, tally);
+        tally = list_cases(t, omit, backward, budget, tally);
         left -= 1;
     }
     tally
 }
 
 // The numbers of an order: 1, 2, 3, .., or from the last to the first.
-fn numbers(n: u64) -> [u8; 64] {
-    if is_given(3, b"reversed") {
+fn numbers(n: u64, backward: bool) -> [u8; 64] {
+    if backward {
         return reversed(n);
     }
     let plain = GaugeOrder::plain(n);
@@ -118,8 +140,8 @@ fn less(n: u64) -> u64 {
 }
 
 // The gauge run from its fresh start to its end, or to a refusal.
-fn list_gauges(t: Table, omit: bool, budget: u64, before: Tally) -> Tally {
-    let start = runs::start_gauges(t, GaugeOrder(numbers(t.gauges)), omit);
+fn list_gauges(t: Table, omit: bool, backward: bool, budget: u64, before: Tally) -> Tally {
+    let start = runs::start_gauges(t, GaugeOrder(numbers(t.gauges, backward)), omit);
     let mut run = start.run;
     let mut tally = before;
     let mut calls = u64::MAX;
@@ -150,8 +172,8 @@ fn list_gauges(t: Table, omit: bool, budget: u64, before: Tally) -> Tally {
 }
 
 // The case run likewise.
-fn list_cases(t: Table, omit: bool, budget: u64, before: Tally) -> Tally {
-    let start = runs::start_cases(t, CaseOrder(numbers(t.cases)), omit);
+fn list_cases(t: Table, omit: bool, backward: bool, budget: u64, before: Tally) -> Tally {
+    let start = runs::start_cases(t, CaseOrder(numbers(t.cases, backward)), omit);
     let mut run = start.run;
     let mut tally = before;
     let mut calls = u64::MAX;
@@ -189,7 +211,7 @@ fn with(tally: Tally, ladder: Chain) -> Tally {
     sum = sum ^ (sum >> 7);
     sum = sum ^ (sum << 17);
     Tally {
-        count: std::num::wrapping_add_u64(tally.count, 1),
+        count: tally.count.wrapping_add(1),
         sum: sum ^ folded(&rows, ladder.gauges),
     }
 }

@@ -212,7 +212,7 @@ lent_none g l omit room z = record {
   called = λ a b c. absurd (z a b c);
 }
 
-pub lent_times : (g l : ℕ) (omit : Bool) (room k : ℕ) → 1 ≤ g → k * g ≤ 1024 → 1 ≤ k → (omit ≡ true → k ≡ 1)
+lent_times : (g l : ℕ) (omit : Bool) (room k : ℕ) → 1 ≤ g → k * g ≤ 1024 → 1 ≤ k → (omit ≡ true → k ≡ 1)
     → (k - 1) * most_bytes g l + longest ≤ room → Lent g l omit room (k * g)
 lent_times g l omit room k a few some one called = record {
   few = few;

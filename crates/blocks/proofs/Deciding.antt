@@ -16,7 +16,7 @@ use lib.ListN.{length, drop}
 use Rattle.table.specs.declared.Table.{Table}
 use Rattle.refusals.specs.declared.Verdict.{Verdict}
 use Rattle.refusals.proofs.Answering.{verdict_injective}
-use Rattle.rules.specs.Machine.{State, at}
+use Rattle.rules.specs.Machine.{State}
 use Rattle.lists.specs.Lists.{gauge_side}
 use Rattle.runs.specs.Paused.{Value, paused}
 use Rattle.runs.specs.Calling.{value_refusal, PausedAt}

@@ -118,7 +118,7 @@ module _ (t : Table) (before : List ℕ) (at : ℕ) (low : at ≤ length before)
       ap (λ (z : List ℕ). take at before ++ (ys ++ z)) (drop_of_length-le (drop at before) {i = length before - at} (omega (arith, length-drop at before)))
       ∙ ap (λ (z : List ℕ). take at before ++ z) (append-nil ys)
 
-  pub put_fits : (n : ℕ) → record { refusal = 0; value = n } ≡ write_answer t (length part) → at + n ≤ length before
+  put_fits : (n : ℕ) → record { refusal = 0; value = n } ≡ write_answer t (length part) → at + n ≤ length before
   put_fits n e =
       let z : write_refusal t (length part) ≡ 0 = sym (ap (λ (a : Reading ℕ). a.refusal) e) in
       let m : n ≡ length (write_file t) = rw z at (ap (λ (a : Reading ℕ). a.value) e) in

@@ -2,6 +2,8 @@
 // for sure, and the blocks one after another are the files of the run's list. In each call of the greatest budget a run that omits nothing
 // hands a ladder out or ends; one that omits may be spent, and its block stops there. The calls are made in batches, so that a value is checked
 // and copied once for many ladders. No public function has a `requires`; nothing outside the lent buffer is kept.
+#![tactic(auto)]
+
 ghost use Rattle.std.specs.Prelude.{◌≡◌, false, ◌+◌, ◌≤◌, ◌<◌, length, take, drop};
 ghost use Rattle.table.specs.Tables.{padded};
 ghost use Rattle.refusals.specs.Answers.{verdict, number};
@@ -27,7 +29,7 @@ const LONGEST: usize = 23_484;
 const WORDS: usize = 1024;
 
 // A block: the run after its calls, the bytes used, and whether the list ended in it; or a refusal.
-#[derive(Drop)]
+#[derive(Clone, Copy)]
 pub struct Block {
     pub verdict: Verdict,
     pub run: GaugeRun,
@@ -36,7 +38,7 @@ pub struct Block {
 }
 
 // One turn: the run after it, the place behind what was written, whether nothing was handed out, and whether the list ended.
-#[derive(Drop)]
+#[derive(Clone, Copy)]
 struct Turn {
     run: GaugeRun,
     next: usize,

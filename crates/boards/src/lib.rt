@@ -1,5 +1,7 @@
 // Sets of at most 8 gauges by 8 cases as one number of 64 bits: the board of a table's or a chain's rows, and the chain of a board.
 // Any rows and any number are taken, nothing is refused, and no memory that is lent changes.
+#![tactic(auto)]
+
 ghost use Rattle.std.specs.Prelude.{◌≡◌};
 ghost use Rattle.table.specs.Tables.{padded};
 ghost use Rattle.boards.specs.Boards.{board as board_of, board_rows, corner};

@@ -1,5 +1,7 @@
 // Judging and growing chains, rivals and deciding pairs, on lent words: what the C library's entries of these names do. Any slices are taken: a slice
 // shorter than its layout is refused with 100 before anything else, and a refusal leaves every word as it was. No function has a `requires`.
+#![tactic(auto)]
+
 ghost use Rattle.std.specs.Prelude.{◌≡◌};
 ghost use Rattle.table.specs.declared.Table.{Table};
 ghost use Rattle.table.specs.declared.Chain.{Chain};

@@ -1,5 +1,7 @@
 // The fewest ladders that hold every pair, on lent words: what the C library's entry of this name does. Any slices are taken: a slice shorter than
 // its layout is refused with 100 before anything else, and a refusal leaves every word as it was. No public function has a `requires`.
+#![tactic(auto)]
+
 ghost use Rattle.std.specs.Prelude.{◌≡◌};
 ghost use Rattle.mechanisms.specs.Covering.{cover_outcome_says};
 ghost use Rattle.c_covers.specs.Serving.{reply_number, reply_kind, PutChains, CoversWords};

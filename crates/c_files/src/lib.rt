@@ -1,6 +1,8 @@
 // Reading and writing files of pairs, finding the line that decides and looking up comments, on lent words and bytes: what the C library's entries of these
 // names do. Any slices are taken: a slice of words shorter than its layout is refused with 100 before anything else, and a refusal leaves all lent memory
 // as it was. No function has a `requires`.
+#![tactic(auto)]
+
 ghost use Rattle.std.specs.Prelude.{◌≡◌};
 ghost use Rattle.file_reader.specs.Comments.{found as found_as};
 ghost use Rattle.file_writer.specs.Writing.{written as written_as};

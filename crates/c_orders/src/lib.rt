@@ -1,6 +1,8 @@
 // Pair by pair from a chain to a ladder, on lent words and bytes: what the C library's entry of this name does. Any slices are taken: a slice of
 // words shorter than its layout is refused with 100 before anything else, and a refusal leaves all lent memory as it was. No function has a
 // `requires`.
+#![tactic(auto)]
+
 ghost use Rattle.std.specs.Prelude.{◌≡◌};
 ghost use Rattle.pair_orders.specs.Adding.{OrderClaims};
 ghost use Rattle.wiring.specs.Wiring.{ordered as ordered_as};

@@ -1,6 +1,8 @@
 // Why a pair is not in the ladder of a paused run, on lent words: what the C library's entries of these names do. Any slices are taken: a slice
 // shorter than its layout is refused with 100 before anything else, and a refusal leaves every word as it was. Each entry is the function of either side
 // with its own side's mark. No function has a `requires`.
+#![tactic(auto)]
+
 ghost use Rattle.lists.specs.Lists.{gauge_side, case_side};
 ghost use Rattle.runs.specs.Sides.{side_of};
 ghost use Rattle.explain.specs.Reasons.{gauge_question, case_question, question_of};

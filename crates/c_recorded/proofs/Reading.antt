@@ -1,7 +1,7 @@
 -- A test by what was read, and what reading says of it: what is put reads back (`test_words`, `test_back`), and a
 -- word that is no kind gets 10, or else 11 (`no_kind_shape`, `no_kind_rest`, `no_kind_refused`).
 --
--- Pins, which nothing else cites: `test_words`.
+-- Pins, which nothing else cites: `test_words_lem`.
 use mathlib.Core.Path.{◌≡◌, refl, ap, sym, ◌∙◌}
 use mathlib.Core.Bool.{Bool, true, false, ◌&&◌, ◌||◌, cond}
 use mathlib.Core.Logic.{◌⊎◌, inl, inr}

@@ -1,6 +1,8 @@
 // Recorded tests on lent words, readings and bytes: what the C library's entries of these names do. A test is lent as two slices, its kind, shape and
 // entries in words and its readings beside them. Any slices are taken: one shorter than its layout is refused with 100 before anything else, and a
 // refusal leaves all lent memory as it was. No function has a `requires`.
+#![tactic(auto)]
+
 ghost use Rattle.std.specs.Prelude.{◌≡◌, true, cond, ◌↔◌, set};
 ghost use Rattle.recorded.specs.Tests.{reading};
 ghost use Rattle.words.specs.Layouts.{Put};

@@ -1,6 +1,8 @@
 // The fresh starts and the run calls of both sides, on lent words: what the C library's entries of these names do. Any slices are taken: a slice
 // shorter than its layout is refused with 100 before anything else, and a refusal leaves every word as it was. Each entry is the function of either side
 // with its own side's mark. No function has a `requires`.
+#![tactic(auto)]
+
 ghost use Rattle.lists.specs.Lists.{gauge_side, case_side};
 ghost use Rattle.runs.specs.Sides.{side_of};
 ghost use Rattle.run_words.specs.Values.{side_word};

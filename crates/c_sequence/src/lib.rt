@@ -1,6 +1,8 @@
 // The pick sequence of a ladder, on lent words: what the C library's entries of these names do. One function of
 // either side is below both. Any slices are taken: a slice shorter than its layout is refused with 100 before
 // anything else, and a refusal leaves every word as it was. No function has a `requires`.
+#![tactic(auto)]
+
 ghost use Rattle.lists.specs.Lists.{gauge_side, case_side};
 ghost use Rattle.runs.specs.Sides.{side_of};
 ghost use Rattle.sequence.specs.Sequencing.{Sequenced};
@@ -18,7 +20,7 @@ use words::{CHAIN, ORDER, SHORT, TABLE};
 const NUMBERS: usize = 64;
 
 // The pick sequence of either side, or a refusal.
-#[derive(Drop)]
+#[derive(Clone, Copy)]
 struct Found {
     pub verdict: Verdict,
     pub numbers: [u8; 64],

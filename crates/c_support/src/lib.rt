@@ -1,6 +1,8 @@
 // What a caller of the C library asks for beside its questions: the number of the release, a refusal in words, and
 // the plain order. Any slices are taken: a slice shorter than its layout is refused with 100 before anything else,
 // and a refusal leaves all lent memory as it was. The public functions have no `requires`.
+#![tactic(auto)]
+
 ghost use Rattle.std.specs.Prelude.{◌≡◌, ◌≤◌, length, get_or};
 ghost use Rattle.words.specs.Layouts.{Put};
 ghost use Rattle.c_support.specs.Words.{words_of};
@@ -28,7 +30,7 @@ const BYTES: usize = 80;
 const LENGTH: usize = 1;
 
 // Words as lent memory has them, padded with zeros, and how many bytes they are.
-#[derive(Drop)]
+#[derive(Clone, Copy)]
 struct Text {
     pub bytes: [u8; 80],
     pub length: u64,

@@ -1,5 +1,7 @@
 // Trials and commits, on lent words: what the C library's entries of these names do. Any slices are taken: a slice shorter than its layout is refused
 // with 100 before anything else, and a refusal leaves every word as it was. No function has a `requires`.
+#![tactic(auto)]
+
 ghost use Rattle.std.specs.Prelude.{◌≡◌};
 ghost use Rattle.words.specs.Layouts.{Put};
 ghost use Rattle.c_trials.specs.Serving.{effect_of, effect_word, place_word, proposal_at, proposal_words, Tries, Commits};

@@ -30,6 +30,7 @@ use Rattle.conflicts.proofs.Searching.{row_below}
 module _ (r : List ℕ) where
   common-row : (p : List ℕ) (x g : ℕ) → Memᴰ g p → common r p x ⊆ row r g
   unfolding common
+  common-row [] x g m = elim m [ ]
   common-row (h ∷ p) x g (Memᴰ.head e) =
       rw e (sub_trans (common r p (meet x (row r h))) (meet x (row r h)) (row r h) (common_sub r p (meet x (row r h))) (meet_right x (row r h)))
   common-row (h ∷ p) x g (Memᴰ.tail m) = common-row p (meet x (row r h)) g m

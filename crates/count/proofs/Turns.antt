@@ -133,7 +133,7 @@ module _ (u : List ℕ) (left : ℕ) where
 
 -- ---- the loop
 -- the next candidate, or the end, is above the last
-pub next_above : (c : ℕ → Bool) (g h : ℕ) → g < 64 → FirstOf c (g + 1) 64 h → g < h
+next_above : (c : ℕ → Bool) (g h : ℕ) → g < 64 → FirstOf c (g + 1) 64 h → g < h
 next_above c g h l f = go (dec_lt h 64)
   where
     go : Dec (h < 64) → g < h

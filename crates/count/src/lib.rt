@@ -1,6 +1,8 @@
 // Counting the ladders of a table before a run lists them (02, R-4): by recursion on the gauges not yet picked, one call for each pick
 // sequence that the rules can reach under an order of the gauges (R-12), up to a budget of calls. Any table, any order and any budget are taken; 10,
 // 11, 27 and 18 are refused. The one function that another crate can call has no `requires` and is lent no memory.
+#![tactic(auto)]
+
 ghost use Rattle.std.specs.Prelude.{◌≡◌, ◌<◌};
 ghost use Rattle.std.specs.Int.Count.{ones};
 ghost use Rattle.search.specs.Finding.{within};
@@ -24,14 +26,14 @@ const PLACES: usize = 64;
 const ALL: u64 = 0xffff_ffff_ffff_ffff;
 
 // A count gone to its end: the ladders, and the calls made.
-#[derive(Drop)]
+#[derive(Clone, Copy)]
 pub struct Tally {
     pub ladders: u64,
     pub calls: u64,
 }
 
 // What counting answers; `Spent` has the calls made, which are the budget, and no count.
-#[derive(Drop)]
+#[derive(Clone, Copy)]
 pub enum Count {
     Counted(Tally),
     Spent(u64),
@@ -39,7 +41,7 @@ pub enum Count {
 }
 
 // The count below one pick sequence, or that the budget was used up there.
-#[derive(Drop)]
+#[derive(Clone, Copy)]
 enum Below {
     Whole(Tally),
     Spent,

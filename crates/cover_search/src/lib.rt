@@ -3,6 +3,8 @@
 // 1; it stops as soon as nothing is uncovered." One function for each uncovered set, one for each next ladder; they
 // call each other, falling on k and on the ladders. Any boards and any budget are taken, nothing is refused, and no
 // memory that is lent to the public function changes.
+#![tactic(auto)]
+
 ghost use Rattle.std.specs.Prelude.{◌+◌, ◌≤◌, ◌<◌};
 ghost use Rattle.cover_search.specs.Spending.{spend, no_boards, up_to, Finds};
 ghost use Rattle.cover_search.specs.private.Trying.{covering, trying};
@@ -13,7 +15,7 @@ use sets;
 const MOST: usize = 8;
 
 // What a search that may try so many ladders finds.
-#[derive(Drop)]
+#[derive(Clone, Copy)]
 pub enum Search {
     // a cover: how many ladders may still be tried, and the ladders that it has
     Cover(u64, usize),
@@ -24,7 +26,7 @@ pub enum Search {
 }
 
 // What the search found, and the cover, padded with zeros.
-#[derive(Drop)]
+#[derive(Clone, Copy)]
 pub struct Found {
     pub search: Search,
     pub cover: [u64; 8],

@@ -184,7 +184,7 @@ module _ (r : List ℕ) (g kept rest after k : ℕ) (b : Bool) (s : Keeping r g 
         and-true true = refl
         and-true false = refl
 
-    pub keeping-out : b ≡ true → Keeping r g kept' after
+    keeping-out : b ≡ true → Keeping r g kept' after
     keeping-out d = record {
       passed = passed_more (Kept kept) (Kept kept') (row r g) rest after k s.passed e x
           (λ j z y. subst (λ (v : Bool). T v ↔ Essential r (suc g) (suc j)) (sym (other j z)) y)

@@ -4,6 +4,8 @@
 // rows for each pair (specs/private/Unions.antt), kept in a store: at most 64 * 64 * 64 steps on sets for the store
 // and as many for a pair's comparisons; for all pairs at most 64 * 64 * 64 * 64 of a few operations each, and no more
 // than there are pairs with at least the same conflicts.
+#![tactic(auto)]
+
 ghost use Rattle.std.specs.Prelude.{◌≡◌, ◌↔◌, true, ◌+◌, ◌≤◌, ◌<◌};
 ghost use Rattle.table.specs.Tables.{table_rows, table_refusal, no_rows};
 ghost use Rattle.refusals.specs.Answers.{refused, verdict};
@@ -21,13 +23,13 @@ use table;
 use table::{Case, Gauge, Table};
 
 // A set of a table's pairs, by gauge rows; in general no chain.
-#[derive(Drop)]
+#[derive(Clone, Copy)]
 pub struct PairSet {
     pub rows: [u64; 64],
 }
 
 // The pairs that were asked for, or a refusal with no pairs.
-#[derive(Drop)]
+#[derive(Clone, Copy)]
 pub struct FoundPairs {
     pub verdict: Verdict,
     pub pairs: PairSet,

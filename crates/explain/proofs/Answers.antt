@@ -108,8 +108,8 @@ named_answer n m x w a b d = rw (a, b, d)
 works_rows : (s : Side) (n : ℕ) (R : List ℕ) → Works s n R → RowsOf s R
 works_rows s n R w = record {
   row_is = λ j l.
-      sym (get_or-take n R j 0 (omega (arith, ap length w.rows-are, length-take-le n R (omega (arith, w.sized.few, w.sized.size)))))
-      ∙ ap (λ (x : List ℕ). row x j) w.rows-are;
+      sym (get_or-take n R j 0 (omega (arith, ap length w.rows_are, length-take-le n R (omega (arith, w.sized.few, w.sized.size)))))
+      ∙ ap (λ (x : List ℕ). row x j) w.rows_are;
 }
 
 pub gauge_rows : (t : Table) → Legal t → RowsOf (gauge_side t) t.rows

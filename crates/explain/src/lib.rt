@@ -3,6 +3,8 @@
 // crates that do the same on both sides use. A ladder is a maximal chain. Any paused value and any numbers are taken:
 // 10, 11, 27, 15, 19 and 22 are refused, with a blank pick beside a refusal, and nothing is lent. The pick sequence
 // itself is in the answer of a run call, crate `runs`.
+#![tactic(auto)]
+
 mod side;
 
 ghost use Rattle.lists.specs.Lists.{gauge_side, case_side};
@@ -16,14 +18,14 @@ pub use side::{SideReason, explain};
 use table::{Case, Gauge};
 
 // The gauge that rules a pair out, or a refusal with gauge 0.
-#[derive(Drop)]
+#[derive(Clone, Copy)]
 pub struct GaugeReason {
     pub verdict: Verdict,
     pub pick: Gauge,
 }
 
 // The case that rules a pair out, or a refusal with case 0.
-#[derive(Drop)]
+#[derive(Clone, Copy)]
 pub struct CaseReason {
     pub verdict: Verdict,
     pub pick: Case,

@@ -18,7 +18,7 @@ use table::{Case, Gauge, Table};
 use transpose;
 
 // The pick that rules a pair out, or a refusal with 0.
-#[derive(Drop)]
+#[derive(Clone, Copy)]
 pub struct SideReason {
     pub verdict: Verdict,
     pub pick: u64,

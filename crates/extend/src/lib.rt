@@ -2,6 +2,8 @@
 // order and chain are taken, however malformed; 10, 11, 27 and 12 to 14 are refused in this order, and a refusal has the blank chain beside it.
 // No maximal chains are listed: each turn picks the lowest candidate that still leaves room for the rest of the chain, at most 64 turns of at
 // most 64 * 64 steps, on the rows as the order has them.
+#![tactic(auto)]
+
 ghost use Rattle.std.specs.Prelude.{◌≡◌, ◌≤◌, ◌<◌};
 ghost use Rattle.table.specs.Chains.{IsChain};
 ghost use Rattle.table.specs.Tables.{chain_rows, blank_chain};
@@ -24,7 +26,7 @@ use table;
 use table::{Chain, Table};
 
 // A maximal chain, or a refusal with the blank chain. `extended` in specs/Extending.antt reads it.
-#[derive(Drop)]
+#[derive(Clone, Copy)]
 pub struct Extended {
     pub verdict: Verdict,
     pub chain: Chain,

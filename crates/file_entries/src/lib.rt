@@ -1,6 +1,8 @@
 // The fields of an entry line `g c v` of an integer file (02, R-5): two numbers as in every line, and a reading that may have a sign. Any
 // bytes are taken, nothing is refused here and no lent memory changes; no public function has a `requires`. Which entries are in range is
 // in `kinds`; the fields of lines without a sign are in `text`.
+#![tactic(auto)]
+
 ghost use Rattle.std.specs.Prelude.{◌≡◌, false, ◌≤◌, ◌<◌, ◌^◌, length, get_or, drop};
 ghost use Rattle.file_text.specs.Fields.{is_blank};
 ghost use Rattle.file_entries.specs.Values.{is_minus, unsigned, with_sign, value_of};
@@ -12,7 +14,7 @@ ghost use Rattle.file_entries.specs.private.ValueSteps.{NumberIs, signed_says};
 const MOST_DIGITS: usize = 9;
 
 // The fields of an entry line: none, or a gauge, a case and a reading; any other line is malformed.
-#[derive(Drop)]
+#[derive(Clone, Copy)]
 pub enum EntryFields {
     Blank,
     Entry(u64, u64, i32),
@@ -20,21 +22,21 @@ pub enum EntryFields {
 }
 
 // A part of a line.
-#[derive(Drop)]
+#[derive(Clone, Copy)]
 struct Cut {
     pub start: usize,
     pub end: usize,
 }
 
 // The first word from a place on, with its end.
-#[derive(Drop)]
+#[derive(Clone, Copy)]
 enum Word {
     At(usize, usize),
     Nothing,
 }
 
 // No word, three words, or another number of them.
-#[derive(Drop)]
+#[derive(Clone, Copy)]
 enum Three {
     Blank,
     Words(Cut, Cut, Cut),
@@ -42,14 +44,14 @@ enum Three {
 }
 
 // The number of a word, or that it is none.
-#[derive(Drop)]
+#[derive(Clone, Copy)]
 enum Digits {
     Number(u64),
     Malformed,
 }
 
 // The reading of a word, or that it is none.
-#[derive(Drop)]
+#[derive(Clone, Copy)]
 enum Signed {
     Value(i32),
     Malformed,

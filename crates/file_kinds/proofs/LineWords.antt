@@ -30,7 +30,7 @@ use Rattle.file_kinds.specs.declared.HeadLine.TheVariants.{Size, Skip as skip_he
 use Rattle.file_kinds.specs.declared.EntryLine.{EntryLine}
 use Rattle.file_kinds.specs.declared.EntryLine.TheVariants.{Entry, Skip as skip_entry, Bad as bad_entry}
 use Rattle.file_kinds.specs.OneLine.{PassedLine, ThreeFields, SizeLine, BlankLine, EntryWords, pair, reading, EntryIs}
-use Rattle.file_kinds.specs.OneLine.{BadHead, head_long, head_fields, head_range, BadEntry, entry_long, entry_fields_lem, entry_range, entry_reach}
+use Rattle.file_kinds.specs.OneLine.{BadHead, head_long, head_fields, head_range, BadEntry, entry_long, entry_malformed, entry_range, entry_reach}
 use Rattle.refusals.specs.declared.Refusal.{Refusal}
 
 -- ---- the fields of a line, by its words
@@ -431,7 +431,7 @@ module _ (kind : Kind) (gs : Gauge) (cs : Case) (t : List ℕ) where
   of_bad why h other_fields q e =
       let w : PairFields ≡ why = cc in
       subst (BadEntry kind gs.0 cs.0 t) w
-      (entry_fields_lem h (λ z. let k : other_fields ≡ no_fields = sym q ∙ (by_blank kind t).1 z in clash (cc))
+      (entry_malformed h (λ z. let k : other_fields ≡ no_fields = sym q ∙ (by_blank kind t).1 z in clash (cc))
       (λ g c v z. let k : other_fields ≡ fields_of g c v = sym q ∙ (by_entry kind t g c v).1 z in clash (cc)))
   of_bad why h (fields_of a b v) q e = go (in_range gs.0 a) refl (in_range cs.0 b) refl (in_reach v) refl
     where
@@ -464,7 +464,7 @@ module _ (kind : Kind) (gs : Gauge) (cs : Case) (t : List ℕ) where
   bad_from : (why : Refusal) → BadEntry kind gs.0 cs.0 t why → entry_line kind gs cs t ≡ bad_entry why
   unfolding entry_of entry_line
   bad_from why (entry_long h) = rw (lt-ltb 1024 (length t) h)
-  bad_from why (entry_fields_lem h b n) = short_line kind gs cs t h ∙ bad_short (fields_by kind t) refl b n
+  bad_from why (entry_malformed h b n) = short_line kind gs cs t h ∙ bad_short (fields_by kind t) refl b n
   bad_from why (entry_range {g} {c} {v} h f n) =
       short_line kind gs cs t h ∙ ap (entry_of gs cs) ((by_entry kind t g c v).1 f) ∙ (rw (outside g c n))
   bad_from why (entry_reach {g} {c} {v} h f p q r) =

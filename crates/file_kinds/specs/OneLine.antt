@@ -82,7 +82,7 @@ pub data BadHead (t : Text) : Refusal → Type 0 where
 -- after the size line is a malformed pair line"
 pub data BadEntry (kind : Kind) (gauges cases : ℕ) (t : Text) : Refusal → Type 0 where
   entry_long : 1024 < length t → BadEntry kind gauges cases t LineTooLong
-  entry_fields_lem : Short t → ¬ Blank t → ((g c : ℕ) (v : ℤ) → ¬ EntryWords (words t) g c kind v) → BadEntry kind gauges cases t PairFields
+  entry_malformed : Short t → ¬ Blank t → ((g c : ℕ) (v : ℤ) → ¬ EntryWords (words t) g c kind v) → BadEntry kind gauges cases t PairFields
   entry_range : {g c : ℕ} {v : ℤ} → Short t → EntryWords (words t) g c kind v → ¬ (UpTo gauges g × UpTo cases c) → BadEntry kind gauges cases t PairRange
   entry_reach : {g c : ℕ} {v : ℤ} → Short t → EntryWords (words t) g c kind v → UpTo gauges g → UpTo cases c → 1000000 < nat_abs v
       → BadEntry kind gauges cases t ReadingRange

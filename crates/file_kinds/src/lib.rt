@@ -2,6 +2,8 @@
 // comment lines, lines ahead of the entries, entry lines. Each function judges one line, lent without its end, whatever its bytes are: none
 // has a `requires`, and none changes lent memory. Lines and fields are made in `text` and `entries`; the lines of a whole file are gone
 // through in `reader`. A kind of file comes in here, in `first_line` and in `fields_by`, and nowhere else.
+#![tactic(auto)]
+
 ghost use Rattle.std.specs.Prelude.{◌≡◌};
 ghost use Rattle.file_kinds.specs.Banner.{is_of_kind, first_line, first_line_says};
 ghost use Rattle.file_kinds.specs.Kinds.{is_comment, head_line, head_line_says, pair_fields, fields_by, entry_line, entry_line_says};
@@ -22,14 +24,14 @@ const OPENING: usize = 14;
 const MOST_READING: u64 = 1_000_000;
 
 // A first line: the banner of a kind of file, or not one that is taken.
-#[derive(Drop)]
+#[derive(Clone, Copy)]
 pub enum FirstLine {
     Banner(Kind),
     Other,
 }
 
 // A line ahead of the entries: passed over; the size line, with the last gauge, the last case and the number of entries; or refused.
-#[derive(Drop)]
+#[derive(Clone, Copy)]
 pub enum HeadLine {
     Skip,
     Size(Gauge, Case, u64),
@@ -37,7 +39,7 @@ pub enum HeadLine {
 }
 
 // A line behind the size line: passed over, an entry with its reading, or refused.
-#[derive(Drop)]
+#[derive(Clone, Copy)]
 pub enum EntryLine {
     Skip,
     Entry(Gauge, Case, i32),

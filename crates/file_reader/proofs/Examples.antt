@@ -21,7 +21,7 @@ use Rattle.file_entries.specs.Words.{words}
 use Rattle.file_kinds.specs.Banner.{banner_of}
 use Rattle.file_kinds.specs.Kinds.{fields_by, entry_of, entry_line}
 use Rattle.refusals.specs.declared.Refusal.TheVariants.{FileTooLong}
-use Rattle.file_reader.specs.Files.{Fault, too_long_lem}
+use Rattle.file_reader.specs.Files.{Fault, file_too_long}
 use Rattle.file_reader.specs.Promises.{TableOfFile, TestAndTable, TestOfFile, LineOfFile}
 use Rattle.file_reader.specs.private.Reading.{read_entries, read_head, read_lines, read_recorded, read_file, read_test}
 use Rattle.file_reader.specs.private.Stopping.{stop_entries, stop_head, stop_lines, stop_line}
@@ -70,7 +70,7 @@ refused_1 = record {
 }
   where
     long : Fault false (replicate 65537 10) 0 FileTooLong
-    long = too_long_lem (omega (arith, length-replicate {A = ℕ} 65537 10))
+    long = file_too_long (omega (arith, length-replicate {A = ℕ} 65537 10))
 
 -- 2: an empty file
 pub refused_2 : Answers [] 2 1

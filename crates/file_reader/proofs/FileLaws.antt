@@ -66,7 +66,7 @@ use Rattle.file_reader.specs.Files.{
   repeated,
   too_many,
   Fault,
-  too_long_lem,
+  file_too_long,
   no_line,
   no_banner,
   bad_head_line,
@@ -422,7 +422,7 @@ at_end {integers} {f} {h} {passed} {body} es s a l =
     }
 
 pub fault_read : {integers : Bool} {f : List ℕ} {k : ℕ} {why : Refusal} → Fault integers f k why → Stopped integers f k why
-fault_read {integers} {f} (too_long_lem h) = record { is = sym (file_long integers f h); line = stop_long integers f h }
+fault_read {integers} {f} (file_too_long h) = record { is = sym (file_long integers f h); line = stop_long integers f h }
 fault_read {integers} {f} (no_line e) =
     let h : length f ≤ 65536 = omega (arith, ap length e) in
     let n = lines_none f e in
@@ -524,7 +524,7 @@ judged integers f = whole (dec_lt 65536 (length f))
     go h (t ∷ ts) e = first h t ts e (first_line integers t) refl
 
     whole : Dec (65536 < length f) → Judged integers f
-    whole (yes h) = faulty (too_long_lem h)
+    whole (yes h) = faulty (file_too_long h)
     whole (no h) = go (omega arith) (texts f) refl
 
 -- ---- accepted exactly when legal, refused exactly for a fault; and the first fault is one

@@ -125,7 +125,7 @@ pub data EntryFault (h : Heading) (es : List Named) (t : Text) : Refusal → Typ
 -- line's where the end of the file fails.
 pub data Fault (integers : Bool) (f : List ℕ) : ℕ → Refusal → Type 0 where
   -- "File as a whole: 1 longer than 65,536"
-  too_long_lem : 65536 < length f → Fault integers f 0 FileTooLong
+  file_too_long : 65536 < length f → Fault integers f 0 FileTooLong
   -- "First line: 2 not the banner (an empty file too)"
   no_line : f ≡ [] → Fault integers f 1 NotTheBanner
   no_banner : {t : Text} {ts : List Text} → length f ≤ 65536 → LinesAre f (t ∷ ts) → ((kind : Kind) → ¬ IsBanner integers kind t)

@@ -4,6 +4,8 @@
 // loop goes through the lines of either kind. No public function has a `requires`, and none changes lent memory. The
 // time is linear in the file. What is promised is said by the lines of the file, in specs/Promises.antt; the private
 // steps go by specs/private.
+#![tactic(auto)]
+
 ghost use Rattle.std.specs.Prelude.{◌≡◌, ◌≤◌, ◌+◌, length, drop};
 ghost use Rattle.table.specs.Tables.{no_rows, made};
 ghost use Rattle.recorded.specs.Tests.{no_readings, blank_test};
@@ -27,7 +29,7 @@ const MOST_FILE: usize = 65536;
 const MOST_CUTOFF: u64 = 1_000_000;
 
 // A recorded test and its table at a cutoff, or a refusal with both blank.
-#[derive(Drop)]
+#[derive(Clone, Copy)]
 pub struct Recording {
     pub verdict: Verdict,
     pub test: Test,
@@ -35,14 +37,14 @@ pub struct Recording {
 }
 
 // Where a comment line is in the file, or why it is not shown.
-#[derive(Drop)]
+#[derive(Clone, Copy)]
 pub enum Found {
     At { start: usize, len: usize },
     Refused(Refusal),
 }
 
 // A test, or a refusal with the blank test, and the number of the line that failed.
-#[derive(Drop)]
+#[derive(Clone, Copy)]
 struct Gathered {
     pub verdict: Verdict,
     pub test: Test,

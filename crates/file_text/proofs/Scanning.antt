@@ -103,7 +103,7 @@ close_pos zero v r h = absurd (omega arith)
 close_pos (suc k) v none h = refl
 close_pos (suc k) v (some fs) h = refl
 
-pub digits_small : (k v : ℕ) → k ≤ 9 → v < 10 ^ k → v < 10 ^ 9
+digits_small : (k v : ℕ) → k ≤ 9 → v < 10 ^ k → v < 10 ^ 9
 digits_small k v h l = go (9 - k) (omega arith)
   where
     grow : (n j : ℕ) → v < 10 ^ j → v < 10 ^ (n + j)

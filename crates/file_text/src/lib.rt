@@ -1,6 +1,8 @@
 // Lines and fields of a text file that is lent as bytes: the line at a place, the fields of a line, and whether two texts are the same;
 // and single bytes, blanks and digits, for crate `file_entries`, whose fields may have a sign.
 // Every public function takes any bytes and any place and refuses nothing; none changes lent memory.
+#![tactic(auto)]
+
 ghost use Rattle.std.specs.Prelude.{◌≡◌, map, ◌≤◌, length, drop};
 ghost use Rattle.file_text.specs.Lines.{span_at};
 ghost use Rattle.file_text.specs.Fields.{is_blank, digit_of, fields, fields_say};
@@ -14,14 +16,14 @@ const MOST_DIGITS: u64 = 9;
 const NO_DIGIT: u64 = 10;
 
 // A line of a file: where its text ends, and where the next line starts.
-#[derive(Drop)]
+#[derive(Clone, Copy)]
 pub struct Span {
     pub end: usize,
     pub next: usize,
 }
 
 // The fields of a line: none, two or three; any other line is malformed for every reader here.
-#[derive(Drop)]
+#[derive(Clone, Copy)]
 pub enum Fields {
     Blank,
     Two(u64, u64),
@@ -30,7 +32,7 @@ pub enum Fields {
 }
 
 // The first field from a place on, with the place where the line goes on.
-#[derive(Drop)]
+#[derive(Clone, Copy)]
 enum Field {
     Number(u64, usize),
     End,

@@ -114,7 +114,7 @@ pub writing_room : {l : List ℕ} {at : ℕ} {total : List ℕ} {m : List ℕ} {
 writing_room w vs ws e h = omega (arith, w.place, w.same, ap length e, length-append vs ws)
 
 -- the next byte of a run of bytes
-pub bytes_next : (b : List ℕ) (i : ℕ) → i < length b → drop i b ≡ (get_or b i 0 ∷ []) ++ drop (i + 1) b
+bytes_next : (b : List ℕ) (i : ℕ) → i < length b → drop i b ≡ (get_or b i 0 ∷ []) ++ drop (i + 1) b
 bytes_next b i h = rw (add-one i) (drop-cons b i 0 h)
 
 pub bytes_end : (b : List ℕ) (i : ℕ) → length b ≤ i → drop i b ≡ []

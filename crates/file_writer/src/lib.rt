@@ -1,6 +1,8 @@
 // Writes a response table, or a recorded test, as a Matrix Market file to a lent buffer (01, "The file"; 02, R-5; refusals 10, 11, 20 and
 // 16). A table goes the way of a pattern test: one way of counting and writing lines serves both kinds of file. The length is counted first, so
 // that a refusal leaves the buffer as it was; no byte behind the file is touched. The public functions have no `requires`.
+#![tactic(auto)]
+
 ghost use Rattle.std.specs.Prelude.{◌≡◌, ◌+◌, ◌^◌, ◌≤◌, ◌<◌, nat_abs, length};
 ghost use Rattle.table.specs.Tables.{Legal};
 ghost use Rattle.recorded.specs.declared.Kind.TheVariants.{Integer as kind_integer};
@@ -24,14 +26,14 @@ const ONE_DIGIT: u64 = 512;
 const FIXED: u64 = 52;
 
 // The length of the file that was written, or a refusal.
-#[derive(Drop)]
+#[derive(Clone, Copy)]
 pub enum Written {
     Length(usize),
     Refused(Refusal),
 }
 
 // How many entries, and how many bytes their lines take.
-#[derive(Drop)]
+#[derive(Clone, Copy)]
 struct Totals {
     pub count: u64,
     pub size: u64,

@@ -1,6 +1,8 @@
 // The two judges: whether a set of pairs is a chain of its table, and whether it is a maximal chain (01: a ladder). Each takes any
 // table and any chain, however malformed, and refuses 10 to 13 in 01's order. At most 64 * 64 steps on sets of cases. Beside them, for the second
 // and for others: how wide a row of a chain can be.
+#![tactic(auto)]
+
 ghost use Rattle.std.specs.Prelude.{◌≡◌, ◌≤◌, ◌<◌};
 ghost use Rattle.table.specs.Chains.{IsChain, IsMaximal};
 ghost use Rattle.table.specs.Tables.{table_rows, chain_rows, chain_refusal};
@@ -17,7 +19,7 @@ use table::{Chain, Table};
 const ROWS: usize = Table::MOST_GAUGES as usize;
 
 // What a judge answers. `judgement` in specs/Judging.antt reads it.
-#[derive(Drop)]
+#[derive(Clone, Copy)]
 pub enum Judgement {
     Yes,
     No,

@@ -78,8 +78,9 @@ mem_at (x ∷ l) zero h = Memᴰ.head refl
 mem_at (x ∷ l) (suc k) h = Memᴰ.tail (mem_at l k (le_of_suc-le-suc h))
 
 mem_times : (o : List ℕ) (i : ℕ) → Memᴰ i o → 1 ≤ times i o
-mem_times o i (Memᴰ.head {x = x} {xs = l} e) = omega (arith, times_hit i x l e)
-mem_times o i (Memᴰ.tail {x = x} {xs = l} m) = go (ℕ_discrete i x) (mem_times l i m)
+mem_times [] i m = elim m [ ]
+mem_times (x ∷ l) i (Memᴰ.head e) = omega (arith, times_hit i x l e)
+mem_times (x ∷ l) i (Memᴰ.tail m) = go (ℕ_discrete i x) (mem_times l i m)
   where
     go : Dec (i ≡ x) → 1 ≤ times i l → 1 ≤ times i (x ∷ l)
     go (yes e) h = omega (arith, times_hit i x l e)

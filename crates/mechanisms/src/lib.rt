@@ -1,6 +1,8 @@
 // Fewest mechanisms (02, R-7): the least number of ladders that together hold every pair of a table of up to 8 by 8, and the first cover of
 // that number. Any table and any budget are taken; 10, 11, 18, 23 and 24 are refused. The one function that another crate can call has no
 // `requires` and is lent no memory. The search is in `cover_search`, on the boards of `boards`; the ladders come from the gauge run.
+#![tactic(auto)]
+
 ghost use Rattle.std.specs.Prelude.{◌≡◌, ◌≤◌, length, take};
 ghost use Rattle.refusals.specs.Answers.{number};
 ghost use Rattle.runs.specs.Paused.{gauge_value};
@@ -29,7 +31,7 @@ const MOST_LADDERS: usize = 1_024;
 const MOVES: u64 = 1_000_000;
 
 // What the search answers.
-#[derive(Drop)]
+#[derive(Clone, Copy)]
 pub enum CoverOutcome {
     Covered,
     Spent,
@@ -38,7 +40,7 @@ pub enum CoverOutcome {
 
 // The least number, the ladders tried, and the cover, with blank chains behind it; where the budget did not do, the budget as the ladders
 // tried; beside a refusal nothing.
-#[derive(Drop)]
+#[derive(Clone, Copy)]
 pub struct Fewest {
     pub outcome: CoverOutcome,
     pub number: u64,
@@ -47,7 +49,7 @@ pub struct Fewest {
 }
 
 // The run after a call, and the board of the ladder that it handed out, or that there was none.
-#[derive(Drop)]
+#[derive(Clone, Copy)]
 struct Next {
     run: GaugeRun,
     board: u64,

@@ -29,6 +29,7 @@ module _ {A : Type 0} (r : A → A → Type 0) where
   all_right p (x ∷ a) b h = all_right p a b h.1
 
   pub sorted_cross : (a b : List A) → Sorted r (a ++ b) → {x y : A} → Memᴰ x a → Memᴰ y b → r x y
+  sorted_cross [] b h m k = elim m [ ]
   sorted_cross (z ∷ a) b h {x} {y} (Memᴰ.head e) k = subst (λ (w : A). r w y) (sym e) (All_get (r z) k (all_right (r z) a b h.0))
   sorted_cross (z ∷ a) b h (Memᴰ.tail m) k = sorted_cross a b h.1 m k
 

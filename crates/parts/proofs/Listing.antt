@@ -155,6 +155,7 @@ module _ (test : List ℕ → Bool) (f : ℕ → ℕ) where
 
 -- an end closes every part
 pub over_end : (test inside : List ℕ → Bool) (cs : List Call) (c : Call) → Memᴰ c cs → c.answer ≡ end → is_over test inside cs ≡ true
+over_end test inside [] c m h = elim m [ ]
 over_end test inside (d ∷ cs) c (Memᴰ.head e) h = rw (sym (ap (λ (x : Call). x.answer) e) ∙ h)
 over_end test inside (d ∷ cs) c (Memᴰ.tail m) h =
     go (closes d.answer (holds test d.answer) (inside d.next.picks)) (over_end test inside cs c m h)

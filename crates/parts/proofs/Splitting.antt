@@ -79,6 +79,7 @@ module _ (p : List ℕ) where
   extended_all P (g ∷ k) h = (h g (Memᴰ.head refl), extended_all P k (λ x m. h x (Memᴰ.tail m)))
 
   extended_mem : (k : List ℕ) (g : ℕ) → Memᴰ g k → Memᴰ (p ++ (g ∷ [])) (extended p k)
+  extended_mem [] g m = elim m [ ]
   extended_mem (x ∷ k) g (Memᴰ.head e) = Memᴰ.head (ap (λ (y : ℕ). p ++ (y ∷ [])) e)
   extended_mem (x ∷ k) g (Memᴰ.tail m) = Memᴰ.tail (extended_mem k g m)
 

@@ -35,8 +35,9 @@ use Rattle.preference.proofs.Holding.{preference_of, of_preference, zeros_in, no
 
 -- ---- lists by their entries
 mem_index : (l : List ℕ) (a : ℕ) → Memᴰ a l → (i : ℕ) × (i < length l) × (get_or l i 0 ≡ a)
-mem_index l a (Memᴰ.head {x = x} {xs = xs} e) = (0, omega arith, sym e)
-mem_index l a (Memᴰ.tail {x = x} {xs = xs} m) = let k = mem_index xs a m in (suc k.0, omega (arith, k.1), k.2)
+mem_index [] a m = elim m [ ]
+mem_index (x ∷ xs) a (Memᴰ.head e) = (0, omega arith, sym e)
+mem_index (x ∷ xs) a (Memᴰ.tail m) = let k = mem_index xs a m in (suc k.0, omega (arith, k.1), k.2)
 
 distinct_of : (l : List ℕ) → ((i j : ℕ) → i < length l → j < length l → get_or l i 0 ≡ get_or l j 0 → i ≡ j) → Sorted (λ (a b : ℕ). a ≢ b) l
 distinct_of [] h = tt
@@ -71,7 +72,7 @@ marked_none n order = record {
 
 -- one number more, g at place i
 module _ (n : ℕ) (order places : List ℕ) (i : ℕ) (few : n ≤ 64) (m : Marked n order places i) (l : i < n) (g : ℕ) (is : g ≡ get_or order i 0) where
-  pub marked_more : g ≢ 0 → g ≤ n → get_or places (g - 1) 0 ≡ 0 → (v : ℕ) → v ≡ i + 1 → Marked n order (set places (g - 1) v) (i + 1)
+  marked_more : g ≢ 0 → g ≤ n → get_or places (g - 1) 0 ≡ 0 → (v : ℕ) → v ≡ i + 1 → Marked n order (set places (g - 1) v) (i + 1)
   marked_more low high free v d = record {
     size = length-set places (g - 1) v ∙ m.size;
     most = omega arith;

@@ -2,6 +2,8 @@
 // 27; and the steps around the code that goes by number: rows gathered in the order of a preference, numbers turned
 // into places and back. An order holds 64 numbers, those of an arrangement, the most trusted first, padded with
 // zeros. No function that another crate can call has a `requires`, and none changes lent memory.
+#![tactic(auto)]
+
 ghost use Rattle.std.specs.Prelude.{◌≡◌, true, ◌+◌, ◌-◌, ◌≤◌, ◌<◌, min, length};
 ghost use Rattle.table.specs.Tables.{padded};
 ghost use Rattle.refusals.specs.Answers.{verdict};
@@ -18,11 +20,11 @@ use table::Table;
 const MOST: usize = Table::MOST_GAUGES as usize;
 
 // The gauges of a table by number, the most trusted first, padded with zeros.
-#[derive(Drop)]
+#[derive(Clone, Copy)]
 pub struct GaugeOrder(pub [u8; 64]);
 
 // The cases of a table by number, the most trusted first, padded with zeros.
-#[derive(Drop)]
+#[derive(Clone, Copy)]
 pub struct CaseOrder(pub [u8; 64]);
 
 impl GaugeOrder {
@@ -46,7 +48,7 @@ impl CaseOrder {
 }
 
 // Where each number of an order is: byte g - 1 is the place of number g, from 1; or not ok, and zeros.
-#[derive(Drop)]
+#[derive(Clone, Copy)]
 pub struct Placed {
     pub ok: bool,
     pub places: [u8; 64],

@@ -3,6 +3,8 @@
 // every input and returns 0, or 100 where a slice is shorter than its layout, or the number of the refusal; a refusal
 // leaves all lent memory as it was. What an entry does is in the crate that it calls, under the same contract; only
 // entries of this crate get into the archive.
+#![tactic(auto)]
+
 ghost use Rattle.std.specs.Prelude.{◌≡◌};
 ghost use Rattle.lists.specs.Lists.{gauge_side, case_side};
 ghost use Rattle.explain.specs.Reasons.{gauge_question, case_question};

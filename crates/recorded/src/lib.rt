@@ -1,6 +1,8 @@
 // Recorded tests with readings in microstrain, and the table that a cutoff gives (02, R-5): the check of a test handed in (10, 11, 20), its
 // table at a cutoff (21 before all else), and whether two tests are equal (02, R-11), which no cutoff enters. No public function has a `requires`,
 // and none is lent memory; a refusal has blank values beside it. Signed arithmetic is done in `magnitude` alone.
+#![tactic(auto)]
+
 ghost use Rattle.std.specs.Prelude.{◌≡◌, ◌↔◌, true, ◌<◌, nat_abs, length};
 ghost use Rattle.sets.specs.Lists.{all_below, tabulate};
 ghost use Rattle.table.specs.Pairs.{row as row_of};
@@ -29,7 +31,7 @@ const ROWS: usize = 64;
 const PLACES: u64 = 64;
 
 // The kind of a test's file: entries alone, or entries with readings.
-#[derive(Drop)]
+#[derive(Clone, Copy)]
 pub enum Kind {
     Pattern,
     Integer,
@@ -37,7 +39,7 @@ pub enum Kind {
 
 // A recorded test: its shape, its entries as rows of case bits, and a reading for each place, 0 where there is no entry. The reading of
 // gauge g under case c is number (g - 1) * 64 + (c - 1).
-#[derive(Drop)]
+#[derive(Clone, Copy)]
 pub struct Test {
     pub kind: Kind,
     pub gauges: u64,
@@ -47,7 +49,7 @@ pub struct Test {
 }
 
 // Whether two tests are equal, or a refusal with "no".
-#[derive(Drop)]
+#[derive(Clone, Copy)]
 pub struct Compared {
     pub verdict: Verdict,
     pub same: bool,

@@ -1,11 +1,13 @@
 // The conditions that 01 and its later requests refuse, and the number that each has there. A further refusal is one more name here, in the
 // order of its number; one more line in `refusal_number`, in `number` of specs/Answers.antt and in `named` and `named-number` of
 // proofs/Answering.antt; and two in the proof of `refusal_number`. No function has a `requires`.
+#![tactic(auto)]
+
 ghost use Rattle.std.specs.Prelude.{◌≡◌};
 ghost use Rattle.refusals.specs.Answers.{number};
 
 // The conditions, in the order of their numbers.
-#[derive(Drop)]
+#[derive(Clone, Copy)]
 pub enum Refusal {
     FileTooLong,
     NotTheBanner,
@@ -38,7 +40,7 @@ pub enum Refusal {
 }
 
 // Whether a check passed, and if not, which refusal it was.
-#[derive(Drop)]
+#[derive(Clone, Copy)]
 pub enum Verdict {
     Accepted,
     Refused(Refusal),

@@ -1,6 +1,8 @@
 // Picks handed in (01, "Moves of a run"): whether they can have been made one after the other, each a candidate after
 // those before it, judged in one pass over the picks and one over what is unpicked then. Any rows and any picks are
 // taken, nothing is refused, and what is lent is only read; the theory is proofs/Replaying.antt of crate `lists`.
+#![tactic(auto)]
+
 ghost use Rattle.std.specs.Prelude.{◌≡◌};
 ghost use Rattle.replay.specs.Picked.{Replays, not_made};
 ghost use Rattle.replay.specs.private.Steps.{Judges, Against, NoneAgainst};
@@ -16,7 +18,7 @@ const PLACES: usize = Table::MOST_GAUGES as usize;
 const ALL: u64 = 0xffff_ffff_ffff_ffff;
 
 // Whether picks can have been made, and then the places that are unpicked, and the left cases.
-#[derive(Drop)]
+#[derive(Clone, Copy)]
 pub struct Replayed {
     pub ok: bool,
     pub unpicked: u64,
@@ -24,7 +26,7 @@ pub struct Replayed {
 }
 
 // What a pick's own cases say beside the left ones, and the cases before the last picks that left the same.
-#[derive(Drop)]
+#[derive(Clone, Copy)]
 struct Judged {
     pub ok: bool,
     pub before: u64,

@@ -5,7 +5,7 @@
 -- (`exactly_by`, `each_count`); that the calls of the rule are so, one (`only18_by`, `spent_by`) and each of a list (`all_only18`, `all_whole`,
 -- `all_spent`); that nothing else is (`one_list`); then the same by rules 1 to 5.
 --
--- Pins, which nothing else cites: `each_count`.
+-- Pins, which nothing else cites: `each_count`, `spent_exactly`.
 use mathlib.Core.Path.{◌≡◌, refl, sym, ap, ap₂, ◌∙◌}
 use mathlib.Core.Logic.{◌↔◌, ◌≢◌}
 use mathlib.Core.List.{List, [], ◌∷◌}

@@ -121,6 +121,7 @@ module _ {A : Type 0} (r : A → A → Type 0) (irrefl : (a : A) → r a a → �
 
 module _ {A : Type 0} where
   pub mem_split : (a : A) (l : List A) → Memᴰ a l → (b : List A) × (c : List A) × (l ≡ b ++ (a ∷ c))
+  mem_split a [] m = elim m [ ]
   mem_split a (x ∷ xs) (Memᴰ.head e) = ([], xs, ap (λ (y : A). y ∷ xs) (sym e))
   mem_split a (x ∷ xs) (Memᴰ.tail m) = let r = mem_split a xs m in (x ∷ r.0, r.1, ap (λ (l : List A). x ∷ l) (r.2))
 

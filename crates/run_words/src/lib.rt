@@ -2,6 +2,8 @@
 // and a call's answer put into one. Either side's value is a `runs::SideRun`; the side's number, its first word, is
 // by the mark that is handed over, and the one place where the sides part. Any words are taken: those that no value
 // of the side has read as a value that no moves lead to. No function has a `requires`.
+#![tactic(auto)]
+
 ghost use Rattle.std.specs.Prelude.{◌≡◌};
 ghost use Rattle.runs.specs.Paused.{mode_phase};
 ghost use Rattle.runs.specs.Sides.{side_value};
@@ -53,7 +55,7 @@ const ANSWER_CHAIN: u16 = 2;
 const ANSWER_PICKS: u32 = 67;
 
 // A phase by its number, and the number that it is back from.
-#[derive(Drop)]
+#[derive(Clone, Copy)]
 pub struct Mark {
     pub phase: u64,
     pub from: u64,

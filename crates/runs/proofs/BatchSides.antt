@@ -33,7 +33,7 @@ use Rattle.runs.specs.declared.Outcome.TheVariants.{Refused}
 use Rattle.runs.specs.declared.listing.Tally.{Tally}
 use Rattle.runs.proofs.Padding.{take-padded}
 use Rattle.runs.proofs.Words.{stored_front}
-use Rattle.runs.proofs.SideCalls.{tag, OneOf, never_refused}
+use Rattle.runs.proofs.SideCalls.{NotRefused}
 use Rattle.runs.proofs.Sides.{gauge_chain, case_chain}
 use Rattle.runs.proofs.Wanting.{core_moves}
 use Rattle.runs.proofs.Answered.{stands_paused, paused_stands}
@@ -278,12 +278,12 @@ module _ (side : Table → Side) (v : Value) (b : ℕ) (before k' now : List ℕ
         }
 
   -- ---- what the calls give
-  module _ (c : OneOf (0 ∷ 1 ∷ 2 ∷ []) (tag o.outcome)) where
+  module _ (c : NotRefused o.outcome) where
     abbrev answer : Batch
     answer = batch_from v k' o
 
     never : (x : Refusal) → o.outcome ≡ Refused x → ⊥
-    never x e = never_refused o.outcome c x e
+    never x e = c x e
 
     same : (e : Ending) (lad i : ℕ) (ph : Phase) (k : List ℕ) (l : List (List ℕ)) (y : State) → lad ≡ length l → k ≡ padded (map suc y.picks)
         → i ≡ length y.picks → ph ≡ numbered y.phase

@@ -33,7 +33,7 @@ use Rattle.runs.specs.declared.Outcome.{Outcome}
 use Rattle.runs.specs.declared.Outcome.TheVariants.{Spent, Refused}
 use Rattle.runs.specs.declared.engine.Report.{Report}
 use Rattle.runs.specs.declared.listing.Tally.{Tally}
-use Rattle.runs.proofs.SideCalls.{tag, OneOf, never_refused}
+use Rattle.runs.proofs.SideCalls.{NotRefused}
 use Rattle.runs.proofs.Ordering.{Stand, Turned, number_moves, number_keeps, plain_from, plain_stand, plain_moves, plain_turned, same_picks}
 use Rattle.runs.proofs.Ordering.{from_reach, arranged_stand, arranged_moves, arranged-turned, arranged_rows}
 
@@ -48,11 +48,11 @@ module _ (n : ℕ) (rows k : List ℕ) (count : ℕ) (f : Phase) (b : ℕ) (c : 
       moves = λ s y l. let z : Spent ≡ Refused why = sym (h.opens s y l).0 ∙ e in clash cc;
     }
 
-    pub list-went : OneOf (0 ∷ 1 ∷ 2 ∷ []) (tag o.outcome) → (c' k' now : List ℕ) (r : Tally)
+    pub list-went : NotRefused o.outcome → (c' k' now : List ℕ) (r : Tally)
         → Lists true mv out n rows room b (state_of k o.spot) before c' k' now r → ListsBy mv (FitsOn (take n rows)) out room k count f b before k' now r
     list-went t c' k' now r w = record {
-      value = λ none. absurd (never_refused o.outcome t NotReached (h.value none));
-      large = λ s y l. absurd (never_refused o.outcome t BudgetTooLarge (h.large s y l));
+      value = λ none. absurd (t NotReached (h.value none));
+      large = λ s y l. absurd (t BudgetTooLarge (h.large s y l));
       moves = λ s y l. record {
         to = state_of k' r.spot;
         sets = w.sets;

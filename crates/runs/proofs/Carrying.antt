@@ -1,7 +1,7 @@
 -- A call on a value handed in, from its checks: refused as they are (`call_refused`), or the moves that were made (`call_went`), as `CarriesOn` says it. And
 -- of any call, by any rule for moves: it makes at most its budget of them (`carry_most`), which crates above cite too.
 use mathlib.Core.Path.{◌≡◌, sym, ap, ◌∙◌, subst}
-use mathlib.Core.List.{List, [], ◌∷◌}
+use mathlib.Core.List.{List}
 use Prim.Native.Nat.{ℕ, zero, suc, ◌≤◌}
 use native.Mathlib.Omega.{arith}
 use lib.ListN.{take}
@@ -13,7 +13,7 @@ use Rattle.rules.specs.Calls.{most_budget, proceed_by, carry_by}
 use Rattle.runs.specs.private.Working.{state_of, Holds, ComesOut, Advanced, CarriesOn, Opens, refused_report}
 use Rattle.runs.specs.declared.Outcome.TheVariants.{Spent, Refused}
 use Rattle.runs.specs.declared.engine.Report.{Report}
-use Rattle.runs.proofs.SideCalls.{tag, OneOf, never_refused}
+use Rattle.runs.proofs.SideCalls.{NotRefused}
 
 module _ (mv : State → Move) (out : List ℕ → List ℕ) where
   pub carry_most : (b : ℕ) (s : State) → (carry_by mv out b s).moves ≤ b
@@ -27,8 +27,8 @@ module _ (mv : State → Move) (out : List ℕ → List ℕ) where
 
 module _ (n : ℕ) (rows k : List ℕ) (count : ℕ) (f : Phase) (b : ℕ) (c : List ℕ) (o : Report) (h : Opens n rows k count f b c o) where
   -- what was not refused may go on
-  pub may_go_on : OneOf (0 ∷ 1 ∷ 2 ∷ []) (tag o.outcome) → (b ≤ most_budget) × Holds n rows c k o.spot
-  may_go_on t = h.holds (never_refused o.outcome t)
+  pub may_go_on : NotRefused o.outcome → (b ≤ most_budget) × Holds n rows c k o.spot
+  may_go_on t = h.holds t
 
   pub call_refused : (mv : State → Move) (why : Refusal) → o.outcome ≡ Refused why → (c' k' : List ℕ) (r : Report) → r ≡ refused_report why
       → CarriesOn mv (take n rows) k count f b c' k' r
@@ -38,11 +38,11 @@ module _ (n : ℕ) (rows k : List ℕ) (count : ℕ) (f : Phase) (b : ℕ) (c : 
     moves = λ s y l. let z : Spent ≡ Refused why = sym (h.opens s y l).0 ∙ e in clash cc;
   }
 
-  pub call_went : OneOf (0 ∷ 1 ∷ 2 ∷ []) (tag o.outcome) → (mv : State → Move) (c' k' : List ℕ) (r : Report)
+  pub call_went : NotRefused o.outcome → (mv : State → Move) (c' k' : List ℕ) (r : Report)
       → Advanced mv n rows c' k' b (state_of k o.spot) r → CarriesOn mv (take n rows) k count f b c' k' r
   call_went t mv c' k' r w = record {
-    value = λ none. absurd (never_refused o.outcome t NotReached (h.value none));
-    large = λ s y l. absurd (never_refused o.outcome t BudgetTooLarge (h.large s y l));
+    value = λ none. absurd (t NotReached (h.value none));
+    large = λ s y l. absurd (t BudgetTooLarge (h.large s y l));
     moves = λ s y l. record {
       to = state_of k' r.spot;
       comes = subst (λ (q : State). ComesOut mv b q r.outcome r.moves (state_of k' r.spot)) (h.opens s y l).1 w.comes;

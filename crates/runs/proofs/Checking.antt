@@ -221,7 +221,7 @@ module _ (u : List ℕ) (left count : ℕ) (m : Mode) where
   pub phase_zero : (k : ℕ) → m ≡ mode_back k → k ≡ 0 → DecidedBy Phased false
   phase_zero k e z = as_phase (mode_back k) e false (decides_no (λ h. omega (arith, h.0)))
 
-  pub phase_back : (k : ℕ) → m ≡ mode_back k → (k ≡ 0 → ⊥) → (t : Bool) → t ≡ candidate_in u left 64 (k - 1) → DecidedBy Phased t
+  phase_back : (k : ℕ) → m ≡ mode_back k → (k ≡ 0 → ⊥) → (t : Bool) → t ≡ candidate_in u left 64 (k - 1) → DecidedBy Phased t
   phase_back k e z t d = as_phase (mode_back k) e t (go t d)
     where
       low : Dec (k ≡ 0) → 1 ≤ k

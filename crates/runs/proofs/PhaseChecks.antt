@@ -2,9 +2,8 @@
 -- does not fit, and where nothing is refused (`call-refuses`, `phase-refuses`, `nothing-refuses`); and the checks at one phase (`checks_at`, of Down and Handed
 -- `checks_down` and `checks_handed`). What a refused number and what 0 say: `never-at`, `passes_at`, `some_at`.
 use mathlib.Core.Path.{◌≡◌, refl, sym, ap, ◌∙◌, subst}
-use mathlib.Core.Logic.{⊎_elim}
 use mathlib.Core.Bool.{Bool, true, false}
-use mathlib.Core.List.{List, [], ◌∷◌}
+use mathlib.Core.List.{List}
 use Prim.Native.Nat.{ℕ, ◌<◌}
 use native.Mathlib.Decide.{ℕ_discrete}
 use native.Mathlib.Omega.{arith}
@@ -25,7 +24,7 @@ use Rattle.runs.specs.private.Either.{CalledOf}
 use Rattle.runs.specs.private.Checks.{is_down, is_handed, ChecksPhase}
 use Rattle.runs.specs.declared.Outcome.{Outcome}
 use Rattle.runs.specs.declared.Outcome.TheVariants.{HandedOut, Spent, End, Refused}
-use Rattle.runs.proofs.SideCalls.{tag, OneOf}
+use Rattle.runs.proofs.SideCalls.{NotRefused}
 
 module _ (side : Table → Side) (v : Value) where
   abbrev t : Table
@@ -59,15 +58,15 @@ module _ (side : Table → Side) (v : Value) where
           stands = λ f z s p. absurd (none z s p);
         }
 
-    module _ (k : OneOf (0 ∷ 1 ∷ 2 ∷ []) (tag o)) where
+    module _ (k : NotRefused o) where
       unrefused : (n : ℕ) → r.answer ≡ refused n → ⊥
       unrefused n e = go o k (sym says ∙ e)
         where
-          go : (y : Outcome) → OneOf (0 ∷ 1 ∷ 2 ∷ []) (tag y) → outcome y w ≡ refused n → ⊥
+          go : (y : Outcome) → NotRefused y → outcome y w ≡ refused n → ⊥
           go HandedOut m d = clash cc
           go Spent m d = clash cc
           go End m d = clash cc
-          go (Refused x) m d = ⊎_elim (λ i. absurd (omega arith)) (λ j. ⊎_elim (λ i. absurd (omega arith)) (λ i. absurd (omega arith)) j) m
+          go (Refused x) m d = absurd (m x refl)
 
       passes : Passes
       passes = go (ℕ_discrete (value_refusal side v) 0)

@@ -3,13 +3,11 @@
 -- above the core. Each promises demand 3, or what is promised of the runs that omit, beside (`promise`).
 use mathlib.Core.Path.{◌≡◌, refl, sym, ap, ◌∙◌, subst}
 use mathlib.Core.Bool.{Bool, true, false}
-use mathlib.Core.List.{List, [], ◌∷◌, map}
-use mathlib.Core.Logic.{⊎_elim}
+use mathlib.Core.List.{List, [], map}
 use Prim.Native.Nat.{ℕ, suc, ◌≤◌, ◌<◌}
 use native.Mathlib.Decide.{dec_le, dec_lt}
 use native.Mathlib.Omega.{arith}
 use lib.ListN.{length, take}
-use denote.Enum.Declared
 use Rattle.basics.proofs.Clash.{clash}
 use Rattle.refusals.specs.Answers.{number}
 use Rattle.table.specs.Tables.{Legal, chain_rows, blank_chain, table_refusal, padded}
@@ -39,26 +37,18 @@ use Rattle.runs.specs.private.Working.{refused_report, StandsBy, WentBy, Carries
 use Rattle.runs.specs.declared.Outcome.{Outcome}
 use Rattle.runs.specs.declared.Outcome.TheVariants.{HandedOut, Spent, End, Refused}
 use Rattle.runs.specs.declared.engine.Report.{Report}
-use Rattle.runs.specs.contracts.Outcome.{the_type}
 use Rattle.runs.proofs.Padding.{take-padded}
 use Rattle.runs.proofs.Answered.{called_both, stands_paused, paused_stands, called_refused}
 use Rattle.runs.proofs.Sides.{Ladder}
 use Rattle.runs.proofs.HandOuts.{sequence_of_lem, handed_out}
 use Rattle.runs.proofs.Demands.{Starts, carries_demand, carries_omits}
 
--- the variant of an outcome, and that it is one of some
-abbrev pub tag : Outcome → ℕ
-tag o = Declared.tag_of the_type o
+-- an outcome that is no refusal, and one that is no hand-out
+abbrev pub NotRefused : Outcome → Type 0
+NotRefused o = (why : Refusal) → o ≡ Refused why → ⊥
 
-abbrev pub OneOf : List ℕ → ℕ → Type 0
-OneOf ks k = types.Run.OneOf ks k
-
--- an outcome of another variant is no refusal
-pub never_refused : (o : Outcome) → OneOf (0 ∷ 1 ∷ 2 ∷ []) (tag o) → (why : Refusal) → o ≡ Refused why → ⊥
-never_refused o k why e = no-tag (subst (λ (x : Outcome). OneOf (0 ∷ 1 ∷ 2 ∷ []) (tag x)) e k)
-  where
-    no-tag : OneOf (0 ∷ 1 ∷ 2 ∷ []) (tag (Refused why)) → ⊥
-    no-tag k = ⊎_elim (λ i. omega arith) (λ j. ⊎_elim (λ i. omega arith) (λ i. omega arith) j) k
+abbrev pub NotHanded : Outcome → Type 0
+NotHanded o = o ≡ HandedOut → ⊥
 
 -- the report of moves as the public answer
 abbrev handed_with : Table → List ℕ → Bool → Report → List ℕ → List ℕ → List ℕ → Step
@@ -192,22 +182,19 @@ module _ (side : Table → Side) (v : Value) (b : ℕ) (c' k' : List ℕ) (o : R
         })
         (rw ef (sym (ap (step rows) e)))
 
-    call-other : (c : Chain) → c ≡ blank_chain → OneOf (0 ∷ 1 ∷ 2 ∷ []) (tag o.outcome) → OneOf (1 ∷ 2 ∷ 3 ∷ []) (tag o.outcome)
+    call-other : (c : Chain) → c ≡ blank_chain → NotRefused o.outcome → NotHanded o.outcome
         → CalledOf side v b (record { answer = outcome o.outcome (chain_rows c); moves = o.moves; chain = c; picks = no_numbers; next = next })
     call-other c ec moved other =
-        call_answer [] (λ e. absurd (not-handed (subst (λ (x : Outcome). OneOf (1 ∷ 2 ∷ 3 ∷ []) (tag x)) e other)))
+        call_answer [] (λ e. absurd (other e))
         (record { answer = outcome o.outcome (chain_rows c); moves = o.moves; chain = c; picks = no_numbers; next = next }) (as_step o.outcome moved other)
       where
-        not-handed : OneOf (1 ∷ 2 ∷ 3 ∷ []) (tag HandedOut) → ⊥
-        not-handed k = ⊎_elim (λ i. omega arith) (λ j. ⊎_elim (λ i. omega arith) (λ i. omega arith) j) k
-
-        as_step : (oc : Outcome) → OneOf (0 ∷ 1 ∷ 2 ∷ []) (tag oc) → OneOf (1 ∷ 2 ∷ 3 ∷ []) (tag oc)
+        as_step : (oc : Outcome) → NotRefused oc → NotHanded oc
             → ◌≡◌ {A = Step} (record { answer = outcome oc (chain_rows c); moves = o.moves; chain = c; picks = no_numbers; next = next })
             (step [] oc)
-        as_step HandedOut a d = absurd (not-handed d)
+        as_step HandedOut a d = absurd (d refl)
         as_step Spent a d = rw (ec, ef)
         as_step End a d = rw (ec, ef)
-        as_step (Refused why) a d = ⊎_elim (λ i. absurd (omega arith)) (λ j. ⊎_elim (λ i. absurd (omega arith)) (λ i. absurd (omega arith)) j) a
+        as_step (Refused why) a d = absurd (a why refl)
 
 -- ---- what a call on any value is told, and its answers
 pub record Told (side : Table → Side) (v : Value) (b : ℕ) (c' k' : List ℕ) (o : Report) : Type 0 where
@@ -252,10 +239,10 @@ module _ (side : Table → Side) (v : Value) (b : ℕ) (c' k' : List ℕ) (o : R
         subst (λ (x : Chain). CalledOf side v b (record { answer = handed (chain_rows x); moves = o.moves; chain = x; picks = k'; next = after })) (sym d)
         (by_table _ (λ w x n. clash cc) (λ z. call-handed side v b c' k' o (worked z) f ef rows e (ladder (legal z))))
 
-    pub told-other : (c : Chain) → c ≡ blank_chain → OneOf (0 ∷ 1 ∷ 2 ∷ []) (tag o.outcome) → OneOf (1 ∷ 2 ∷ 3 ∷ []) (tag o.outcome)
+    pub told-other : (c : Chain) → c ≡ blank_chain → NotRefused o.outcome → NotHanded o.outcome
         → CalledOf side v b (record { answer = outcome o.outcome (chain_rows c); moves = o.moves; chain = c; picks = no_numbers; next = after })
     told-other c d moved other =
-        by_table _ (λ w x n. absurd (never_refused o.outcome moved w x)) (λ z. call-other side v b c' k' o (worked z) f ef c d moved other)
+        by_table _ (λ w x n. absurd (moved w x)) (λ z. call-other side v b c' k' o (worked z) f ef c d moved other)
 
 -- ---- what it is told: its table's refusal, or what the core gives
 module _ (side : Table → Side) (v : Value) (b : ℕ) (c' k' : List ℕ) (o : Report) where

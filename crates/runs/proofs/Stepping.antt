@@ -271,7 +271,7 @@ module _ (n : ℕ) (rows c k : List ℕ) (s : Spot) (z : Sized n rows) (h : Hold
   handed_is e = ap (λ (m : Mode). move (candidates side) (at now.picks (placed (mode_phase m)))) e
 
   -- Ended: end again
-  pub ended_over : s.mode ≡ mode_ended → Stepped n rows c k (move (candidates side) now) (Over s)
+  ended_over : s.mode ≡ mode_ended → Stepped n rows c k (move (candidates side) now) (Over s)
   ended_over e = record { says = (ended, h) }
     where
       phase-is : now.phase ≡ Ended

@@ -2,7 +2,6 @@
 -- to after a call that does not (`turn-stop`), or once the room is full (`turn-full`).
 use mathlib.Core.Path.{◌≡◌, refl, sym, ap, ap₂, ◌∙◌, subst}
 use mathlib.Core.Bool.{Bool, true, false}
-use mathlib.Core.Logic.{⊎_elim}
 use mathlib.Core.List.{List, [], ◌∷◌, ◌++◌, append-nil, append_assoc}
 use Prim.Native.Nat.{ℕ, suc, ◌+◌, ◌-◌, ◌≤◌, ◌<◌, min}
 use native.Mathlib.Omega.{arith}
@@ -32,7 +31,7 @@ use Rattle.runs.specs.private.Listing.{turned_rows, numbered_rows, ladder_of, la
 use Rattle.runs.specs.declared.Outcome.{Outcome}
 use Rattle.runs.specs.declared.Outcome.TheVariants.{HandedOut, Spent, End, Refused}
 use Rattle.runs.proofs.Padding.{take-padded}
-use Rattle.runs.proofs.SideCalls.{tag, OneOf}
+use Rattle.runs.proofs.SideCalls.{NotHanded}
 use Rattle.runs.proofs.Carrying.{carry_most}
 use Rattle.runs.proofs.Words.{stored_append, joined_snoc, length_snoc_list, words_more}
 
@@ -119,20 +118,20 @@ module _ (mv : State → Move) (out : List ℕ → List ℕ) where
       }
 
   module _ (writing : Bool) (g k b : ℕ) (x y : State) (before now : List ℕ) (l j place : ℕ) (h : Sofar writing mv out g k b x y before now l j place) where
-    pub room_most : j ≤ k
+    room_most : j ≤ k
     room_most = omega (arith, h.counted)
 
     room-behind : k - j ≡ length h.sets
     room-behind = omega (arith, h.counted)
 
-    pub same_size : length now ≡ length before
+    same_size : length now ≡ length before
     same_size = ap length h.buffer ∙ size writing
       where
         size : (w : Bool) → length (written_in w before (joined h.sets)) ≡ length before
         size true = length-sets before 0 (joined h.sets)
         size false = refl
 
-    pub place-fits : writing ≡ true → 0 < j → place + g ≤ length before
+    place-fits : writing ≡ true → 0 < j → place + g ≤ length before
     place-fits w p = omega (arith, h.room w, words_more g j p)
 
     pub place-room : writing ≡ true → 0 < j → place + g ≤ length now
@@ -244,12 +243,6 @@ holds_size n rows c k s z h =
 pub advanced_most : (mv : State → Move) (n : ℕ) (rows c k : List ℕ) (b : ℕ) (x : State) (r : Report) → Advanced mv n rows c k b x r → r.moves ≤ b
 advanced_most mv n rows c k b x r a = comes_most mv (λ p. p) b x r.outcome r.moves (state_of k r.spot) a.comes
 
-other : (o : Outcome) → OneOf (1 ∷ 2 ∷ 3 ∷ []) (tag o) → o ≡ HandedOut → ⊥
-other o k e = not-handed (subst (λ (x : Outcome). OneOf (1 ∷ 2 ∷ 3 ∷ []) (tag x)) e k)
-  where
-    not-handed : OneOf (1 ∷ 2 ∷ 3 ∷ []) (tag HandedOut) → ⊥
-    not-handed k = ⊎_elim (λ i. omega arith) (λ j. ⊎_elim (λ i. omega arith) (λ i. omega arith) j) k
-
 module _ (writing : Bool) (mv : State → Move) (turning plain : Bool) (pl : List ℕ) (n g : ℕ) (rows : List ℕ) (room b : ℕ) (x : State) (before now : List ℕ)
     (l j place : ℕ) where
   abbrev out : List ℕ → List ℕ
@@ -275,12 +268,12 @@ module _ (writing : Bool) (mv : State → Move) (turning plain : Bool) (pl : Lis
       turn-unwritten mv out writing g room b x y before now l j place h few p r.outcome r.moves (state_of k r.spot) a.comes q w,
     )
 
-    pub loop-stop : OneOf (1 ∷ 2 ∷ 3 ∷ []) (tag r.outcome) → Lists writing mv out n rows room b x before c k now
+    pub loop-stop : NotHanded r.outcome → Lists writing mv out n rows room b x before c k now
         (record { outcome = r.outcome; ladders = room - j; moves = b - (l - r.moves); spot = r.spot })
     loop-stop q = record {
       sets = h.sets;
       comes =
-          turn-stop mv out writing g room b x y before now l j place h few p r.outcome r.moves (state_of k r.spot) a.comes (other r.outcome q);
+          turn-stop mv out writing g room b x y before now l j place h few p r.outcome r.moves (state_of k r.spot) a.comes q;
       counted = room-behind mv out writing g room b x y before now l j place h;
       buffer = h.buffer;
       fits = λ w. omega (arith, h.placed w, h.room w);

@@ -19,7 +19,7 @@ use table;
 
 // The answer of a batch: how it stopped (HandedOut: as many ladders as have room), how many ladders it handed out, the moves made, and the next
 // paused value.
-#[derive(Drop)]
+#[derive(Clone, Copy)]
 pub struct SideBatch {
     pub outcome: Outcome,
     pub ladders: u64,
@@ -28,7 +28,7 @@ pub struct SideBatch {
 }
 
 // The same of the gauge run.
-#[derive(Drop)]
+#[derive(Clone, Copy)]
 pub struct GaugeBatch {
     pub outcome: Outcome,
     pub ladders: u64,
@@ -37,7 +37,7 @@ pub struct GaugeBatch {
 }
 
 // The same of the case run.
-#[derive(Drop)]
+#[derive(Clone, Copy)]
 pub struct CaseBatch {
     pub outcome: Outcome,
     pub ladders: u64,

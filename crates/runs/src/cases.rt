@@ -26,7 +26,7 @@ use table::{Case, Chain, Table};
 use transpose;
 
 // The phase of a case run (01: "Down, Handed, Back from gauge g, or Ended").
-#[derive(Drop)]
+#[derive(Clone, Copy)]
 pub enum CasePhase {
     Down,
     Handed,
@@ -35,12 +35,12 @@ pub enum CasePhase {
 }
 
 // The cases picked so far, by number, in the order of the picks, padded with zeros.
-#[derive(Drop)]
+#[derive(Clone, Copy)]
 pub struct CasePicks(pub [u8; 64]);
 
 // A paused case run: its table, as it was given and not exchanged, its order of the cases, the picks and how many,
 // the phase, and whether it omits the ladders that hold no essential pair.
-#[derive(Drop)]
+#[derive(Clone, Copy)]
 pub struct CaseRun {
     pub table: Table,
     pub order: CaseOrder,
@@ -52,7 +52,7 @@ pub struct CaseRun {
 
 // The answer of a case run call: the moves made, the maximal chain where one is handed out, by gauge rows, its pick
 // sequence, and the next paused value.
-#[derive(Drop)]
+#[derive(Clone, Copy)]
 pub struct CaseStep {
     pub outcome: Outcome,
     pub moves: u64,
@@ -62,7 +62,7 @@ pub struct CaseStep {
 }
 
 // A fresh case run, or a refusal.
-#[derive(Drop)]
+#[derive(Clone, Copy)]
 pub struct CaseStart {
     pub verdict: Verdict,
     pub run: CaseRun,

@@ -33,7 +33,7 @@ const PLACES: usize = Table::MOST_GAUGES as usize;
 const ALL: u64 = 0xffff_ffff_ffff_ffff;
 
 // The phase of a spot; a pick that was taken back is given by its number.
-#[derive(Drop)]
+#[derive(Clone, Copy)]
 pub enum Mode {
     Down,
     Handed,
@@ -42,7 +42,7 @@ pub enum Mode {
 }
 
 // Where a run is: how many picks, the unpicked gauges, the left cases, and the phase.
-#[derive(Drop)]
+#[derive(Clone, Copy)]
 pub struct Spot {
     pub count: usize,
     pub unpicked: u64,
@@ -51,7 +51,7 @@ pub struct Spot {
 }
 
 // One move: it gives nothing, a hand-out, or an end.
-#[derive(Drop)]
+#[derive(Clone, Copy)]
 pub enum Moved {
     On(Spot),
     Out(Spot),
@@ -59,7 +59,7 @@ pub enum Moved {
 }
 
 // What a call gives: its outcome, how many moves it made, and where the run is then.
-#[derive(Drop)]
+#[derive(Clone, Copy)]
 pub struct Report {
     pub outcome: Outcome,
     pub moves: u64,

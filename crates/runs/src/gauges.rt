@@ -23,7 +23,7 @@ use table;
 use table::{Chain, Gauge, Table};
 
 // The phase of a gauge run (01: "Down, Handed, Back from gauge g, or Ended").
-#[derive(Drop)]
+#[derive(Clone, Copy)]
 pub enum Phase {
     Down,
     Handed,
@@ -32,12 +32,12 @@ pub enum Phase {
 }
 
 // The gauges picked so far, by number, in the order of the picks, padded with zeros.
-#[derive(Drop)]
+#[derive(Clone, Copy)]
 pub struct GaugePicks(pub [u8; 64]);
 
 // A paused gauge run: its table, its order of the gauges, the picks and how many, the phase, and whether it omits the
 // ladders that hold no essential pair.
-#[derive(Drop)]
+#[derive(Clone, Copy)]
 pub struct GaugeRun {
     pub table: Table,
     pub order: GaugeOrder,
@@ -49,7 +49,7 @@ pub struct GaugeRun {
 
 // The answer of a gauge run call: the moves made, the maximal chain where one is handed out, by gauge rows, its pick
 // sequence, and the next paused value.
-#[derive(Drop)]
+#[derive(Clone, Copy)]
 pub struct GaugeStep {
     pub outcome: Outcome,
     pub moves: u64,
@@ -59,7 +59,7 @@ pub struct GaugeStep {
 }
 
 // A fresh gauge run, or a refusal.
-#[derive(Drop)]
+#[derive(Clone, Copy)]
 pub struct GaugeStart {
     pub verdict: Verdict,
     pub run: GaugeRun,

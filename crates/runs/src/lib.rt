@@ -4,6 +4,8 @@
 // either side on plain numbers, its fresh start and its checks, batches.rt its batch, and sided.rt the core's calls on a side. Below these are engine.rt, the
 // one core, on plain numbers and arrays and by number, ordered.rt, its call under an order, and listing.rt, its batch. No function that another crate can
 // call has a `requires`, and only a batch is lent memory, the buffer for its ladders.
+#![tactic(auto)]
+
 mod batches;
 mod cases;
 mod engine;
@@ -24,7 +26,7 @@ pub use side::{
 };
 
 // What a run call answers.
-#[derive(Drop)]
+#[derive(Clone, Copy)]
 pub enum Outcome {
     HandedOut,
     Spent,

@@ -18,7 +18,7 @@ use transpose;
 
 // What a batch gives: how it stopped, how many ladders it handed out, how many moves it made, and where the run is
 // then.
-#[derive(Drop)]
+#[derive(Clone, Copy)]
 pub struct Tally {
     pub outcome: Outcome,
     pub ladders: u64,

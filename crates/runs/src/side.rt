@@ -24,7 +24,7 @@ use table;
 use table::{Chain, Table};
 
 // A paused run: whether it is a case run, and what `GaugeRun` and `CaseRun` have, by plain numbers.
-#[derive(Drop)]
+#[derive(Clone, Copy)]
 pub struct SideRun {
     pub cases: bool,
     pub table: Table,
@@ -36,7 +36,7 @@ pub struct SideRun {
 }
 
 // The answer of its call, as `GaugeStep` and `CaseStep` have it.
-#[derive(Drop)]
+#[derive(Clone, Copy)]
 pub struct SideStep {
     pub outcome: Outcome,
     pub moves: u64,
@@ -46,7 +46,7 @@ pub struct SideStep {
 }
 
 // A fresh run of either side, or a refusal.
-#[derive(Drop)]
+#[derive(Clone, Copy)]
 pub struct SideStart {
     pub verdict: Verdict,
     pub run: SideRun,

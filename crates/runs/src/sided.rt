@@ -17,7 +17,7 @@ use table::Table;
 use transpose;
 
 // The numbers of a run's table, whose rows are lent beside this, and whether it omits.
-#[derive(Drop)]
+#[derive(Clone, Copy)]
 pub struct Shape {
     pub gauges: u64,
     pub cases: u64,

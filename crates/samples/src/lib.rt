@@ -1,5 +1,7 @@
 // Reproducible test tables (02, R-13): Marsaglia's xorshift64, and the table that a shape, a start and a density give. Any numbers are taken;
 // 10 and 28 are refused. No public function has a `requires`, and none is lent memory.
+#![tactic(auto)]
+
 ghost use Rattle.std.specs.Prelude.{◌≡◌, ◌≤◌};
 ghost use Rattle.table.specs.Tables.{made, padded};
 ghost use Rattle.samples.specs.Xorshift.{step as stepped, StepClaims};
@@ -14,7 +16,7 @@ use table::{Made, Table};
 const MOST_DENSITY: u64 = 256;
 
 // A row that was made, and the state after it.
-#[derive(Drop)]
+#[derive(Clone, Copy)]
 struct Sampled {
     pub row: u64,
     pub state: u64,

@@ -113,7 +113,7 @@ module _ (P : ℕ → Type 0) (s : ℕ) where
   pub passed_none : (rest : ℕ) → rest ≡ s → Passed P s rest
   passed_none rest e = record { within = λ h b. rw (← e) b; passed = λ h a b. yes_no_lem (bit s h) a (rw e at b) }
 
-  pub passed_more : (rest after h : ℕ) → Passed P s rest → h ≡ count_trailing_zeros 64 rest → Rest rest after → P h → Passed P s after
+  passed_more : (rest after h : ℕ) → Passed P s rest → h ≡ count_trailing_zeros 64 rest → Rest rest after → P h → Passed P s after
   passed_more rest after h p e r t = record {
     within = λ k b. p.within k (left-of (bit rest k) (not (eqb k (count_trailing_zeros 64 rest))) (sym (r.bits k) ∙ b));
     passed = λ k a b. by k a b (ℕ_discrete k (count_trailing_zeros 64 rest));

@@ -1,6 +1,8 @@
 // Finding candidates (01, "Moves of a run"), once for both runs and for growing: whether a place is one, and the lowest from a place on.
 // The unpicked gauges are a set of places beside the rows; `left` is the set of left cases. proofs/AfterPicks.antt says that these are then 01's
 // candidates. Any numbers are taken, nothing is refused, and no memory that is lent changes.
+#![tactic(auto)]
+
 ghost use Rattle.std.specs.Prelude.{◌≡◌, ◌<◌, true};
 ghost use Rattle.sets.specs.Sets.{bit};
 ghost use Rattle.search.specs.Finding.{blocks as blocks_in, candidate_in, FirstOf, within};

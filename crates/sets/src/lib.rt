@@ -1,5 +1,7 @@
 // Sets of cases as 64-bit numbers: inclusion, membership, the lowest n cases, the lowest place, a set changed at one
 // place. Every function takes any numbers and refuses nothing; the laws that the other crates rest on are in proofs/.
+#![tactic(auto)]
+
 ghost use Rattle.std.specs.Prelude.{◌≡◌};
 ghost use Rattle.std.specs.Int.Count.{ones};
 ghost use Rattle.sets.specs.First.{First, Rest, Without, With, Upper};

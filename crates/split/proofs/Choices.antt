@@ -43,6 +43,7 @@ or_true true = refl
 or_true false = refl
 
 end_closes : (v : Value) (rs : List Step) (r : Step) → Memᴰ r rs → r.answer ≡ end → is_closed v rs ≡ true
+end_closes v [] r m d = elim m [ ]
 end_closes v (x ∷ rs) r (Memᴰ.head e) d = let a : x.answer ≡ end = sym (ap (λ (y : Step). y.answer) e) ∙ d in rw a
 end_closes v (x ∷ rs) r (Memᴰ.tail m) d = rw (end_closes v rs r m d, or_true)
 

@@ -12,14 +12,14 @@ use runs::{CasePicks, CaseRun};
 use table::Case;
 
 // The cases that can be picked next, by number in the order of the value's preference, padded with zeros; or a refusal.
-#[derive(Drop)]
+#[derive(Clone, Copy)]
 pub struct CaseCandidates {
     pub verdict: Verdict,
     pub picks: CasePicks,
 }
 
 // A part of the case run's list, or a refusal.
-#[derive(Drop)]
+#[derive(Clone, Copy)]
 pub struct CasePart {
     pub verdict: Verdict,
     pub run: CaseRun,

@@ -13,14 +13,14 @@ use table::Gauge;
 
 // The gauges that can be picked next, by number in the order of the value's preference, padded with zeros; or a
 // refusal.
-#[derive(Drop)]
+#[derive(Clone, Copy)]
 pub struct GaugeCandidates {
     pub verdict: Verdict,
     pub picks: GaugePicks,
 }
 
 // A part of the gauge run's list, or a refusal.
-#[derive(Drop)]
+#[derive(Clone, Copy)]
 pub struct GaugePart {
     pub verdict: Verdict,
     pub run: GaugeRun,

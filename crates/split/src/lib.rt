@@ -3,6 +3,8 @@
 // run calls from it hand these out, up to the first hand-out whose sequence does not start so, or an end. Two entries for each side: gauges.rt and
 // cases.rt have the types, and side.rt, below both, the work, for crates that do the same on both sides. Any value is taken: 10, 11, 27 and 15 are refused,
 // with blanks beside a refusal; no function that another crate can call has a `requires`, and nothing is lent.
+#![tactic(auto)]
+
 mod cases;
 mod gauges;
 mod side;

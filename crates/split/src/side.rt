@@ -20,14 +20,14 @@ const PLACES: u64 = Table::MOST_GAUGES;
 const ROOM: usize = Table::MOST_GAUGES as usize;
 
 // The numbers that can be picked next, in the order of the value's preference, padded with zeros; or a refusal.
-#[derive(Drop)]
+#[derive(Clone, Copy)]
 pub struct SideCandidates {
     pub verdict: Verdict,
     pub picks: [u8; 64],
 }
 
 // A part, or a refusal.
-#[derive(Drop)]
+#[derive(Clone, Copy)]
 pub struct SidePart {
     pub verdict: Verdict,
     pub run: SideRun,

@@ -1,5 +1,7 @@
 // Response tables and chains as values: the types, making a table, and the checks of a table and of a chain handed in (01, refusals 10
 // to 13). No public function has a `requires`, and none is lent memory. Refusals are in `refusals`, exchanged sides in `transpose`.
+#![tactic(auto)]
+
 ghost use Rattle.std.specs.Prelude.{◌≡◌, ◌↔◌, true, ℕ, ◌≤◌, ◌<◌, min, length};
 ghost use Rattle.table.specs.Pairs.{row as row_of, Has};
 ghost use Rattle.table.specs.Unions.{union_of};
@@ -10,15 +12,15 @@ use refusals::{Refusal, Verdict};
 use sets;
 
 // A gauge's number, from 1. A gauge number never stands where a case number belongs (01): the two node classes of source 003.
-#[derive(Drop)]
+#[derive(Clone, Copy)]
 pub struct Gauge(pub u64);
 
 // A load case's number, from 1.
-#[derive(Drop)]
+#[derive(Clone, Copy)]
 pub struct Case(pub u64);
 
 // A response table: its gauges, its cases, and a row of case bits for each gauge; rows past the last gauge are zero.
-#[derive(Drop)]
+#[derive(Clone, Copy)]
 pub struct Table {
     pub gauges: u64,
     pub cases: u64,
@@ -26,7 +28,7 @@ pub struct Table {
 }
 
 // A set of pairs of a table, by gauge rows; its row count is the table's number of gauges.
-#[derive(Drop)]
+#[derive(Clone, Copy)]
 pub struct Chain {
     pub gauges: u64,
     pub rows: [u64; 64],
@@ -36,7 +38,7 @@ pub struct Chain {
 const ROWS: usize = Table::MOST_GAUGES as usize;
 
 // A table, or a refusal with the blank table.
-#[derive(Drop)]
+#[derive(Clone, Copy)]
 pub struct Made {
     pub verdict: Verdict,
     pub table: Table,

@@ -13,7 +13,7 @@ const COMMENT: u64 = 256;
 const COMMENT_LINE: u64 = 1025;
 
 // A byte or a comment line, how many bytes it gives in all, and where the text goes on.
-#[derive(Drop)]
+#[derive(Clone, Copy)]
 struct Item {
     unit: u64,
     count: u64,

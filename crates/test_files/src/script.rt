@@ -14,7 +14,7 @@ pub fn byte(s: &[u8], at: usize) -> u8 {
 
 // The place behind a place.
 pub fn after(at: usize) -> usize {
-    std::num::wrapping_add_usize(at, 1)
+    at.wrapping_add(1)
 }
 
 // Where a byte is first, from a place onward; the end where it is not.
@@ -68,7 +68,7 @@ pub fn wide(b: u8) -> u64 {
 }
 
 pub fn plus(a: u64, b: u64) -> u64 {
-    std::num::wrapping_add_u64(a, b)
+    a.wrapping_add(b)
 }
 
 // The number behind the verb of a line.

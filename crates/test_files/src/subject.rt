@@ -6,7 +6,7 @@ use refusals::{Refusal, Verdict};
 use table::Table;
 
 // A table read, or the number of a refusal.
-#[derive(Drop)]
+#[derive(Clone, Copy)]
 pub struct Reading {
     pub refused: u64,
     pub table: Table,
@@ -34,7 +34,7 @@ fn number(why: Refusal) -> u64 {
 }
 
 // Where a comment is, or the number of a refusal.
-#[derive(Drop)]
+#[derive(Clone, Copy)]
 pub struct Place {
     pub refused: u64,
     pub start: usize,

@@ -17,5 +17,5 @@ pub fn put(a: &mut [u64; 64], i: u64, x: u64) {
 }
 
 pub fn plus(a: u64, b: u64) -> u64 {
-    std::num::wrapping_add_u64(a, b)
+    a.wrapping_add(b)
 }

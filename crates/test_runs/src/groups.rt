@@ -1,6 +1,6 @@
 // The tables: every one of the shapes up to 3 by 3, and some larger ones, which anyone can make again (02, R-13).
 use super::tally::Tally;
-use super::{arrays, boards, lists, plain, tally};
+use super::{arrays, grids, listed, plain, tally};
 
 const SEED: u64 = 88172645463325252;
 
@@ -24,7 +24,7 @@ fn shape(t: Tally, k: u64) -> Tally {
     let mut pairs: u64 = all;
     let mut turns: u64 = 0;
     while turns < 512 {
-        now = lists::table(tally::about(now, gauges, cases, pairs));
+        now = listed::table(tally::about(now, gauges, cases, pairs));
         pairs = plain::next_subset(all, pairs);
         if pairs == all {
             return now;
@@ -51,7 +51,7 @@ fn sample(t: Tally, gauges: u64, cases: u64) -> Tally {
         let made = samples::sample_table(gauges, cases, SEED ^ k, density(k));
         let table = made.table;
         let rows = table.rows;
-        now = lists::table(tally::about(now, gauges, cases, boards::pairs_of(&rows)));
+        now = listed::table(tally::about(now, gauges, cases, grids::pairs_of(&rows)));
         k += 1;
     }
     now

@@ -12,14 +12,14 @@ pub const SPENT: u64 = 102;
 pub const ENDS: u64 = 103;
 
 // A paused run of each side, of which one goes on.
-#[derive(Drop)]
+#[derive(Clone, Copy)]
 pub struct Run {
     pub side: u64,
     pub gauges: GaugeRun,
     pub cases: CaseRun,
 }
 
-#[derive(Drop)]
+#[derive(Clone, Copy)]
 pub struct Step {
     pub says: u64,
     pub chain: Chain,

@@ -1,8 +1,19 @@
 // What a group of checks has counted: tables, ladders handed out, calls, and comparisons that failed, the first of which is written out.
 use super::arrays;
+use std::io;
 
-// The table at hand, its pairs as a board, and the counts.
-#[derive(Drop)]
+// A comparison that failed: what was expected and found, and the table, its pairs as a board.
+#[derive(Clone, Copy)]
+pub struct Disagreement {
+    pub want: u64,
+    pub got: u64,
+    pub gauges: u64,
+    pub cases: u64,
+    pub pairs: u64,
+}
+
+// The table at hand, its pairs as a board, the counts, and the first comparison that failed; zeros where none did.
+#[derive(Clone, Copy)]
 pub struct Tally {
     pub gauges: u64,
     pub cases: u64,
@@ -11,6 +22,7 @@ pub struct Tally {
     pub ladders: u64,
     pub calls: u64,
     pub wrong: u64,
+    pub first: Disagreement,
 }
 
 pub fn fresh() -> Tally {
@@ -22,6 +34,13 @@ pub fn fresh() -> Tally {
         ladders: 0,
         calls: 0,
         wrong: 0,
+        first: Disagreement {
+            want: 0,
+            got: 0,
+            gauges: 0,
+            cases: 0,
+            pairs: 0,
+        },
     }
 }
 
@@ -43,12 +62,13 @@ pub fn same(t: Tally, want: u64, got: u64) -> Tally {
     let mut after = t;
     after.wrong = arrays::plus(t.wrong, 1);
     if t.wrong == 0 {
-        number(b"FIRST DISAGREEMENT, expected ", want);
-        number(b" found ", got);
-        number(b" for the table ", t.gauges);
-        number(b" ", t.cases);
-        number(b" ", t.pairs);
-        io::write_all(1, b"\n");
+        after.first = Disagreement {
+            want: want,
+            got: got,
+            gauges: t.gauges,
+            cases: t.cases,
+            pairs: t.pairs,
+        };
     }
     after
 }
@@ -61,16 +81,17 @@ pub fn called(t: Tally, ladders: u64) -> Tally {
     after
 }
 
-// The line of a group.
-pub fn sum_up(group: &[u8], t: Tally) {
-    number(group, t.tables);
-    number(b" tables, ", t.ladders);
-    number(b" ladders, ", t.calls);
-    number(b" calls, ", t.wrong);
-    io::write_all(1, b" disagreements\n");
-}
-
-fn number(text: &[u8], n: u64) {
-    io::write_all(1, text);
-    io::print_decimal(1, n);
+// The line of a group, and ahead of it the first comparison that failed.
+pub fn sum_up(rt: &impl Print, group: &str, t: Tally) -> io::Result<()> {
+    if t.wrong != 0 {
+        let d = t.first;
+        println!(rt;
+            "FIRST DISAGREEMENT, expected {} found {} for the table {} {} {}",
+            d.want, d.got, d.gauges, d.cases, d.pairs
+        )?;
+    }
+    println!(rt;
+        "{group}{} tables, {} ladders, {} calls, {} disagreements",
+        t.tables, t.ladders, t.calls, t.wrong
+    )
 }

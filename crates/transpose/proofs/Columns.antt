@@ -77,7 +77,7 @@ module _ (n k : ℕ) (rows : List ℕ) (few : n ≤ 64) where
               (omega (arith, length-drop (i - 1) (places n rows), length-places n rows)),
         ))
 
-  pub gathered_all : (i set : ℕ) → i ≤ 0 → Gathered n k rows i set → set ≡ column (places n rows) k
+  gathered_all : (i set : ℕ) → i ≤ 0 → Gathered n k rows i set → set ≡ column (places n rows) k
   gathered_all i set h g = let e : i ≡ 0 = omega arith in g ∙ ap (λ (m : ℕ). column (drop m (places n rows)) k) e
 
 -- one word more of a list made from a function, as a loop stores it
@@ -139,10 +139,10 @@ module _ (n k : ℕ) (rows : List ℕ) (few : n ≤ 64) where
 
 -- what was stored before leaves the length as it is
 module _ (l : List ℕ) (i j : ℕ) (f : Four) (h : j < length l) where
-  pub in_two : j < length (set l i f.a)
+  in_two : j < length (set l i f.a)
   in_two = lt-length-set l i f.a h
 
-  pub in_three : j < length (set (set l i f.a) (i + 1) f.b)
+  in_three : j < length (set (set l i f.a) (i + 1) f.b)
   in_three = lt-length-set (set l i f.a) (i + 1) f.b in_two
 
   pub in_four : j < length (set (set (set l i f.a) (i + 1) f.b) (i + 2) f.c)

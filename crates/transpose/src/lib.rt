@@ -1,6 +1,8 @@
 // A set of pairs with gauges and cases exchanged (01: "the table with gauges and cases exchanged"), as many rows and
 // columns of it as are asked for, as an array or straight into a buffer. Any numbers are taken, and nothing is
 // refused.
+#![tactic(auto)]
+
 ghost use Rattle.std.specs.Prelude.{◌≡◌, ◌+◌, ◌≤◌, ◌<◌, min, length};
 ghost use Rattle.table.specs.Tables.{padded};
 ghost use Rattle.transpose.specs.Transposing.{transpose, column as column_of};
@@ -12,7 +14,7 @@ ghost use Rattle.transpose.specs.private.Puts.{Putting};
 use table;
 
 // Four columns, from one on.
-#[derive(Drop)]
+#[derive(Clone, Copy)]
 struct Four {
     pub a: u64,
     pub b: u64,

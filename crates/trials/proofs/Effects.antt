@@ -53,7 +53,7 @@ module _ (u : Table) (s : Chain) (h : Shaped u s) (n : length u.rows ≡ 64) (m 
           go (no l) = subst (λ (a : ℕ). a ⊆ row u.rows i) (sym (h.rest i (omega arith))) (zero_sub (row u.rows i))
 
   module _ (j : Judgement) (d : Judged (chain_refusal u s) (IsMaximal (table_rows u) (chain_rows s)) j) where
-    pub effect-yes : j ≡ Yes → HasEffect StillMaximal u s
+    effect-yes : j ≡ Yes → HasEffect StillMaximal u s
     effect-yes e = d.yes (ap (λ (x : Judgement). (judgement x).value) e)
 
     pub effect-no : j ≡ No → HasEffect OnlyChain u s

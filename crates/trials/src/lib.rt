@@ -2,6 +2,8 @@
 // commit of a proposal, which flips the entry on the table that it was shown for and on no other. Any table, chain, numbers and proposal are
 // taken: a trial refuses 10, 11, 7, 12, 13 and 25, a commit 10, 11 and 26, with blank values beside a refusal. Nothing is lent, and nothing is
 // changed: a commit returns a new table. At most three judgements of a chain, 64 * 64 steps on sets of cases each.
+#![tactic(auto)]
+
 ghost use Rattle.std.specs.Prelude.{◌≡◌, ◌↔◌, true, ◌<◌};
 ghost use Rattle.refusals.specs.Answers.{verdict, refused};
 ghost use Rattle.table.specs.Tables.{made};
@@ -16,7 +18,7 @@ use table;
 use table::{Case, Chain, Gauge, Made, Table};
 
 // What a flip does to a maximal chain: over the new table it is maximal still, only a chain, or no longer within the table.
-#[derive(Drop)]
+#[derive(Clone, Copy)]
 pub enum Effect {
     StillMaximal,
     OnlyChain,
@@ -24,7 +26,7 @@ pub enum Effect {
 }
 
 // The flip of one entry as a trial shows it: the table and the maximal chain that it was tried on, the place, and the effect.
-#[derive(Drop)]
+#[derive(Clone, Copy)]
 pub struct Proposal {
     pub table: Table,
     pub chain: Chain,
@@ -34,7 +36,7 @@ pub struct Proposal {
 }
 
 // A proposal, or a refusal with the blank proposal.
-#[derive(Drop)]
+#[derive(Clone, Copy)]
 pub struct Proposed {
     pub verdict: Verdict,
     pub proposal: Proposal,

@@ -125,7 +125,7 @@ module _ (t : Table) (s x : Chain) (j : Judgement) (d : Judged (chain_refusal t 
 
 -- ---- the chain, and then the ladder
 module _ (t : Table) (s x : Chain) (j : Judgement) (d : Judged (chain_refusal t s) (IsChain (chain_rows s)) j) where
-  pub chain_passes : j ≡ Yes → chain_refusal t s ≡ 0
+  chain_passes : j ≡ Yes → chain_refusal t s ≡ 0
   chain_passes e = (judged_yes (chain_refusal t s) (IsChain (chain_rows s)) j d e).0
 
   pub chain_refused : (why : Refusal) → j ≡ Refused why → Checked t s x (number why)

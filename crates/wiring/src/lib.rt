@@ -2,6 +2,8 @@
 // written to a lent buffer, two bytes a pair. Any table, any two chains and any buffer are taken: 10 to 14, 25 and 16 are refused in 02's order,
 // and a refusal leaves the buffer as it was; no byte behind the order is touched. *Ladder* is 02's word for a maximal chain. A pair takes at
 // most 65 * 64 steps on sets of cases: for each gauge, what the other rows leave to it.
+#![tactic(auto)]
+
 ghost use Rattle.std.specs.Prelude.{◌≡◌, [], ◌∷◌, ◌+◌, ◌≤◌, ◌<◌, length, take};
 ghost use Rattle.std.specs.Int.Count.{ones};
 ghost use Rattle.std.proofs.lemmas.List.Edits.{sets as stored};
@@ -20,14 +22,14 @@ use sets;
 use table::{Case, Chain, Gauge, Table};
 
 // How many pairs were written, or a refusal.
-#[derive(Drop)]
+#[derive(Clone, Copy)]
 pub enum Ordered {
     Pairs(usize),
     Refused(Refusal),
 }
 
 // A pair by its places, counted from 0: the row, and the bit in it.
-#[derive(Drop)]
+#[derive(Clone, Copy)]
 struct Place {
     pub row: usize,
     pub bit: u64,

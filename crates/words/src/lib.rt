@@ -1,6 +1,8 @@
 // Words of lent slices: tables, chains, rows and numbers read from them and put into them at fixed places, and the number of a verdict. All entries of the
 // C library read and put by these. Every function takes every slice: a place behind the last word reads as 0, and putting there changes nothing, so none
 // has a `requires`. The layouts are in specs/Layouts.antt, what an entry as a whole gives in specs/Serving.antt.
+#![tactic(auto)]
+
 ghost use Rattle.std.specs.Prelude.{◌≡◌, [], ◌∷◌};
 ghost use Rattle.refusals.specs.Answers.{verdict};
 ghost use Rattle.words.specs.Layouts.{word_at, rows_at, numbers_at, table_at, chain_at, table_words, chain_words, as_number, Put};

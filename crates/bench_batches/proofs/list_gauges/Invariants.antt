@@ -1,0 +1,4 @@
+use Rattle.bench_batches.proofs.list_gauges.Given as goal
+
+abbrev pub decreases-loop-calls : goal.decreases-loop-calls
+decreases-loop-calls l = l.calls

@@ -1,0 +1,11 @@
+-- `essentials::outdone_in` meets its contract: of the places that the loop passed none has conflicts that strictly contain those of the pair.
+use Prim.Native.Nat.{ℕ, suc}
+use Rattle.conflicts.specs.Conflicts.{StrictlyContains}
+use Rattle.essentials.proofs.Storing.{Passed}
+use Rattle.essentials.proofs.outdone_in.Given as goal
+
+abbrev pub invariant-loop-rest : goal.invariant-loop-rest
+invariant-loop-rest l = Passed (λ (d : ℕ). StrictlyContains l.rows (suc l.h) (suc d) (suc l.g) (suc l.k) → ⊥) l.initial.rest l.rest
+
+abbrev pub decreases-loop-rest : goal.decreases-loop-rest
+decreases-loop-rest l = l.rest

@@ -1,0 +1,28 @@
+-- `extend::first_rows` meets its contract: each turn makes the next pick of `grow`, and the rows are the chain of the picks.
+use native.Mathlib.Omega.{arith}
+use borrow.Author.Rules.{rules}
+use Rattle.extend.proofs.Picking.{picked_all, picked-end, picked_next}
+use Rattle.extend.proofs.Answers.{Given, first_turn, last_turn}
+use Rattle.extend.proofs.first_rows.Goals as goal
+
+pub loop-turns-init : goal.loop-turns-init
+loop-turns-init c =
+    let given : Given c.args.t c.args.s = record { facts = c.requires.0; chain = c.requires.1; size = search rules; size_chain = search rules } in
+    first_turn _ _ given _ _ c.lowest-unpicked.ensures c.lowest-left.ensures
+
+pub returns-then-n-g : goal.returns-then-n-g
+returns-then-n-g c =
+    let given : Given c.args.t c.args.s = record { facts = c.requires.0; chain = c.requires.1; size = search rules; size_chain = search rules } in
+    last_turn _ _ given _
+    (picked-end _ _ _ _ _ _ _ _ _ c.loop-turns.invariant _ _ c.union_of-all_owed.ensures c.next_fitting-g.ensures
+    c.loop-turns-test.true c.if-n-g.true)
+
+pub loop-turns-preserved : goal.loop-turns-preserved
+loop-turns-preserved c =
+    picked_next _ _ _ _ _ _ _ _ _ c.loop-turns.invariant _ _ c.union_of-all_owed.ensures c.next_fitting-g.ensures
+    c.loop-turns-test.true c.if-n-g.false _ c.without-unpicked.ensures
+
+pub returns : goal.returns
+returns c =
+    let given : Given c.args.t c.args.s = record { facts = c.requires.0; chain = c.requires.1; size = search rules; size_chain = search rules } in
+    last_turn _ _ given _ (picked_all _ _ _ _ _ _ _ _ _ c.loop-turns.invariant (omega arith))

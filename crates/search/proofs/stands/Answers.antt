@@ -1,0 +1,19 @@
+-- `search::stands` meets its contract: no place of the set that was passed rules the gauge out.
+use mathlib.Core.Bool.{false}
+use Rattle.sets.specs.First.{Lowest}
+use Rattle.search.proofs.Within.{passed_all, of_empty, of_blocked, of_clear}
+use Rattle.std.proofs.Common.{true}
+use Rattle.search.proofs.stands.Goals as goal
+
+pub returns-then-own-eq0 : goal.returns-then-own-eq0
+returns-then-own-eq0 c = of_empty _ _ _ _ c.requires.0 c.requires.1 c.if-own-eq0.true
+
+pub returns-then-blocks : goal.returns-then-blocks
+returns-then-blocks c =
+    let lowest : Lowest c.loop-rest.rest c.first-h.result = c.first-h.ensures.some c.loop-rest-test.true in
+    let l = lowest in
+    of_blocked _ _ _ _ c.requires.0 c.requires.1 c.if-own-eq0.false _ _ l.below (c.loop-rest.invariant.within _ l.here) c.blocks-in-loop-rest.ensures
+    c.if-blocks.true
+
+pub returns : goal.returns
+returns c = of_clear _ _ _ _ c.requires.0 c.requires.1 c.if-own-eq0.false (passed_all _ _ _ c.loop-rest.invariant c.loop-rest-test.false)
