@@ -7,7 +7,7 @@
  *
  * PLATFORM AND LINKING
  *
- * `rt staticlib ragymolev` writes the library, target/staticlib/libragymolev.a. It is for x86-64 Linux (ELF, the System V calling convention), and for
+ * `tools/library` writes the library, target/staticlib/libragymolev.a. It is for x86-64 Linux (ELF, the System V calling convention), and for
  * every such processor. Of the C library it needs memcpy, memmove and memset, and of any other library nothing. Its code is position independent, so that
  * it can be part of a shared object too. The archive comes after the sources that call it:
  *

@@ -87,7 +87,7 @@ def library_bytes():
     try:
         path = _find.library_path()
     except ImportError:
-        raise SystemExit("ragymolev: there is no library: `rt staticlib ragymolev` proves and builds it")
+        raise SystemExit("ragymolev: there is no library: `tools/library` proves and builds it")
     return checked(path) if os.path.isfile(path) else None
 
 

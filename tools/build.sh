@@ -24,7 +24,7 @@ cannot_build() { # WORDS..
 
 # ---- what a result is made of
 
-# A line `LEVEL crates/NAME` for each crate that a crate is made of, by crates.txt; rt goes by these levels, and within one by the order of the lines.
+# A line `LEVEL crates/NAME` for each crate that a crate is made of, by crates.txt.
 crates_of() { # NAME
     awk -v wanted="$1" '
         function visit(name,    used, n, i) {
@@ -38,14 +38,15 @@ crates_of() { # NAME
             print level[name] " crates/" name
         }
         { sub(/#.*/, "") }
-        split($0, line, ":") == 2 { uses[line[1]] = line[2] }
+        split($0, line, ":") == 2 { sub(/ .*/, "", line[1]); uses[line[1]] = line[2] }
         END { visit(wanted) }' "$here/crates.txt"
 }
 
 # Each file by name, size, time of its contents and time of its status. The last one changes with every change of the contents, and no program sets it back.
-# Edits that must fail are no sources. A find without -printf lists nothing; then checksums decide. It changes the folder, and is asked in `$(..)` alone.
+# Edits that must fail are no sources, and what rt leaves in a crate's out/ is none. A find without -printf lists nothing; then checksums decide. It changes
+# the folder, and is asked in `$(..)` alone.
 seen() { # FILES AND FOLDERS..
-    cd "$here" && find "$@" -name must-fail -prune -o -type f -printf '%p %s %T@ %C@\n' 2>/dev/null
+    cd "$here" && find "$@" \( -name must-fail -o -name out \) -prune -o -type f -printf '%p %s %T@ %C@\n' 2>/dev/null
 }
 
 # One checksum of all files, names and contents; nothing where there is no program for it. Asked in `$(..)` too.
@@ -53,14 +54,14 @@ sum_of() { # FILES AND FOLDERS..
     local summer=sha256sum
     command -v "$summer" >/dev/null || summer='cksum'
     command -v "$summer" >/dev/null || return
-    cd "$here" && find "$@" -name must-fail -prune -o -type f -exec "$summer" {} + 2>/dev/null | LC_ALL=C sort | "$summer"
+    cd "$here" && find "$@" \( -name must-fail -o -name out \) -prune -o -type f -exec "$summer" {} + 2>/dev/null | LC_ALL=C sort | "$summer"
 }
 
 # ---- whether it is current
 
-# Whether a source, or a folder of sources, is newer than the result.
+# Whether a source, or a folder of sources, is newer than the result. A crate's own folder is none: rt makes and removes out/ in it.
 newer() { # RESULT SOURCES..
-    [ -n "$(cd "$here" && find "${@:2}" -name must-fail -prune -o -newer "$1" -print | head -n 1)" ]
+    [ -n "$(cd "$here" && find "${@:2}" \( -name must-fail -o -name out \) -prune -o \( -type f -o -path '*/*/*' \) -newer "$1" -print | head -n 1)" ]
 }
 
 # A file in target/built/, whole or not at all. Where it cannot be written nothing is lost: the next use looks again.
@@ -69,7 +70,7 @@ keep() { # FILE TEXT
 }
 
 # Whether RESULT is what its sources give: nothing was touched since it was found so, or the checksums are those that were kept. Where others are, and the
-# result, on the last line, is not the file that was seen then, somebody has called rt for it, and times decide.
+# result, on the last line, is not the file that was seen then, somebody else has put it there, and times decide.
 current() { # NAME RESULT SOURCES..
     local files before='' sums
     [ -f "$here/$2" ] || return 1
@@ -122,9 +123,9 @@ unlock() {
 
 # ---- building
 
-# Shows on a terminal which crate is being proved, from what rt prints of those that are; one line, in place.
-show_crates() { # CRATES, in rt's order
-    local part='' line at=0 names=("$@")
+# Shows on a terminal which crate is being proved, from the line that rt prints ahead of each, but of those that are there already; one line, in place.
+show_crates() { # HOW-MANY
+    local part='' line at=0 name=
     while :; do
         IFS= read -r -t 1 line
         case $? in
@@ -132,23 +133,25 @@ show_crates() { # CRATES, in rt's order
         1) break ;;
         *) part+=$line && line='' ;; # a second without a whole line
         esac
-        case $line in 'rt: '*' proved ('*) at=$((at + 1)) ;; esac
-        [ "$at" -ge $# ] || printf '\r%-60s' "$me: crate $((at + 1)) of $#, ${names[at]}; $((SECONDS - began)) s" >&2
+        case $line in 'rt: chose --jobs '*' for '*) at=$((at + 1)) && name=${line##* } ;; esac
+        [ "$at" -eq 0 ] || printf '\r%-70s' "$me: crate $at of at most $1, $name; $((SECONDS - began)) s" >&2
     done
-    printf '\r%-60s\r' '' >&2
+    printf '\r%-70s\r' '' >&2
 }
 
-# Has rt do what WORD says with a crate; `log` gets what it prints.
-run_rt() { # WHAT WORD CRATE
+# Has rt do what WORD says with a crate: `lib` builds a static library, `run` a program, and starts it, on no input. `log` gets what it prints. What it made
+# lies in the crate's out/, which the next rt may remove, and is copied to RESULT, whole or not at all.
+run_rt() { # WHAT WORD CRATE MADE RESULT
     local began=$SECONDS crates
     echo "$me: proving and building the $1; from nothing this takes some minutes" >&2
-    shift
     if [ -t 2 ]; then
-        mapfile -t crates < <(crates_of "$2" | sort -s -n -k1,1)
-        (cd "$here" && rt "$@") </dev/null 2>&1 | tee "$log" | show_crates "${crates[@]##*/}"
-        return "${PIPESTATUS[0]}"
+        mapfile -t crates < <(crates_of "$3")
+        (cd "$here/crates/$3" && rt "$2") </dev/null 2>&1 | tee "$log" | show_crates "${#crates[@]}"
+        [ "${PIPESTATUS[0]}" -eq 0 ] || return 1
+    else
+        (cd "$here/crates/$3" && rt "$2") </dev/null >"$log" 2>&1 || return 1
     fi
-    (cd "$here" && rt "$@") </dev/null >"$log" 2>&1
+    mkdir -p "$here/${5%/*}" && cp "$here/crates/$3/out/$4" "$here/$5.new" && mv -f "$here/$5.new" "$here/$5"
 }
 
 # Builds RESULT by a command where it is not current. One build at a time; who waited for one looks again, and fails where that one failed. What is kept of
@@ -177,17 +180,19 @@ build_result() { # NAME RESULT WHO-SAYS COMMAND WORDS.. -- SOURCES..
 }
 
 # Has rt prove a crate, and build what it is for, where that is not current.
-build_crate() { # NAME RESULT WHAT WORD CRATE
+build_crate() { # NAME RESULT WHAT WORD CRATE MADE
     local sources
     mapfile -t sources < <(crates_of "$5")
     sources=(crates.txt "${sources[@]#* }")
     ! current "$1" "$2" "${sources[@]}" || return 0
     command -v rt >/dev/null || cannot_build "the $3 is to be built, and 'rt' of the Rattle kit is not on the PATH"
-    build_result "$1" "$2" rt run_rt "${@:3}" -- "${sources[@]}"
+    build_result "$1" "$2" rt run_rt "${@:3}" "$2" -- "${sources[@]}"
 }
 
-build_library() { build_crate library "$archive" library staticlib ragymolev; }
-build_ladders() { build_crate ladders "$ladders" program check ladders; }
+build_library() { build_crate library "$archive" library lib ragymolev libragymolev.a; }
+build_ladders() { build_crate ladders "$ladders" program run ladders ladders; }
+build_example() { build_crate example target/bin/example program run example example; }
+build_bench_runs() { build_crate bench_runs target/bin/bench_runs program run bench_runs bench_runs; }
 
 # The program of ./planner from its sources; it is put in its place whole, since another use may be starting it.
 compile_planner() {

@@ -93,6 +93,14 @@ def module_of(path):
     return tuple(parts[:-1] if parts[-1] in ("lib", "main", "mod") else parts)
 
 
+USES = re.compile(r"^use \w+::(?:(\w+)|\{([^}]*)\});", re.M)
+
+
+def brought(text):
+    """The names that the `use` lines of a text bring in from other crates."""
+    return {n for a, b in USES.findall(text) for n in re.findall(r"\w+", a or b)}
+
+
 class Source:
     """The functions and constants of one file: spans of signatures and of bodies."""
 
@@ -100,8 +108,8 @@ class Source:
         self.path, self.text, self.plain = path, text, blank(text)
         self.functions, self.constants = [], []  # (name, start, body's start, body's end), (name, start, end)
         owner, owner_end = "", -1
-        # a constant of another crate, by the line that brings it in
-        self.constants += [(m[1], m.start(), m.end() - 1) for m in re.finditer(r"^use \w+::([A-Z_]+);", self.plain, re.M)]
+        # what a line brings in from another crate, constants among it: (names, start, end)
+        self.uses = [(brought(m[0]), m.start(), m.end() - 1) for m in USES.finditer(self.plain)]
         for m in re.finditer(r"\bimpl\s+(\w+)\s*\{|\bfn\s+(\w+)|\bconst\s+(\w+)\s*:", self.plain):
             if m.start() > owner_end:
                 owner = ""
@@ -160,7 +168,7 @@ def users(sources, constant):
 
 def changed_by(sources, pair):
     """The functions that a replacement changes, or None where it changes something else than bodies and constants."""
-    path, old, _ = pair
+    path, old, new = pair
     if path not in sources or sources[path].text.count(old) != 1:
         return None
     source = sources[path]
@@ -174,6 +182,11 @@ def changed_by(sources, pair):
     for name, begin, last in source.constants:
         if begin - 4 <= start and end <= last + 1:
             return users(sources, name)
+    for names, begin, last in source.uses:
+        if begin == start and end == last + 1:
+            # the constants that the line no longer brings in
+            found = [users(sources, n) if n.isupper() else None for n in names - brought(new)]
+            return set().union(*found) if found and None not in found else None
     return None
 
 

@@ -10,7 +10,7 @@ import re
 
 import edits
 import sources
-from trust import clauses_of
+from trust import clauses_of, is_own
 
 RIM = ("command/", "include/", "python/", "bench/", "examples/", "fuzz/", "tests/", "tools/", ".ci/", "install", "ladders", "planner", "pyproject.toml")
 # The words of these files are no evidence: data, and the names' own tool and tests.
@@ -21,10 +21,10 @@ NO_EVIDENCE = ("fuzz/seeds/", "tools/names", "tools/inventory.py", "tools/citati
 
 
 def files():
-    """Every file of the tree by its path from the root; not what builds leave."""
+    """Every file of the tree by its path from the root; not what builds leave: target/ and the crates' out/."""
     found = set()
     for where, folders, names in os.walk(sources.ROOT):
-        folders[:] = [f for f in folders if f not in (".git", "__pycache__") and os.path.join(where, f) != os.path.join(sources.ROOT, "target")]
+        folders[:] = [f for f in folders if f not in (".git", "__pycache__", "out") and os.path.join(where, f) != os.path.join(sources.ROOT, "target")]
         found |= {os.path.relpath(os.path.join(where, n), sources.ROOT) for n in names}
     return found
 
@@ -124,7 +124,7 @@ class Tree:
         self.folders = folders_of(self.files)
         self.all_paths = self.files | self.folders
         self.crates = sources.crates()
-        self.kit_crates = set(re.findall(r"\w+", re.sub(r"#.*|^\w+:", "", text_of("crates.txt"), flags=re.M))) - set(self.crates)
+        self.kit_crates = set(re.findall(r"\w+", re.sub(r"#.*|^\w+[^:\n]*:", "", text_of("crates.txt"), flags=re.M))) - set(self.crates)
         self.places, self.fields, self.paths, self.clauses, self.pieces, self.labels, self.kit, self.calls = {}, {}, {}, {}, {}, {}, set(), ""
         for crate in self.crates:
             self.read_logic(crate)
@@ -152,7 +152,7 @@ class Tree:
                 names |= {d.name} | parts
                 self.fields.setdefault(d.name, set()).update(parts)
             self.places[os.path.relpath(path, os.path.join(sources.ROOT, "crates"))[: -len(".antt")]] = names
-            self.kit |= {n for module, given in sources.imports(text) if "Rattle·" not in module for n, _ in given}
+            self.kit |= {n for module, given in sources.imports(text) if not is_own(module) for n, _ in given}
 
     def read_rattle(self, crate):
         for path in sources.files(crate, "src", ".rt"):

@@ -17,13 +17,13 @@ class Declaration:
 
 
 def crates():
-    """The names in crates.txt, in order."""
+    """The names in crates.txt, in order; what kind of crate it is may stand behind a name."""
     names = []
     with open(os.path.join(ROOT, "crates.txt")) as f:
         for line in f:
             line = line.split("#")[0].strip()
             if line:
-                names.append(line.split(":")[0])
+                names.append(line.split(":")[0].split()[0])
     return names
 
 
@@ -49,17 +49,28 @@ def public_parts(crate):
         for name in re.findall(r"^pub mod (\w+);", text, re.M):
             todo.append((os.path.join(beside, name + ".rt"), None))
         given = {}
-        for module, name in re.findall(r"^pub use (\w+)::(\w+);", text, re.M):
-            given.setdefault(module, set()).add(name)
+        for module, names_given in given_on(text):
+            given.setdefault(module, set()).update(names_given)
         for module, inner in given.items():
             if os.path.exists(os.path.join(beside, module + ".rt")):
                 todo.append((os.path.join(beside, module + ".rt"), inner))
     return found
 
 
+def given_on(text):
+    """(module, names) of each `pub use` of a Rattle file."""
+    return [(m, re.findall(r"\w+", a or b)) for m, a, b in re.findall(r"^pub use (\w+)::(?:(\w+)|\{([^}]*)\});", text, re.M)]
+
+
 def read(path):
     with open(path, encoding="utf-8") as f:
         return f.read()
+
+
+def is_of_a_function(path, text):
+    """Whether a file of proofs/ is a function's own proof: a whole one, or the invariants or answers that rattle asks for, and not a file of laws."""
+    name = os.path.basename(path)
+    return name == "Proof.antt" or name in ("Invariants.antt", "Answers.antt") and bool(re.search(r"\.(?:Given|Goals) as goal;?$", text, re.M))
 
 
 def strip_comments(text, mark="--"):
@@ -90,10 +101,8 @@ def cites(text):
 
 
 def spellings(name):
-    """How a declared or imported name is written where it is used: an operator by its parts, or whole."""
-    if "_" in name.strip("_") or name.startswith("_") or name.endswith("_"):
-        return [p for p in name.split("_") if p] + [name]
-    return [name]
+    """How a declared or imported name is written where it is used: an operator, with ◌ for each thing that it takes, by its parts, or whole."""
+    return [p for p in name.split("◌") if p] + [name] if "◌" in name else [name]
 
 
 USE = re.compile(r"^\s*(?:ghost )?(?:pub )?use ([^\s{;]+?)(?:\.\{(.*?)\})?(?: as (\S+?))?;?$", re.M | re.S)

@@ -4,6 +4,7 @@ In order: a file of definitions; what is reached from a text (`Trust`); the clau
 alone; all that rests on trust (`collect`). tools/trust-list and tools/pins are built on it.
 """
 
+import functools
 import os
 import re
 
@@ -11,9 +12,20 @@ import sources
 
 
 def module_file(module):
-    """The file of a module `Rattle·crate.specs.A.B` or `Rattle·crate·specs.specs.A.B`, as (crate, path below the crate); likewise in proofs."""
-    m = re.match(r"^Rattle·(\w+)(?:·\w+)?\.(specs|proofs)\.(.+)$", module)
-    return (m.group(1), m.group(2) + "/" + m.group(3).replace(".", "/")) if m else None
+    """The file of a module `Rattle.crate.specs.A.B` of a crate of the repository, as (crate, path below the crate); likewise in proofs."""
+    m = re.match(r"^Rattle\.(\w+)\.(specs|proofs)\.(.+)$", module)
+    return (m.group(1), m.group(2) + "/" + m.group(3).replace(".", "/")) if m and m.group(1) in own() else None
+
+
+@functools.lru_cache(maxsize=None)
+def own():
+    return frozenset(sources.crates())
+
+
+def is_own(module):
+    """Whether a module is of a crate of the repository, and not of the kit."""
+    parts = module.split(".")
+    return parts[0] == "Rattle" and len(parts) > 1 and parts[1] in own()
 
 
 class Specs:
@@ -66,7 +78,7 @@ class Trust:
                     self.need(own[0], own[1], name)
 
     def reach(self, module, name, where):
-        if not module.startswith("Rattle·"):
+        if not is_own(module):
             self.kit.setdefault(module, set()).add(name)
             return
         place = module_file(module)
@@ -76,7 +88,7 @@ class Trust:
         crate, path = place
         if path.startswith("specs/declared/"):
             parts = path.split("/")
-            self.declared.setdefault(crate, set()).add(parts[-2] if parts[-1] == "the-variants" else parts[-1])
+            self.declared.setdefault(crate, set()).add(parts[-2] if parts[-1] == "TheVariants" else parts[-1])
             return
         self.need(crate, path, name)
 
