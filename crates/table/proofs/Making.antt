@@ -1,6 +1,6 @@
 -- No two answers of making a table read alike.
 use mathlib.Core.Path.{◌≡◌, ap, ap₂}
-use Rattle.refusals.specs.Answers.{Answer, verdict}
+use Rattle.refusals.specs.Answers.{Answer}
 use Rattle.table.specs.Tables.{made}
 use Rattle.table.specs.declared.Table.{Table}
 use Rattle.table.specs.declared.Made.{Made}

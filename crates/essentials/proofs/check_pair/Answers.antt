@@ -5,7 +5,6 @@ use borrow.Author.Rules.{rules}
 use Rattle.table.specs.Tables.{table_refusal}
 use Rattle.refusals.proofs.Answering.{verdict_refused, verdict_accepted}
 use Rattle.essentials.proofs.Answers.{pair_refused, pair-absent, pair-present}
-use Rattle.std.proofs.Common.{true, false}
 use Rattle.essentials.proofs.check_pair.Goals as goal
 
 pub returns-in-Refused : goal.returns-in-Refused

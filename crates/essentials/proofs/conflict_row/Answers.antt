@@ -1,6 +1,5 @@
 -- `essentials::conflict_row` meets its contract.
 use Rattle.essentials.proofs.RowLaws.{row_none, row_some}
-use Rattle.std.proofs.Common.{true, false}
 use Rattle.essentials.proofs.conflict_row.Goals as goal
 
 pub returns-then-has : goal.returns-then-has

@@ -1,6 +1,5 @@
 -- `essentials::essential_row` meets its contract: of the places passed, those kept are the essential pairs.
 use Rattle.essentials.proofs.Outdoing.{keeping_in, keeping_all}
-use Rattle.std.proofs.Common.{true, false}
 use Rattle.essentials.proofs.essential_row.Goals as goal
 
 pub loop-rest-preserved : goal.loop-rest-preserved

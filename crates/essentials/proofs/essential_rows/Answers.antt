@@ -7,7 +7,6 @@ use Rattle.table.specs.Tables.{Legal}
 use Rattle.refusals.proofs.Answering.{verdict_accepted}
 use Rattle.table.proofs.Legality.{legal_of}
 use Rattle.essentials.proofs.Outdoing.{finding_none, finding_more, finding_all, ready}
-use Rattle.std.proofs.Common.{true, false}
 use Rattle.essentials.proofs.essential_rows.Goals as goal
 
 pub unions-store-requires : goal.unions-store-requires

@@ -1,6 +1,5 @@
 -- `essentials::included` meets its contract.
 use Rattle.essentials.proofs.RowLaws.{includes_out, includes_in}
-use Rattle.std.proofs.Common.{true, false}
 use Rattle.essentials.proofs.included.Goals as goal
 
 pub returns-then-has : goal.returns-then-has

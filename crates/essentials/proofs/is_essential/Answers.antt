@@ -7,7 +7,6 @@ use Rattle.judge.proofs.Verdicts.{judged_refused}
 use Rattle.conflicts.proofs.Covering.{conflict_claims}
 use Rattle.essentials.proofs.Answers.{PairFacts, pair_facts, placed, essential-yes, essential-no}
 use Rattle.essentials.proofs.Outdoing.{ready}
-use Rattle.std.proofs.Common.{true, false}
 use Rattle.essentials.proofs.is_essential.Goals as goal
 
 pub returns-in-Refused : goal.returns-in-Refused

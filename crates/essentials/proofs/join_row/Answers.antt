@@ -1,6 +1,5 @@
 -- `essentials::join_row` meets its contract.
 use Rattle.essentials.proofs.RowLaws.{joined_has, joined_within, joined_both}
-use Rattle.std.proofs.Common.{true, false}
 use Rattle.essentials.proofs.join_row.Goals as goal
 
 pub returns-then-has : goal.returns-then-has

@@ -1,7 +1,6 @@
 -- `essentials::outdone` meets its contract: no row passed has such a pair.
 use native.Mathlib.Omega.{arith}
 use Rattle.essentials.proofs.Outdoing.{row_passed, no_row}
-use Rattle.std.proofs.Common.{false}
 use Rattle.essentials.proofs.outdone.Goals as goal
 
 pub loop-h-preserved : goal.loop-h-preserved

@@ -1,6 +1,5 @@
 -- `essentials::outdone_in` meets its contract: of the places that the loop passed none has conflicts that strictly contain those of the pair.
 use Rattle.essentials.proofs.Outdoing.{not_within, place_found, place-passed, none_found}
-use Rattle.std.proofs.Common.{true, false}
 use Rattle.essentials.proofs.outdone_in.Goals as goal
 
 pub returns-then-not-subset : goal.returns-then-not-subset

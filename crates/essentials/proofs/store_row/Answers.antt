@@ -1,6 +1,5 @@
 -- `essentials::store_row` meets its contract: the unions of the places passed are stored, and those of the rows before are kept.
 use Rattle.essentials.proofs.Storing.{storing_all}
-use Rattle.std.proofs.Common.{false}
 use Rattle.essentials.proofs.store_row.Goals as goal
 
 pub returns : goal.returns

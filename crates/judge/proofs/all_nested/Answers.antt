@@ -1,9 +1,7 @@
 -- `judge::all_nested` meets its contract: the test holds at each row passed.
-use mathlib.Core.Bool.{true}
 use native.Mathlib.Omega.{arith}
 use Rattle.sets.proofs.Tabulated.{all_none, all_more, all_fails, all_done}
 use Rattle.judge.specs.private.RowTests.{all_nested}
-use Rattle.std.proofs.Common.{false}
 use Rattle.judge.proofs.all_nested.Goals as goal
 
 pub loop-i-init : goal.loop-i-init

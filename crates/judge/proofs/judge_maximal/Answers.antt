@@ -7,7 +7,6 @@ use lib.ListN.{length}
 use Rattle.table.specs.Tables.{chain_refusal}
 use Rattle.refusals.proofs.Answering.{verdict_accepted}
 use Rattle.judge.proofs.Verdicts.{few_gauges, maximal_no_chain, maximal-yes, maximal-no}
-use Rattle.std.proofs.Common.{true, false}
 use Rattle.judge.proofs.judge_maximal.Goals as goal
 
 pub all_nested-requires : goal.all_nested-requires

@@ -1,6 +1,5 @@
 -- `judge::narrowed` meets its contract: each answer computes from the tests that led to it.
 use Rattle.judge.proofs.RowLoops.{narrow_out, narrow_same, narrow_in}
-use Rattle.std.proofs.Common.{true, false}
 use Rattle.judge.proofs.narrowed.Goals as goal
 
 pub returns-then-not-subset : goal.returns-then-not-subset

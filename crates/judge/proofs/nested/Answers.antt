@@ -1,6 +1,5 @@
 -- `judge::nested` meets its contract: each answer computes from the inclusions that led to it.
 use Rattle.judge.proofs.RowLoops.{nested_up, nested_down}
-use Rattle.std.proofs.Common.{true, false}
 use Rattle.judge.proofs.nested.Goals as goal
 
 pub returns-then-subset : goal.returns-then-subset

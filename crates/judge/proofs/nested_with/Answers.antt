@@ -1,9 +1,7 @@
 -- `judge::nested_with` meets its contract: the test holds at each number passed.
-use mathlib.Core.Bool.{true}
 use native.Mathlib.Omega.{arith}
 use Rattle.sets.proofs.Tabulated.{all_none, all_more, all_fails, all_done}
-use Rattle.judge.specs.private.RowTests.{nested, nested_with}
-use Rattle.std.proofs.Common.{false}
+use Rattle.judge.specs.private.RowTests.{nested_with}
 use Rattle.judge.proofs.nested_with.Goals as goal
 
 pub loop-j-init : goal.loop-j-init

@@ -3,7 +3,6 @@ use mathlib.Core.Path.{◌≡◌, sym, ap, ◌∙◌}
 use native.Mathlib.Omega.{arith}
 use Rattle.judge.specs.WidestRows.{widest}
 use Rattle.judge.proofs.RowLoops.{widest_past, widest_long, widest_in, widest_start, widest_more}
-use Rattle.std.proofs.Common.{true, false}
 use Rattle.judge.proofs.widest.Goals as goal
 
 pub returns-then-i-ge-ROWS : goal.returns-then-i-ge-ROWS

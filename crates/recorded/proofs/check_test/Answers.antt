@@ -1,7 +1,6 @@
 -- `recorded::check_test` meets its contract: each answer is the definition's by the tests that led to it.
 use Rattle.refusals.proofs.Answering.{verdict_refused, verdict_accepted}
 use Rattle.recorded.proofs.Checking.{test_listed, test_fits, test-range, test-passes}
-use Rattle.std.proofs.Common.{true, false}
 use Rattle.recorded.proofs.check_test.Goals as goal
 
 pub returns-in-Refused : goal.returns-in-Refused

@@ -1,7 +1,6 @@
 -- `recorded::place_fits` meets its contract.
 use mir.Facts.{to_z-of_z}
 use Rattle.recorded.proofs.Turns.{fits_zero, fits_bit}
-use Rattle.std.proofs.Common.{true, false}
 use Rattle.recorded.proofs.place_fits.Goals as goal
 
 pub returns-then-magnitude-eq0 : goal.returns-then-magnitude-eq0

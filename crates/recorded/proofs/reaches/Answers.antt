@@ -1,7 +1,6 @@
 -- `recorded::reaches` meets its contract.
 use mir.Facts.{to_z-of_z}
 use Rattle.recorded.proofs.Turns.{reaches_not, reaches_by}
-use Rattle.std.proofs.Common.{true, false}
 use Rattle.recorded.proofs.reaches.Goals as goal
 
 pub returns-then-not-has : goal.returns-then-not-has

@@ -5,7 +5,7 @@ use Rattle.recorded.specs.Tests.{reaches, row_at}
 use mir.Facts.{to_z-of_z}
 use borrow.Author.Rules.{sfits_of}
 use Rattle.recorded.proofs.Turns.{below_none, below_room, below_in, below_out, below_all_lem}
-use Rattle.std.proofs.Common.{true, false, w32}
+use Rattle.std.proofs.Common.{w32}
 use Rattle.recorded.proofs.reaching_row.Goals as goal
 
 pub loop-k-init : goal.loop-k-init

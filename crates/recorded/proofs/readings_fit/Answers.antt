@@ -1,11 +1,10 @@
 -- `recorded::readings_fit` meets its contract: the readings passed fit.
-use mathlib.Core.Bool.{true}
 use native.Mathlib.Omega.{arith}
 use Rattle.sets.proofs.Tabulated.{all_none, all_more, all_fails}
 use mir.Facts.{to_z-of_z}
 use borrow.Author.Rules.{sfits_of}
 use Rattle.recorded.proofs.Turns.{fits_place}
-use Rattle.std.proofs.Common.{false, w32}
+use Rattle.std.proofs.Common.{w32}
 use Rattle.recorded.proofs.readings_fit.Goals as goal
 
 pub loop-p-init : goal.loop-p-init

@@ -12,7 +12,6 @@ use Rattle.recorded.specs.Tests.{table_at}
 use Rattle.recorded.specs.Cutoffs.{CutoffClaims}
 use Rattle.recorded.proofs.Checking.{cutoff_out, cutoff_in}
 use Rattle.recorded.proofs.Cutoffs.{cutoff_claims}
-use Rattle.std.proofs.Common.{true, false}
 use Rattle.recorded.proofs.table_at.Goals as goal
 
 pub returns-then-not-in_range : goal.returns-then-not-in_range

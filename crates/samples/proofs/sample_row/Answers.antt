@@ -1,7 +1,6 @@
 -- `samples::sample_row` meets its contract: the row so far and the row still to be made are the whole row (`Making`).
 use mathlib.Core.Path.{refl}
 use Rattle.samples.proofs.Turns.{making_pair, making_skip, making_done}
-use Rattle.std.proofs.Common.{true, false}
 use Rattle.samples.proofs.sample_row.Goals as goal
 
 pub loop-c-preserved-then-next-density : goal.loop-c-preserved-then-next-density

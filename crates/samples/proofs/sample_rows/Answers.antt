@@ -1,7 +1,6 @@
 -- `samples::sample_rows` meets its contract: the rows so far and those still to be made are all rows, padded with
 -- zeros (`MakingRows`).
 use Rattle.samples.proofs.Rows.{rows_more, rows_done}
-use Rattle.std.proofs.Common.{true, false}
 use Rattle.samples.proofs.sample_rows.Goals as goal
 
 pub loop-i-preserved : goal.loop-i-preserved

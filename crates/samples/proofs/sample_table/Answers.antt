@@ -5,7 +5,6 @@ use Rattle.refusals.proofs.Answering.{answer-refused, answer_given}
 use Rattle.samples.specs.Samples.{shape_refusal}
 use Rattle.samples.proofs.Places.{sample_claims}
 use Rattle.samples.proofs.Refusing.{bad_gauges, bad-cases, good-shape, bad_start, bad-density, good-input, refused_shape, refused_input, not_refused}
-use Rattle.std.proofs.Common.{true, false}
 use Rattle.samples.proofs.sample_table.Goals as goal
 
 pub returns-then-not-in_range : goal.returns-then-not-in_range

@@ -1,6 +1,5 @@
 -- `search::blocks` meets its contract: each answer computes from the tests that led to it.
 use Rattle.search.proofs.SearchLoops.{blocks_out, blocks_more, blocks_same}
-use Rattle.std.proofs.Common.{true, false}
 use Rattle.search.proofs.blocks.Goals as goal
 
 pub returns-then-not-subset : goal.returns-then-not-subset

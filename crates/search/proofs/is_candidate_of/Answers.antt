@@ -2,7 +2,6 @@
 use mathlib.Core.Path.{sym, ◌∙◌}
 use Rattle.sets.proofs.OnePlace.{in_places_lem}
 use Rattle.search.proofs.Within.{of_absent}
-use Rattle.std.proofs.Common.{true, false}
 use Rattle.search.proofs.is_candidate_of.Goals as goal
 
 pub returns-then-not-has : goal.returns-then-not-has

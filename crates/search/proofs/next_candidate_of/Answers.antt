@@ -1,8 +1,6 @@
 -- `search::next_candidate_of` meets its contract: no place passed is a candidate.
-use mathlib.Core.Bool.{false}
 use Rattle.sets.specs.First.{Lowest}
 use Rattle.search.proofs.Within.{search_found, search_none}
-use Rattle.std.proofs.Common.{true}
 use Rattle.search.proofs.next_candidate_of.Goals as goal
 
 pub returns-then-stands : goal.returns-then-stands

@@ -1,8 +1,6 @@
 -- `search::stands` meets its contract: no place of the set that was passed rules the gauge out.
-use mathlib.Core.Bool.{false}
 use Rattle.sets.specs.First.{Lowest}
 use Rattle.search.proofs.Within.{passed_all, of_empty, of_blocked, of_clear}
-use Rattle.std.proofs.Common.{true}
 use Rattle.search.proofs.stands.Goals as goal
 
 pub returns-then-own-eq0 : goal.returns-then-own-eq0

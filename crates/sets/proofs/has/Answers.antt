@@ -2,7 +2,6 @@
 use mathlib.Core.Path.{refl, sym}
 use Rattle.sets.specs.Sets.{bit}
 use Rattle.sets.proofs.Masks.{bit_past}
-use Rattle.std.proofs.Common.{true}
 use Rattle.sets.proofs.has.Goals as goal
 
 pub returns-then-k-ge-PLACES : goal.returns-then-k-ge-PLACES

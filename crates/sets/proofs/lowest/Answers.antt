@@ -5,7 +5,6 @@ use native.Mathlib.Omega.{arith}
 use borrow.Author.Rules.{rules}
 use Rattle.sets.proofs.Masks.{lowest_up, lowest_past}
 use Rattle.sets.proofs.OnePlace.{power}
-use Rattle.std.proofs.Common.{true}
 use Rattle.sets.proofs.lowest.Goals as goal
 
 pub returns-then-n-ge-PLACES : goal.returns-then-n-ge-PLACES

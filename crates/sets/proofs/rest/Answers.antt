@@ -2,7 +2,6 @@
 use Rattle.sets.specs.Sets.{meet}
 use Rattle.sets.proofs.LowestPlace.{rest_of_lem}
 use Rattle.sets.proofs.OnePlace.{rest_none}
-use Rattle.std.proofs.Common.{true, false}
 use Rattle.sets.proofs.rest.Goals as goal
 
 pub returns-then-a-eq0 : goal.returns-then-a-eq0

@@ -1,6 +1,5 @@
 -- `sets::upper` meets its contract: shifted out and in again, no place from k on changes.
 use Rattle.sets.proofs.OnePlace.{shifted, upper_of, upper_past}
-use Rattle.std.proofs.Common.{true}
 use Rattle.sets.proofs.upper.Goals as goal
 
 pub returns-then-k-ge-PLACES : goal.returns-then-k-ge-PLACES

@@ -1,7 +1,6 @@
 -- `sets::without` meets its contract: a place that is in the set is taken off as its power of two.
 use mathlib.Core.Path.{sym, ◌∙◌}
 use Rattle.sets.proofs.OnePlace.{power, in_places_lem, large, without_of}
-use Rattle.std.proofs.Common.{false}
 use Rattle.sets.proofs.without.Goals as goal
 
 pub overflow_shl-result : goal.overflow_shl-result

@@ -3,7 +3,6 @@ use mathlib.Core.Path.{◌≡◌}
 use Rattle.refusals.proofs.Answering.{number_pos, verdict_refused, verdict_accepted}
 use Rattle.table.specs.Tables.{table_refusal}
 use Rattle.table.proofs.Legality.{chain_refused, no_count, no_pairs, chain_passes}
-use Rattle.std.proofs.Common.{true, false}
 use Rattle.table.proofs.check_chain.Goals as goal
 
 pub returns-in-Refused : goal.returns-in-Refused

@@ -1,8 +1,6 @@
 -- `table::check_table` meets its contract: each answer is 01's number by the tests that led to it (`no_gauges` to `all_pass`). In the
 -- answers `g` is where the number of gauges passed, `l` where the number of cases did.
 use Rattle.table.proofs.Legality.{no_gauges, no_cases, no_rows_lem, all_pass}
-use Rattle.std.proofs.Common.{true, false}
-use Rattle.table.specs.Tables.{in_range}
 use Rattle.table.proofs.check_table.Goals as goal
 
 pub returns-then-not-in_range : goal.returns-then-not-in_range

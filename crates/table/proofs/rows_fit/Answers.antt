@@ -1,6 +1,5 @@
 -- `table::rows_fit` meets its contract: the rows fit exactly when the union of the first does and that of the others is empty.
 use Rattle.table.proofs.Legality.{fit_wide, fit_past}
-use Rattle.std.proofs.Common.{true, false}
 use Rattle.table.proofs.rows_fit.Goals as goal
 
 pub returns-then-not-subset : goal.returns-then-not-subset

@@ -1,7 +1,6 @@
 -- `table::rows_within` meets its contract: the test of the rows from `i` on is that of all rows.
 use native.Mathlib.Omega.{arith}
 use Rattle.table.proofs.CheckLoops.{within_no, within_yes, within_done}
-use Rattle.std.proofs.Common.{true, false}
 use Rattle.table.proofs.rows_within.Goals as goal
 
 pub returns-then-not-subset : goal.returns-then-not-subset

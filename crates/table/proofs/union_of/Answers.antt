@@ -1,7 +1,6 @@
 -- `table::union_of` meets its contract: what is seen is the union of the rows passed.
 use native.Mathlib.Omega.{arith}
 use Rattle.table.proofs.Unions.{union_start, union_more, union_done}
-use Rattle.std.proofs.Common.{false}
 use Rattle.table.proofs.union_of.Goals as goal
 
 pub loop-i-init : goal.loop-i-init

@@ -3,7 +3,6 @@ use Prim.Native.Nat.{◌+◌, ◌*◌, ◌-◌, ◌/◌, ◌%◌, ◌^◌, ◌<�
 use native.Mathlib.Omega.{arith}
 use Rattle.table.specs.Pairs.{row}
 use Rattle.transpose.proofs.Columns.{gathered_none, gathered-more, gathered-room}
-use Rattle.std.proofs.Common.{true}
 use Rattle.transpose.proofs.column.Goals as goal
 
 pub loop-i-init : goal.loop-i-init

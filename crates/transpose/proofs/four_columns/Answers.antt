@@ -3,7 +3,6 @@ use Prim.Native.Nat.{ℕ, ◌+◌, ◌*◌, ◌-◌, ◌/◌, ◌%◌, ◌^◌, 
 use native.Mathlib.Omega.{arith}
 use Rattle.table.specs.Pairs.{row}
 use Rattle.transpose.proofs.Columns.{Gathered, fours_none, fours-more, fours-room, gathered-room}
-use Rattle.std.proofs.Common.{true}
 use Rattle.transpose.proofs.four_columns.Goals as goal
 
 pub loop-i-init : goal.loop-i-init

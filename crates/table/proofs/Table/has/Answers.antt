@@ -5,8 +5,6 @@ use borrow.Author.Rules.{rules}
 use lib.ListN.{length}
 use Rattle.table.proofs.Places.{no_gauge}
 use Rattle.table.proofs.Legality.{range_not}
-use Rattle.std.proofs.Common.{true}
-use Rattle.table.specs.Tables.{in_range}
 use Rattle.table.proofs.Table.has.Goals as goal
 
 pub returns-then-not-in_range : goal.returns-then-not-in_range
