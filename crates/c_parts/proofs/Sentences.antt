@@ -1,7 +1,7 @@
 -- What a caller reads off the promises, sentence by sentence (specs/Serving): of the candidates of a part and of the part of one, by value and on words.
 --
--- In order: the run calls that list a part (`HandsPart`); the candidates by value: refused (`candidates_refused`), named (`candidates_given`), that their
--- parts, one after the other, are the part (`candidates-divide`, `candidates_join`), that run calls list it (`candidates-list`), and that any choice of parts
+-- In order: the run calls that list a part (`HandsPart`); the candidates by value: refused (`candidates_refused`), named (`candidates-given`), that their
+-- parts, one after the other, are the part (`candidates-divide`, `candidates-join`), that run calls list it (`candidates-list`), and that any choice of parts
 -- in its place, each run to its close, does (`candidates-whole`), also on words (`candidates_words_list`, `candidates_words_whole`, and from a fresh start
 -- `fresh_words_whole`); the part of one by value: refused (`part_refused`), made (`part-given`), and that run calls list it (`part_list`); and on words, which
 -- read as the part (`part-words-read`), and that run calls list it (`part-words-list`).

@@ -1,4 +1,4 @@
--- A test by what was read, and what reading says of it: what is put reads back (`test_words`, `test_back`), and a
+-- A test by what was read, and what reading says of it: what is put reads back (`test_words_lem`, `test_back`), and a
 -- word that is no kind gets 10, or else 11 (`no_kind_shape`, `no_kind_rest`, `no_kind_refused`).
 --
 -- Pins, which nothing else cites: `test_words_lem`.

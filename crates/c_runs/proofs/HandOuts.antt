@@ -1,4 +1,4 @@
--- What a call hands out, on either side: it leaves the phase Handed, with the picks of the set that it hands out (`call_hands`); so that set is a maximal
+-- What a call hands out, on either side: it leaves the phase Handed, with the picks of the set that it hands out (`call-hands`); so that set is a maximal
 -- chain of the table (`handed_maximal`), of G rows, and its pick sequence is the picks (`handed_sequence`).
 use mathlib.Core.Path.{◌≡◌, refl, sym, ap, ◌∙◌, subst}
 use mathlib.Core.Bool.{Bool, true, false, cond}

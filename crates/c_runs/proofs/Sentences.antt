@@ -3,8 +3,8 @@
 --
 -- In order: what is said of a list of calls (`AsDemanded` of a run that omits nothing, `AsOmitting` of one that omits, `OneSetWith` of two runs); a start by
 -- value (`fresh-given`, `fresh-refused`, `fresh-demand`, `fresh_shared`, `fresh-omits`) and on words (`start_demand`, `start_hands`, `start_omits`,
--- `start_shared`, `starts_share`); a call by value (`call_refused`, `call_rules`, `call-demand`, `call-omits`) and on words (`run_listed`, `run_demand`,
--- `run_omits`).
+-- `start_shared`, `starts_share`); a call by value (`call_refused`, `call_rules`, `call-demand`, `call-omits`) and on words (`run_listed`, `run-demand`,
+-- `run-omits`).
 --
 -- Elsewhere: the number returned and the words left, words/proofs/Sentences; that there are such lists of calls, and one only, Pinned.antt; the words that no
 -- value has, Foreign.antt.

@@ -1,4 +1,4 @@
--- A cover in its places can be read again: from place `at` onward it is as it was put (`take_put`).
+-- A cover in its places can be read again: from place `at` onward it is as it was put (`take-put`).
 use mathlib.Core.Path.{◌≡◌, sym, ap, ◌∙◌}
 use mathlib.Core.List.{List, [], ◌∷◌, ◌++◌, append_assoc, append-nil}
 use Prim.Native.Nat.{ℕ, suc, ◌+◌, ◌≤◌}

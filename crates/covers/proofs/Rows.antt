@@ -1,4 +1,4 @@
--- One row of a set alone, which is a chain (`only-chain`); a set without one row, which is a chain where the set is (`without_chain`); and a bound on
+-- One row of a set alone, which is a chain (`only_chain`); a set without one row, which is a chain where the set is (`without_chain`); and a bound on
 -- the rows of a set (`some_cases`).
 use mathlib.Core.Path.{◌≡◌, refl, sym, ◌∙◌}
 use mathlib.Core.Logic.{inl, inr}

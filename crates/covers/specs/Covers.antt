@@ -5,7 +5,7 @@
 -- In order: the chains of a table; a cover by any of them; the least number.
 --
 -- Elsewhere: that every table has a least number, `least_exists` in proofs/Fewest.antt, and only one, `least_unique` in proofs/Covers.antt; that it
--- is 0 exactly for a table without pairs, `Least-zero`, and that no cover by any chains is smaller, `none_smaller`, both there.
+-- is 0 exactly for a table without pairs, `least_zero`, and that no cover by any chains is smaller, `none_smaller`, both there.
 use Rattle.std.specs.Prelude.{◌≡◌, ℕ, ◌≤◌, length}
 use mathlib.Core.List.{List, Memᴰ}
 use Rattle.table.specs.Pairs.{Within}

@@ -1,5 +1,5 @@
 -- The line at a place of a file. In order: its end, by the bytes that the code tests; where the code's loop finds the line; and for
--- readers that go from line to line, its bounds (`inside`) and the lines from there on (`lines_at`).
+-- readers that go from line to line, its bounds (`inside`) and the lines from there on (`lines-at`).
 use Prim.Native.Nat.{ℕ, suc, ◌+◌, ◌-◌, ◌≤◌, ◌<◌}
 use mathlib.Core.Path.{◌≡◌, ap, sym, ◌∙◌}
 use mathlib.Core.List.{List, ◌∷◌}

@@ -1,6 +1,6 @@
 -- What it is to be a candidate, as facts (`Cand`), and the list of all candidates.
 --
--- In order: the test says what the facts say (`cand-of`, `of-cand`); the list (`mem_candidates`, `no-candidate`, `none_candidate`); sequences of
+-- In order: the test says what the facts say (`cand-of`, `of-cand`); the list (`mem_candidates`, `no_candidate`, `none_candidate`); sequences of
 -- candidates to the last, from the first pick on (`LeafFrom`), are the valid sequences of crate `rules` without candidates after them (`leaf_from`,
 -- `leaf_to`).
 use mathlib.Core.Path.{◌≡◌, sym, subst}

@@ -1,7 +1,7 @@
 -- The numbers below a bound at which a test holds, as a list.
 --
 -- In order: which they are (`select_nil`, `mem_select`); that they ascend (`select_ascends`); that the first is the one that a search from below finds,
--- which is how code finds the lowest candidate (`head-select`, `above_select`); and that there are no more of them than unpicked indices where the
+-- which is how code finds the lowest candidate (`head-select`, `above-select`); and that there are no more of them than unpicked indices where the
 -- test holds of unpicked ones only (`select_free`).
 use mathlib.Core.Path.{◌≡◌, refl, ap, ◌∙◌, subst}
 use mathlib.Core.Logic.{◌⊎◌, inl, inr, ◌↔◌}

@@ -2,7 +2,7 @@
 --
 -- In order: the best of some scores is one of them, the greatest, and the lowest of those (`best_in_lem`, `best_max`, `best_first`); scores of rows
 -- (`score_un`, `score_in`); one turn (`next_is`, `take_none`, `take_stop`, `take_more`); no score exactly where every row not taken is empty
--- (`all_empty`); what is taken was not taken, has a row that is not empty, a largest one, the lowest of those (`next_in` to `next-first`).
+-- (`all_empty`); what is taken was not taken, has a row that is not empty, a largest one, the lowest of those (`next-in` to `next-first`).
 use mathlib.Core.Path.{◌≡◌, refl, ap}
 use mathlib.Core.Logic.{◌⊎◌, inl, inr}
 use mathlib.Core.List.{List, [], ◌∷◌, ◌++◌}

@@ -1,4 +1,4 @@
--- One pair more: which pairs the set with it has (`with_pair`, `with_keeps`, `with_only`), its rows, and what contains it.
+-- One pair more: which pairs the set with it has (`with_pair_lem`, `with_keeps`, `with_only`), its rows, and what contains it.
 use mathlib.Core.Path.{◌≡◌, sym, ap, ◌∙◌, subst}
 use mathlib.Core.Logic.{◌⊎◌, inl, inr}
 use mathlib.Core.List.{List}

@@ -1,5 +1,5 @@
 -- The machine of a tree reaches its end from every valid sequence Down (`leads-end`), so calls of one move each reach
--- an answer of end, also where the run hands over the kept sets alone (`keeping_ends`): a part of a run that omits is
+-- an answer of end, also where the run hands over the kept sets alone (`keeping-ends`): a part of a run that omits is
 -- closed by some list of calls.
 use mathlib.Core.Path.{◌≡◌, refl, sym, ap, ◌∙◌}
 use mathlib.Core.Bool.{Bool}

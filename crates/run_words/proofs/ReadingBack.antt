@@ -1,4 +1,4 @@
--- What is put reads back: the words of a value over the front of a slice read as that value (`value_back`), for either side and every phase, where
+-- What is put reads back: the words of a value over the front of a slice read as that value (`value-back`), for either side and every phase, where
 -- the value has 64 rows, 64 numbers of a preference and 64 picks, each number at most 255 (`Held`). A value that is read is of that kind, whatever
 -- the words are (`numbers_read`, and `rows_size` of words/proofs/Back). The words of an answer read back too (`outcome_back`, `moves_back`, `chain_back`,
 -- `picks_back`).

@@ -1,5 +1,5 @@
 -- Both sides by the mark of a run, for the core's calls: how many rows the side has, what they are, which pairs are
--- wanted on it and what is handed out; and that what the core gives at a mark it gives at an equal one (`calls_at`).
+-- wanted on it and what is handed out; and that what the core gives at a mark it gives at an equal one (`calls_at_lem`).
 use mathlib.Core.Path.{◌≡◌, refl}
 use mathlib.Core.Bool.{Bool, true, false, not}
 use mathlib.Core.List.{List}

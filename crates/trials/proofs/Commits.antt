@@ -1,7 +1,7 @@
 -- The answers of commits. In order: the answer for each outcome of a commit, by the trial that the code makes (`committed_refused`, `committed-trial`,
 -- `committed-differs`, `committed-same`); one answer (`committed_unique`) for every proposal and table (`committed_exists`); what an answer
 -- without a refusal is (`commits`); a fresh trial can be committed on its table (`fresh_commits`), and on no other
--- (`other-table`). When two proposals are the same is in Comparing.antt.
+-- (`other_table`). When two proposals are the same is in Comparing.antt.
 use mathlib.Core.Path.{◌≡◌, refl, sym, ap, ◌∙◌, subst}
 use mathlib.Core.Logic.{◌↔◌}
 use mathlib.Core.Bool.{Bool, true, false}
