@@ -1,4 +1,5 @@
 -- The words of a line, as the code finds them: blanks passed over, and a run of bytes that are not blank.
+-- Pins, which nothing else cites: `line_entry`.
 use Prim.Native.Nat.{ℕ, suc, ◌+◌, ◌-◌, ◌≤◌, ◌<◌}
 use mathlib.Core.Path.{◌≡◌, refl, sym, ap, ◌∙◌, subst}
 use mathlib.Core.Bool.{Bool, true, false}

@@ -1,6 +1,7 @@
 -- The kind of a line, as the code tests it: one law for each `return` of the functions that tell the kind, its premises the tests that
 -- led there. In order: comment lines; lines ahead of the entries; entry lines; that a size and an entry that are taken are in range, which
 -- `reader` rests on. The first line is in Opening.antt.
+-- Pins, which nothing else cites: `head-gauges`, `head-cases`.
 use Prim.Native.Nat.{ℕ, ◌≤◌, ◌<◌}
 use mathlib.Core.Path.{◌≡◌, refl, ap, sym, ◌∙◌}
 use mathlib.Core.List.{List, [], ◌∷◌}

@@ -1,6 +1,7 @@
 -- The first line. In order: a line of a kind is its banner but for capitals in the words behind the opening (`kind_only`, `kind_mixed`), and
 -- no line is of two kinds; a first line is read exactly when it is a banner in 01's words (`first_mixed`, `first_only`, `first_none`), and a banner
 -- that is written is (`banner_reads`). Then the answers of `is_of_kind` and of `first_line`, one law for each of their returns.
+-- Pins, which nothing else cites: `first-integer`.
 use Prim.Native.Nat.{ℕ, ◌<◌}
 use mathlib.Core.Path.{◌≡◌, refl, sym, ap, ap₂, ◌∙◌}
 use mathlib.Core.Logic.{◌↔◌}
