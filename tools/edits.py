@@ -231,18 +231,3 @@ def reaches(called):
             more = more or bool(new)
             found[f] |= new
     return found
-
-
-def in_one(crates, crate, function):
-    """Whether the facts of a function's proof stand in the declaration of its theorem, and not in parts of their own: such a proof is not looked at
-    while something that the function reaches has none. A function without a file is proved by rattle."""
-    parts = function.split("::")
-    base = os.path.join(crates, crate, "proofs", *parts[:-1])
-    names = [parts[-1]] + [d for d in (os.listdir(base) if os.path.isdir(base) else []) if d.startswith("+") and parts[-1] in d.split("+")]
-    for folder in names:
-        try:
-            with open(os.path.join(base, folder, "Proof.antt"), encoding="utf-8") as file:
-                return "λ" in file.read().partition("-spec =")[2]
-        except OSError:
-            pass
-    return None
