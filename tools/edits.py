@@ -101,6 +101,12 @@ def brought(text):
     return {n for a, b in USES.findall(text) for n in re.findall(r"\w+", a or b)}
 
 
+OWNERS_AND_ITEMS = re.compile(
+    r"\bimpl(?:<[^>{]*>)?\s+(?:(?:\w+::)*(?P<of>\w+)(?:<[^>{]*>)?\s+for\s+)?(?P<type>\w+)(?:<[^>{]*>)?\s*\{"
+    r"|\btrait\s+(?P<trait>\w+)[^{;]*\{|\bfn\s+(?P<fn>\w+)|\bconst\s+(?P<const>\w+)\s*:"
+)
+
+
 class Source:
     """The functions and constants of one file: spans of signatures and of bodies."""
 
@@ -110,17 +116,21 @@ class Source:
         owner, owner_end = "", -1
         # what a line brings in from another crate, constants among it: (names, start, end)
         self.uses = [(brought(m[0]), m.start(), m.end() - 1) for m in USES.finditer(self.plain)]
-        for m in re.finditer(r"\bimpl\s+(\w+)\s*\{|\bfn\s+(\w+)|\bconst\s+(\w+)\s*:", self.plain):
+        for m in OWNERS_AND_ITEMS.finditer(self.plain):
             if m.start() > owner_end:
                 owner = ""
-            if m[1]:
-                owner, owner_end = m[1], self.close(self.plain.index("{", m.start()))
-            elif m[2]:
-                name = "::".join(module_of(path) + ((owner,) if owner else ()) + (m[2],))
+            if m["type"]:
+                # rattle calls what an `impl` of a trait has by the type and the trait
+                owner, owner_end = m["type"] + (m["of"] or ""), self.close(m.end() - 1)
+            elif m["trait"]:
+                owner, owner_end = m["trait"], self.close(m.end() - 1)
+            elif m["fn"]:
+                name = "::".join(module_of(path) + ((owner,) if owner else ()) + (m["fn"],))
                 self.functions.append((name, m.start(), *self.body(m.end())))
             else:
-                value = re.compile(r"[^=]*=").match(self.plain, m.end())
-                self.constants.append((m[3], m.start(), self.plain.index(";", value.end() if value else m.end())))
+                # a trait's constant has no value
+                value = re.compile(r"[^=;]*=").match(self.plain, m.end())
+                self.constants.append((m["const"], m.start(), self.plain.index(";", value.end() if value else m.end())))
 
     def close(self, at):
         depth = 0
@@ -133,6 +143,10 @@ class Source:
     def body(self, at):
         """The braces of a function's body; those of a clause follow `requires`, `ensures` or `ghost`, with a word at most."""
         while True:
+            # a trait's function ends without a body
+            bare = re.compile(r"[^{};]*;").match(re.sub(r"\[[^\]]*\]", lambda m: " " * len(m[0]), self.plain[at:at + 2000]))
+            if bare:
+                return at + bare.end() - 1, at + bare.end() - 1
             start = self.plain.index("{", at)
             end = self.close(start)
             if not re.search(r"\b(requires|ensures|ghost)\b\s*[\w\-']*\s*$", self.plain[at:start]):
@@ -230,4 +244,15 @@ def reaches(called):
             new = set().union(*[found[g] for g in found[f]]) - found[f] if found[f] else set()
             more = more or bool(new)
             found[f] |= new
+    return found
+
+
+def of_both_sides(folder, crate):
+    """The functions of a crate that are generic over the side of a table, by themselves or by their `impl`."""
+    found = set()
+    for source in sources_of(folder, crate).values():
+        spans = [(m.start(), source.close(m.end() - 1)) for m in re.finditer(r"\bimpl<S: Side>[^{]*\{", source.plain)]
+        for name, start, body, _ in source.functions:
+            if "S: Side" in source.plain[start:body] or any(a < start < b for a, b in spans):
+                found.add(name)
     return found

@@ -44,19 +44,31 @@ def text_of(path):
 
 
 def types_of(plain):
-    """(type, its fields or variants) of each struct and enum; a tuple struct has none."""
-    for m in re.finditer(r"\b(struct|enum)\s+(\w+)\s*(\{[^}]*\})?", plain):
+    """The fields or variants of each struct and enum, by its name; a tuple struct has none. A name that is given to a type has what the type has, and a
+    trait is among them too."""
+    found = {}
+    for m in re.finditer(r"\b(struct|enum)\s+(\w+)(?:<[^>{(;]*>)?\s*(\{[^}]*\})?", plain):
         inner = m[3] or ""
-        yield m[2], set(re.findall(r"(\w+)\s*:", inner) if m[1] == "struct" else re.findall(r"^\s+(\w+)", inner, re.M))
+        found[m[2]] = set(re.findall(r"(\w+)\s*:", inner) if m[1] == "struct" else re.findall(r"^\s+(\w+)", inner, re.M))
+    for name, of in re.findall(r"^pub type (\w+)(?:<[^>]*>)? = (\w+)", plain, re.M):
+        found[name] = found.get(of, set())
+    for name in re.findall(r"^pub trait (\w+)", plain, re.M):
+        found[name] = set()
+    return found
 
 
 def rattle(path, text):
     """(names with their module and type in front, types with their fields) of a Rattle source; the path is below its crate."""
-    source, fields = edits.Source(path, text), dict(types_of(edits.blank(text)))
+    source, fields = edits.Source(path, text), types_of(edits.blank(text))
     module = edits.module_of(path)
     names = {f[0] for f in source.functions} | {"::".join(module[:i]) for i in range(1, len(module) + 1)}
     for t, parts in fields.items():
         names |= {"::".join(module + (t,))} | {"::".join(module + (t, p)) for p in parts}
+    owners, aliases = sources.owners(text), re.findall(r"^pub type (\w+)(?:<[^>]*>)? = (\w+)", source.plain, re.M)
+    for line, owner in zip(text.split("\n"), owners):
+        name = re.match(r"\s*(?:pub )?fn (\w+)", line) if owner else None
+        for of in [owner] + [a for a, t in aliases if t == owner] if name else []:
+            names.add("::".join(module + (of, name[1])))
     for m in re.finditer(r"\bconst\s+(\w+)\s*:", source.plain):
         owner = re.findall(r"^impl\s+(\w+)|^(\})", source.plain[: m.start()], re.M)
         names.add("::".join(module + ((owner[-1][0],) if owner and owner[-1][0] else ()) + (m[1],)))
@@ -164,7 +176,7 @@ class Tree:
             for name, parts in fields.items():
                 self.fields.setdefault(name, set()).update(parts)
             for name, _, _, clauses in sources.contracts(text):
-                self.clauses[crate, name] = {n for n, _ in clauses_of(clauses)} if clauses.strip() else set()
+                self.clauses.setdefault((crate, name), set()).update({n for n, _ in clauses_of(clauses)} if clauses.strip() else ())
 
     def read_edits(self, crate):
         self.pieces[crate], self.labels[crate] = set(), set()

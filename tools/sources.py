@@ -40,7 +40,7 @@ def files(crate, folder, ending):
 
 def public_parts(crate):
     """(file, names) of what other crates can call: the root and the modules that it declares `pub`, with None for all their public names, and
-    the modules that a file above gives names of on by `pub use`, with these names."""
+    the modules that a file above gives names of on by `pub use`, with these names. A type that is given on has its methods with it, in whichever file."""
     found, todo = [], [(os.path.join(ROOT, "crates", crate, "src", "lib.rt"), None)]
     while todo:
         path, names = todo.pop()
@@ -60,6 +60,19 @@ def public_parts(crate):
 def given_on(text):
     """(module, names) of each `pub use` of a Rattle file."""
     return [(m, re.findall(r"\w+", a or b)) for m, a, b in re.findall(r"^pub use (\w+)::(?:(\w+)|\{([^}]*)\});", text, re.M)]
+
+
+OWNER = re.compile(r"^(?:pub )?(?:impl|trait)(?:<[^{}]*?>)? (\w+)(?:<[^{}]*?>)?(?:: [^{]*)? \{$")
+
+
+def owners(text):
+    """For each line of a Rattle file the type whose methods it stands among, or the trait; nothing elsewhere, and in what a type has of a trait."""
+    found, owner = [], ""
+    for line in text.split("\n"):
+        m = OWNER.match(line)
+        owner = m[1] if m else "" if line == "}" else owner
+        found.append(owner)
+    return found
 
 
 def read(path):
@@ -193,6 +206,8 @@ def contracts(text):
         while i < len(lines) and lines[i].strip() != "{" and not (not clause and lines[i].rstrip().endswith("{")):
             clause.append(lines[i])
             i += 1
+            if clause[-1].rstrip().endswith("};"):  # a trait's function, without a body
+                break
         found.append((m.group(2), bool(m.group(1)), start + 1, "\n".join(clause)))
         i += 1
     return found

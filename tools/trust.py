@@ -123,14 +123,17 @@ def entries():
     for crate in sources.crates():
         if not sources.is_library(crate):
             continue
-        for path, given in sources.public_parts(crate):
+        parts = sources.public_parts(crate)
+        types = set().union(*(given or () for _, given in parts))
+        for path, given in parts:
             text = sources.read(path)
+            owners = sources.owners(text)
             imports = {}
             for module, names in sources.imports("\n".join(l for l in text.split("\n") if l.strip().startswith("ghost use"))):
                 for name, local in names:
                     imports[local] = (module, name)
             for name, public, line, clauses in sources.contracts(text):
-                if public and clauses and (given is None or name in given):
+                if public and clauses and (given is None or name in given or owners[line - 1] in types):
                     yield crate, path, imports, name, line, sources.strip_comments(clauses, "//")
 
 

@@ -13,11 +13,11 @@ use Prim.Native.Nat.{ℕ, zero, suc, ◌+◌, ◌-◌, ◌*◌, ◌/◌, ◌≤�
 use native.Mathlib.Nat.{suc-mul, mul-one, mul-le-mul_left, mul-div_cancel, sub-zero, zero-sub, suc-sub-suc}
 use native.Mathlib.Omega.{arith}
 use lib.ListN.{length, take, drop, replicate, length-append}
-use lib.Seq.{take_at, drop_at, drop-drop}
+use lib.Seq.{take_at, drop_at, drop-drop, length-take-le}
 use Rattle.basics.proofs.Clash.{clash}
 use Rattle.table.specs.declared.Table.{Table}
 use Rattle.table.specs.Pairs.{Within}
-use Rattle.table.specs.Tables.{Legal, table_rows, table_refusal, padded, no_rows}
+use Rattle.table.specs.Tables.{Legal, table_rows, table_refusal, padded}
 use Rattle.table.proofs.Legality.{legal_passes}
 use Rattle.rules.specs.Machine.{State, Move, Given, nothing, hands, ends}
 use Rattle.rules.specs.Sequences.{All}
@@ -30,9 +30,8 @@ use Rattle.runs.specs.Calling.{arrangement}
 use Rattle.runs.specs.Omitting.{moves_of}
 use Rattle.runs.specs.Batches.{Ending, denied, full, used, over, Tale, onward, batch_by, joined}
 use Rattle.runs.specs.private.Either.{call_of}
-use Rattle.runs.specs.private.Listing.{words_of, Puts}
+use Rattle.runs.specs.private.Listing.{words_of}
 use Rattle.runs.proofs.Carrying.{carry_most}
-use Rattle.runs.proofs.Words.{stored_front}
 use Rattle.runs.proofs.Demands.{Started, reached_next}
 use Rattle.file_writer.specs.Writing.{write_file}
 use Rattle.file_writer.proofs.Sizes.{write_length, write_six}
@@ -204,13 +203,6 @@ batch_made t order true g k l one s h = subst (λ (n : ℕ). Made t order true s
 batch_made t order false g k l one s h = made_many t order g k most_budget (omega arith) (omega arith) s h
 
 -- ---- the words lent: of no table, of one ladder, and of so many
-pub lent_none : (g l : ℕ) (omit : Bool) (room : ℕ) → (1 ≤ g → g ≤ 64 → l ≤ 64 → ⊥) → Lent g l omit room 0
-lent_none g l omit room z = record {
-  few = omega arith;
-  one = λ a b c. absurd (z a b c);
-  some = λ a b c. absurd (z a b c);
-  called = λ a b c. absurd (z a b c);
-}
 
 lent_times : (g l : ℕ) (omit : Bool) (room k : ℕ) → 1 ≤ g → k * g ≤ 1024 → 1 ≤ k → (omit ≡ true → k ≡ 1)
     → (k - 1) * most_bytes g l + longest ≤ room → Lent g l omit room (k * g)
@@ -251,10 +243,11 @@ drop_zeros zero m = rw (sub-zero m) refl
 drop_zeros (suc n) zero = rw (zero-sub (suc n)) refl
 drop_zeros (suc n) (suc m) = drop_zeros n m ∙ ap (λ (k : ℕ). replicate k 0) (sym (suc-sub-suc m n))
 
--- words stored at the front of 64 zeros are padded
-pub puts_padded : (vs rows : List ℕ) → length vs ≤ 64 → Puts no_rows 0 vs rows → rows ≡ padded vs
-puts_padded vs rows h p =
-    p.words ∙ stored_front no_rows vs h ∙ ap (λ (l : List ℕ). vs ++ l) (drop_zeros (length vs) 64)
+-- words at the front of 64 zeros are padded
+pub front_padded : (vs : List ℕ) (g : ℕ) → g ≤ length vs → g ≤ 64 → take g vs ++ drop g (replicate 64 0) ≡ padded (take g vs)
+front_padded vs g h k =
+    let e : length (take g vs) ≡ g = length-take-le g vs h in
+    ap (λ (l : List ℕ). take g vs ++ l) (drop_zeros g 64 ∙ ap (λ (n : ℕ). replicate (64 - n) 0) (sym e))
 
 -- the files of sets take G and L alone from the table
 pub files-shape : (t : Table) (xs : List (List ℕ)) → files (shape t.gauges t.cases) xs ≡ files t xs

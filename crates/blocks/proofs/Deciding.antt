@@ -4,6 +4,8 @@
 -- In order: the calls of a block are so many and no other number (`fills_unique`), and there is such a number (`fills_exist`): the least at which they
 -- stop; then `Filled`, the answers of the code, and the longest file. Elsewhere: whether a value is the paused value of a reached state is decided by
 -- `paused_decided`, runs/proofs/Deciding.antt.
+use Rattle.std.specs.Prelude.{Result, Ok, Err}
+use Rattle.refusals.specs.declared.Refusal.{Refusal}
 use mathlib.Core.Path.{◌≡◌, refl, sym, ap, ap₂, ◌∙◌, subst}
 use mathlib.Core.Logic.{◌⊎◌, inl, inr}
 use mathlib.Core.Bool.{Bool, true, Bool-discrete}
@@ -14,13 +16,13 @@ use native.Mathlib.Decide.{ℕ_discrete, dec_lt}
 use native.Mathlib.Omega.{arith}
 use lib.ListN.{length, drop}
 use Rattle.table.specs.declared.Table.{Table}
-use Rattle.refusals.specs.declared.Verdict.{Verdict}
-use Rattle.refusals.proofs.Answering.{verdict_injective}
+use Rattle.refusals.proofs.Answering.{number_injective, number_pos}
 use Rattle.rules.specs.Machine.{State}
 use Rattle.lists.specs.Lists.{gauge_side}
 use Rattle.runs.specs.Paused.{Value, paused}
 use Rattle.runs.specs.Calling.{value_refusal, PausedAt}
-use Rattle.runs.specs.declared.gauges.GaugeRun.{GaugeRun}
+use Rattle.table.specs.declared.Gauge.{Gauge}
+use Rattle.runs.specs.declared.paused.Run.{Run}
 use Rattle.runs.proofs.Readings.{gauge_value_injective}
 use Rattle.runs.proofs.Answered.{paused_state}
 use Rattle.runs.proofs.Deciding.{paused_decided}
@@ -188,16 +190,18 @@ module _ (v : Value) (rows : length v.table.rows ≡ 64) (long : length v.order 
       go (yes z) l = by_state z l (paused_decided gauge_side v (starts z))
 
 -- ---- no two answers read alike
-pub filling_injective : (a b : Block) → block a ≡ block b → a ≡ b
-filling_injective a b e =
-    go a.verdict b.verdict a.run b.run a.used b.used a.over b.over
-    (verdict_injective a.verdict b.verdict (ap (λ (f : Filling). f.refusal) e))
-    (gauge_value_injective a.run b.run (ap (λ (f : Filling). f.value) e))
-    (ap (λ (f : Filling). f.used) e) (ap (λ (f : Filling). f.over) e)
+pub filling_injective : (a b : Result Block Refusal) → block a ≡ block b → a ≡ b
+filling_injective (Ok a) (Ok b) e =
+    ap Ok
+    (go a.run b.run a.used b.used a.over b.over (gauge_value_injective a.run b.run (ap (λ (f : Filling). f.value) e))
+    (ap (λ (f : Filling). f.used) e) (ap (λ (f : Filling). f.over) e))
   where
-    go : (n m : Verdict) (v w : GaugeRun) (i j : ℕ) (o p : Bool) → n ≡ m → v ≡ w → i ≡ j → o ≡ p
-        → ◌≡◌ {A = Block} (record { verdict = n; run = v; used = i; over = o }) (record { verdict = m; run = w; used = j; over = p })
-    go n m v w i j o p a b c d = rw (a, b, c, d)
+    go : (v w : Run Gauge) (i j : ℕ) (o p : Bool) → v ≡ w → i ≡ j → o ≡ p
+        → ◌≡◌ {A = Block} (record { run = v; used = i; over = o }) (record { run = w; used = j; over = p })
+    go v w i j o p b c d = rw (b, c, d)
+filling_injective (Ok a) (Err y) e = absurd (omega (arith, ap (λ (f : Filling). f.refusal) e, number_pos y))
+filling_injective (Err x) (Ok b) e = absurd (omega (arith, ap (λ (f : Filling). f.refusal) e, number_pos x))
+filling_injective (Err x) (Err y) e = ap Err (number_injective x y (ap (λ (f : Filling). f.refusal) e))
 
 -- ---- the longest file is that of the full table
 pub longest_attained : length (write_file full_table) ≡ longest

@@ -1,7 +1,7 @@
 -- Turns one after another are what `Fills` says of a block, and each return of `fill` is what `Filled` says.
 --
--- In order: a block so far (`UpTo`), as it starts and after a turn (`upto_start`, `upto_turn`); where it stops it is
--- `Fills` (`full_on`, `stop_on`), and elsewhere it goes on (`going_on`); a turn in which each call hands something
+-- In order: a block so far (`UpTo`), after a turn (`upto_turn`); where it stops it is
+-- `Fills` (`stop_on`), and elsewhere it goes on (`going_on`); a turn in which each call hands something
 -- out has a file (`some-on`), so the turns reach an end; what `fill` answers.
 use mathlib.Core.Path.{◌≡◌, refl, sym, ap, ap₂, ◌∙◌, subst}
 use mathlib.Core.Logic.{inl, inr}
@@ -41,10 +41,6 @@ abbrev pub UpToOn : Value → List ℕ → Bool → Filling → List ℕ → Typ
 UpToOn v before stop f now =
     value_refusal gauge_side v ≡ 0 → (s : State) → PausedAt gauge_side v s → longest ≤ length before
     → (n : ℕ) × UpTo v.table v.order v.omit s before n stop f now
-
-pub upto_start : (v : Value) (before : List ℕ) → UpToOn v before false (going v 0 false) before
-upto_start v before ok s p room =
-    (0, record { sooner = λ k l. absurd (omega arith); used = refl; bytes = refl; value = p.stands; stopped = refl; over = refl })
 
 -- a file more, behind those that are there
 bytes_more : (f text before mid now : List ℕ) (used next : ℕ) → used ≡ length f → mid ≡ f ++ drop used before → next ≡ used + length text
@@ -127,14 +123,6 @@ module _ (t : Table) (order : List ℕ) (omit : Bool) (ok : preferred_refusal t 
 
 -- ---- the returns of `fill_on`, and a turn of its loop, for every value
 module _ (v : Value) (before : List ℕ) where
-  -- no room for the longest file
-  pub full_on : (stop : Bool) (f : Filling) (now : List ℕ) → f.refusal ≡ 0 → UpToOn v before stop f now
-      → (value_refusal gauge_side v ≡ 0 → (s : State) → PausedAt gauge_side v s → longest ≤ length before → length before < f.used + longest)
-      → FillsOn v before f now
-  full_on stop f now e h z ok s p l =
-      let (n, u) = h ok s p l in
-      fills_of v.table v.order v.omit ok s p.reached before n stop f now e u (inr (omega (arith, z ok s p l, u.used)))
-
   -- nothing was handed out
   pub stop_on : (stop : Bool) (f : Filling) (now : List ℕ) → f.refusal ≡ 0 → UpToOn v before stop f now → stop ≡ true → FillsOn v before f now
   stop_on stop f now e h o ok s p l =

@@ -1,7 +1,7 @@
 -- One law for each return of the steps.
 --
--- In order: what the rules give for a call (`same_answer`, `never_refused`); the check of a value (`checked_refused`,
--- `checked_passed`); a file put at a place (`put_fits`, `put_length`, `put_refused`), and files one after another
+-- In order: what the rules give for a call (`same_answer`, `never_refused`); the check of a value (`checked_refused`);
+-- a file put at a place (`put_refused`), and files one after another
 -- (`put_none`, `put_more`); a turn: the ladders of its batch (`ladders_there`), and what it adds (`turned_batch`).
 --
 -- Elsewhere: what a batch gives, Batching.antt; turns one after another, Fillings.antt.
@@ -10,12 +10,10 @@ use mathlib.Core.Logic.{◌⊎◌, inl, inr}
 use mathlib.Core.Bool.{Bool, true, false}
 use mathlib.Core.List.{List, [], ◌∷◌, ◌++◌, append-nil, append_assoc}
 use Prim.Native.Nat.{ℕ, ◌+◌, ◌-◌, ◌*◌, ◌/◌, ◌≤◌, ◌<◌}
-use native.Mathlib.Decide.{dec_lt, ℕ_discrete}
 use native.Mathlib.Nat.{add-zero, mul-le-mul_right}
 use native.Mathlib.Omega.{arith}
-use lib.ListN.{length, take, drop, length-append, length-drop, take-append-drop, drop_of_length-le}
+use lib.ListN.{length, take, drop, length-append, length-drop, take-append-drop}
 use lib.Seq.{take_all, take_at, length-take-le, drop-drop, drop-append-add}
-use borrow.Author.Tests.{lt-ltb, ne_eqb}
 use Rattle.basics.proofs.Clash.{clash}
 use Rattle.table.specs.declared.Table.{Table}
 use Rattle.table.specs.Pairs.{Within}
@@ -34,13 +32,14 @@ use Rattle.preference.proofs.Placing.{passes_both}
 use Rattle.runs.specs.Paused.{Value, paused}
 use Rattle.runs.specs.Calling.{Step, by_rules, told, refusal_step, held, value_refusal, PausedAt}
 use Rattle.runs.specs.Omitting.{moves_of}
-use Rattle.runs.specs.Batches.{Batch, Tale, joined, Denied, Comes, batch_on, Batched}
+use Rattle.runs.specs.Batches.{Batch, Tale, denied, joined, Denied, Comes, batch_on, Batched}
+use Rattle.runs.proofs.BatchSides.{not_denied}
 use Rattle.runs.specs.private.Either.{call_of, CalledOf}
 use Rattle.runs.specs.private.Listing.{words_of}
 use Rattle.runs.proofs.BatchDeciding.{batched_cases, gauge_words}
 use Rattle.runs.proofs.Demands.{Starts}
 use Rattle.runs.proofs.Words.{words_more}
-use Rattle.file_writer.specs.Writing.{write_file, room_refusal, write_refusal, write_answer, buffer_after}
+use Rattle.file_writer.specs.Writing.{write_file, write_refusal, write_answer}
 use Rattle.file_writer.proofs.Files.{long_enough}
 use Rattle.blocks.specs.Filling.{pair_table, files, longest, calls, text, Stops}
 use Rattle.blocks.specs.private.Turning.{Checked, placed, Put, PutAll, shape, ladders, most_bytes, Lent, Added, Turned}
@@ -82,23 +81,6 @@ checked_refused v r c n e = record {
   legal = λ z s p. absurd (never_refused v 0 r c z s p (omega arith) n e);
 }
 
-pub checked_passed : (v : Value) (r : Step) → CalledOf gauge_side v 0 r → ((n : ℕ) → r.answer ≡ refused n → ⊥) → Checked v 0
-checked_passed v r c k = record {
-  table = λ h. absurd (k (value_refusal gauge_side v) (ap (λ (x : Step). x.answer) (c.table h)));
-  value = λ z n. absurd (k 15 (ap (λ (x : Step). x.answer) (c.value z n)));
-  legal = λ z s p. refl;
-}
-
--- ---- a file at a place
-fits_of : (t : Table) (n : ℕ) → write_refusal t n ≡ 0 → length (write_file t) ≤ n
-unfolding room_refusal
-fits_of t n e = go (dec_lt n (length (write_file t))) (ℕ_discrete (table_refusal t) 0)
-  where
-    go : Dec (n < length (write_file t)) → Dec (table_refusal t ≡ 0) → length (write_file t) ≤ n
-    go (no h) d = omega arith
-    go (yes h) (yes z) = let x : ◌≡◌ {A = ℕ} 16 0 = rw (z, lt-ltb n (length (write_file t)) h) at e in absurd (omega arith)
-    go (yes h) (no z) = let x : table_refusal t ≡ 0 = rw (ne_eqb (table_refusal t) 0 z) at e in absurd (z x)
-
 module _ (t : Table) (before : List ℕ) (at : ℕ) (low : at ≤ length before) where
   -- the part of the buffer that is lent, and the buffer with the part put back
   abbrev part : List ℕ
@@ -112,33 +94,6 @@ module _ (t : Table) (before : List ℕ) (at : ℕ) (low : at ≤ length before)
 
   part-length : length part ≡ length before - at
   part-length = ap length part_is ∙ length-drop at before
-
-  back_is : (ys : List ℕ) → back ys ≡ take at before ++ ys
-  back_is ys =
-      ap (λ (z : List ℕ). take at before ++ (ys ++ z)) (drop_of_length-le (drop at before) {i = length before - at} (omega (arith, length-drop at before)))
-      ∙ ap (λ (z : List ℕ). take at before ++ z) (append-nil ys)
-
-  put_fits : (n : ℕ) → record { refusal = 0; value = n } ≡ write_answer t (length part) → at + n ≤ length before
-  put_fits n e =
-      let z : write_refusal t (length part) ≡ 0 = sym (ap (λ (a : Reading ℕ). a.refusal) e) in
-      let m : n ≡ length (write_file t) = rw z at (ap (λ (a : Reading ℕ). a.value) e) in
-      omega (arith, fits_of t (length part) z, part-length, m)
-
-  pub put_length : (n : ℕ) (ys : List ℕ) → record { refusal = 0; value = n } ≡ write_answer t (length part) → ys ≡ buffer_after t part
-      → Put t before at (at + n) (back ys)
-  put_length n ys e d =
-      let z : write_refusal t (length part) ≡ 0 = sym (ap (λ (a : Reading ℕ). a.refusal) e) in
-      let m : n ≡ length (write_file t) = rw z at (ap (λ (a : Reading ℕ). a.value) e) in
-      let y : ys ≡ write_file t ++ drop (length (write_file t)) part = rw z at d in
-      record {
-        inside = put_fits n e;
-        file = λ ok room. (
-          ap (λ (k : ℕ). at + k) m,
-          back_is ys
-              ∙ ap (λ (k : List ℕ). take at before ++ k)
-              (y ∙ ap (λ (k : List ℕ). write_file t ++ k) (ap (drop (length (write_file t))) part_is ∙ drop-drop (length (write_file t)) at before)),
-        );
-      }
 
   pub put_refused : (why : Refusal) (now : List ℕ) → record { refusal = number why; value = 0 } ≡ write_answer t (length part) → Put t before at at now
   put_refused why now e =
@@ -277,6 +232,15 @@ module _ (v : Value) (size : length v.table.rows ≡ 64) (start : Starts gauge_s
                   length-append words rest,
                 )),
           )
+
+  -- a batch within the budget is not refused
+  pub turned_refused : (n : ℕ) → r.ending ≡ denied n → (w : Value) (next : ℕ) → next ≤ length before → (stop over : Bool) (now : List ℕ)
+      → Turned v before at w next stop over now
+  turned_refused n e w next low stop over now = record {
+    inside = low;
+    adds = λ ok s p room. absurd (not_denied (moves_of v.table (gauge_side v.table) (held gauge_side v) v.omit) (hand_out (gauge_side v.table))
+        (length part / v.table.gauges) most_budget s n (omega arith) (sym (ap (λ (x : Batch). x.ending) (h.rules ok s p (omega arith)).says) ∙ e));
+  }
 
   -- the turn
   pub turned_batch : (rest : List ℕ) (next : ℕ) (now : List ℕ)

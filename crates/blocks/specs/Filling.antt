@@ -9,10 +9,11 @@
 -- proofs/Deciding.antt; that the longest file is attained, `longest_attained` there; that lists of blocks exist and
 -- reach the list's end, proofs/Existence.antt; that in plain order the list is the gauge list, `plain_list` in
 -- proofs/PlainBlocks.antt.
-use Rattle.std.specs.Prelude.{◌≡◌, ◌⊎◌, Bool, true, false, ◌||◌, List, [], ◌∷◌, ◌++◌, ℕ, ◌+◌, ◌≤◌, ◌<◌, min, length, take, drop, replicate}
+use Rattle.std.specs.Prelude.{Result, Ok, Err, ◌≡◌, ◌⊎◌, Bool, true, false, ◌||◌, List, [], ◌∷◌, ◌++◌, ℕ, ◌+◌, ◌≤◌, ◌<◌, min, length, take, drop, replicate}
 use Rattle.table.specs.declared.Table.{Table}
 use Rattle.table.specs.Tables.{padded}
-use Rattle.refusals.specs.Answers.{verdict}
+use Rattle.refusals.specs.declared.Refusal.{Refusal}
+use Rattle.refusals.specs.Answers.{number}
 use Rattle.rules.specs.Sequences.{factorial}
 use Rattle.rules.specs.Machine.{State, fresh}
 use Rattle.rules.specs.Calls.{Reply, refused, spent, handed, end, Call, most_budget, calls_by, state_by, handouts}
@@ -48,8 +49,9 @@ pub record Filling : Type 0 where
   pub over : Bool
 
 -- how the code's answer reads
-abbrev pub block : Block → Filling
-block b = record { refusal = verdict b.verdict; value = gauge_value b.run; used = b.used; over = b.over }
+abbrev pub block : Result Block Refusal → Filling
+block (Ok b) = record { refusal = 0; value = gauge_value b.run; used = b.used; over = b.over }
+block (Err why) = record { refusal = number why; value = blank_value; used = 0; over = false }
 
 -- the first n calls of the gauge run on t with the preference in the 64 numbers of order (02, R-12), one that omits
 -- or does not, from the state s on, each with the greatest budget, and the state after them

@@ -4,19 +4,17 @@
 // and copied once for many ladders. No public function has a `requires`; nothing outside the lent buffer is kept.
 #![tactic(auto)]
 
-ghost use Rattle.std.specs.Prelude.{◌≡◌, false, ◌+◌, ◌≤◌, ◌<◌, length, take, drop};
+ghost use Rattle.std.specs.Prelude.{◌≡◌, Ok, ◌+◌, ◌≤◌, ◌<◌, length, take, drop};
 ghost use Rattle.table.specs.Tables.{padded};
-ghost use Rattle.refusals.specs.Answers.{verdict, number};
-ghost use Rattle.runs.specs.Paused.{gauge_value, blank_value};
+ghost use Rattle.refusals.specs.Answers.{verdict};
+ghost use Rattle.runs.specs.Paused.{gauge_value};
 ghost use Rattle.runs.specs.private.Listing.{words_of};
 ghost use Rattle.blocks.specs.Filling.{Filled, block, CarriesList, longest};
 ghost use Rattle.blocks.specs.private.Turning.{Checked, FillsOn, Put, PutAll, Lent, Turned, shape, ladders};
 
 use file_writer;
-use file_writer::Written;
-use refusals::{Refusal, Verdict};
-use runs;
-use runs::{GaugeRun, Outcome};
+use refusals::Refusal;
+use runs::{Close, GaugeRun};
 use table::Table;
 
 // The moves asked of one call: the greatest budget.
@@ -28,10 +26,9 @@ const LONGEST: usize = 23_484;
 // The words lent to a batch at most: 16 ladders of 64 gauges, 128 of 8.
 const WORDS: usize = 1024;
 
-// A block: the run after its calls, the bytes used, and whether the list ended in it; or a refusal.
+// A block: the run after its calls, the bytes used, and whether the list ended in it.
 #[derive(Clone, Copy)]
 pub struct Block {
-    pub verdict: Verdict,
     pub run: GaugeRun,
     pub used: usize,
     pub over: bool,
@@ -48,80 +45,51 @@ struct Turn {
 
 // Fills a buffer with the files of the next ladders, on any paused value: 10, 11, 27 and 15 are refused, then 16 for a buffer shorter than the
 // longest file. After the blocks that led to the value, it carries the list on.
-pub fn fill(run: GaugeRun, out: &mut [u8]) -> Block
+pub fn fill(run: GaugeRun, out: &mut [u8]) -> Result<Block, Refusal>
     ensures filled { Filled (gauge_value run) out.old (block result) out.new }
     ensures listed { CarriesList (gauge_value run) (record { before = out.old; answer = block result; now = out.new }) }
 {
-    let checked = check_run(run);
-    if let Verdict::Refused(why) = checked {
-        return refuse(why);
-    }
+    check_run(run)?;
     if out.len() < LONGEST {
-        return refuse(Refusal::BufferTooShort);
+        return Err(Refusal::BufferTooShort);
     }
-    fill_on(run, out)
+    Ok(fill_on(run, out))
 }
 
 // The files of a value that passes its check, in a buffer that has room for one.
 fn fill_on(start: GaugeRun, out: &mut [u8]) -> Block
-    ensures { FillsOn (gauge_value start) out.old (block result) out.new }
+    ensures { FillsOn (gauge_value start) out.old (block (Ok result)) out.new }
 {
     let most = out.len();
-    let mut words = [0u64; 1024];
+    let mut words = [0; WORDS];
     let mut run = start;
     let mut used: usize = 0;
-    let mut turns = most;
-    while 0 < turns {
+    for _turn in 0..most {
         if most - used < LONGEST {
-            return accept(run, used, false);
+            return filled(run, used, false);
         }
         let turn = list_some(run, &mut words, out, used);
-        let next = turn.run;
-        let place = turn.next;
+        run = turn.run;
+        used = turn.next;
         if turn.stop {
-            return accept(next, place, turn.over);
+            return filled(run, used, turn.over);
         }
-        run = next;
-        used = place;
-        turns -= 1;
     }
-    accept(run, used, false)
+    filled(run, used, false)
 }
 
-fn accept(run: GaugeRun, used: usize, over: bool) -> Block
-    ensures { block result ≡ record { refusal = 0; value = gauge_value run; used = used; over = over } }
+fn filled(run: GaugeRun, used: usize, over: bool) -> Block
+    ensures { result ≡ record { run = run; used = used; over = over } }
 {
-    Block {
-        verdict: Verdict::Accepted,
-        run: run,
-        used: used,
-        over: over,
-    }
-}
-
-// A refusal: no bytes, and the blank run.
-fn refuse(why: Refusal) -> Block
-    ensures { block result ≡ record { refusal = number why; value = blank_value; used = 0; over = false } }
-{
-    let run = runs::to_gauges(runs::blank_side(false));
-    Block {
-        verdict: Verdict::Refused(why),
-        run: run,
-        used: 0,
-        over: false,
-    }
+    Block { run, used, over }
 }
 
 // Whether a run call refuses the value: a call that makes no move says so.
-fn check_run(run: GaugeRun) -> Verdict
+fn check_run(run: GaugeRun) -> Result<(), Refusal>
     ensures { Checked (gauge_value run) (verdict result) }
 {
-    let step = runs::run_gauges(run, 0);
-    let outcome = step.outcome;
-    if let Outcome::Refused(why) = outcome {
-        return Verdict::Refused(why);
-    }
-    Verdict::Accepted
+    run.call(0)?;
+    Ok(())
 }
 
 // One batch of calls of the run, and behind the first `at` bytes the files of the ladders that it hands out.
@@ -135,15 +103,16 @@ fn list_some(run: GaugeRun, words: &mut [u64], out: &mut [u8], at: usize) -> Tur
     let room = out.len() - at;
     let many = lend(gauges, cases, run.omit, room);
     let from = 0;
-    let batch = runs::list_gauges(run, BUDGET, &mut words[from..many]);
-    let outcome = batch.outcome;
-    let next = batch.next;
-    let place = put_ladders(gauges, cases, words, batch.ladders as usize, out, at);
-    match outcome {
-        Outcome::HandedOut => turned(next, place, false, false),
-        Outcome::Spent => turned(next, place, true, false),
-        Outcome::End => turned(next, place, true, true),
-        Outcome::Refused(_) => turned(next, place, true, true),
+    match run.list(BUDGET, &mut words[from..many]) {
+        Ok(batch) => {
+            let place = put_ladders(gauges, cases, words, batch.ladders as usize, out, at);
+            match batch.close {
+                Close::Full => turned(batch.next, place, false, false),
+                Close::Spent => turned(batch.next, place, true, false),
+                Close::End => turned(batch.next, place, true, true),
+            }
+        }
+        Err(_) => turned(run, at, true, true),
     }
 }
 
@@ -202,8 +171,7 @@ fn put_ladders(
     let g = gauges as usize;
     let mut place = at;
     let mut from: usize = 0;
-    let mut left = many;
-    while 0 < left {
+    for _ladder in 0..many {
         let rows = ladder_at(words, from, g);
         let t = Table {
             gauges: gauges,
@@ -212,7 +180,6 @@ fn put_ladders(
         };
         place = put_table(t, out, place);
         from += g;
-        left -= 1;
     }
     place
 }
@@ -222,12 +189,8 @@ fn ladder_at(words: &[u64], from: usize, g: usize) -> [u64; 64]
     requires { (from + g ≤ length words.now) × (g ≤ 64) }
     ensures { result ≡ padded (take g (drop from words.now)) }
 {
-    let mut rows = [0u64; 64];
-    let mut i: usize = 0;
-    while i < g {
-        rows[i] = words[from + i];
-        i += 1;
-    }
+    let mut rows = [0; 64];
+    rows[..g].copy_from_slice(&words[from..from + g]);
     rows
 }
 
@@ -236,9 +199,8 @@ fn put_table(t: Table, out: &mut [u8], at: usize) -> usize
     requires { at ≤ length out.old }
     ensures { Put t out.old at result out.new }
 {
-    let written = file_writer::write(t, &mut out[at..]);
-    match written {
-        Written::Length(n) => at + n,
-        Written::Refused(_) => at,
+    match file_writer::write(t, &mut out[at..]) {
+        Ok(n) => at + n,
+        Err(_) => at,
     }
 }

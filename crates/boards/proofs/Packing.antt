@@ -1,7 +1,7 @@
 -- Boards made of rows and read again, as the two functions do it.
 --
 -- In order: the board is that of the rows (`corner-board`), and its rows are those it was made of (`rows_back`); then one law for each turn of the two
--- loops: `packed_start`, `packed-fits`, `packed-turn`, `packed_end`; `read_start`, `read_turn`, `read_end`.
+-- loops: `packed_start`, `packed-fits`, `packed-turn`; `read_start`, `read_turn`.
 use mathlib.Core.Path.{◌≡◌, refl, sym, ap, ap₂, ◌∙◌}
 use mathlib.Core.List.{List, [], ◌∷◌}
 use Prim.Native.Nat.{ℕ, suc, ◌+◌, ◌-◌, ◌*◌, ◌/◌, ◌%◌, ◌^◌, ◌≤◌, ◌<◌}
@@ -13,7 +13,6 @@ use lib.Pow.{shr-shr}
 use lib.Seq.{drop-cons, get_or-drop, get_or-set_same, get_or-set_other}
 use Rattle.sets.specs.Lists.{tabulate}
 use Rattle.sets.proofs.Tabulated.{length-tabulate, get_or-tabulate}
-use Rattle.table.specs.declared.Chain.{Chain}
 use Rattle.table.specs.Pairs.{row}
 use Rattle.table.specs.Tables.{padded}
 use Rattle.table.proofs.Padding.{pad_length, pad_get_or, pad_ext}
@@ -102,9 +101,6 @@ module _ (rows : List ℕ) where
         (board_fits (drop (i - 1) (corner rows)) (λ j. rw (get_or-drop (i - 1) (corner rows) j 0) (small_corner (i - 1 + j)))
         (omega (arith, length-drop (i - 1) (corner rows), length-corner)))
 
-  pub packed_end : (i b : ℕ) → Packed i b → i ≤ 0 → b ≡ board (corner rows)
-  packed_end i b p l = let e : i ≡ 0 = omega arith in p.sofar ∙ ap (λ (j : ℕ). board (drop j (corner rows))) e
-
 -- ---- the loop that reads the rows
 module _ (b : ℕ) where
   pub record Read (i left : ℕ) (rows : List ℕ) : Type 0 where
@@ -142,9 +138,3 @@ module _ (b : ℕ) where
       at j (no e) (no d) =
           get_or-set_other (padded (tabulate f i)) i j (f i) 0 e ∙ pad_get_or (tabulate f i) j
           ∙ row_past (tabulate f i) j (omega (arith, length-tabulate f i)) ∙ sym (row_past (tabulate f (i + 1)) j (omega (arith, length-tabulate f (i + 1))))
-
-  pub read_end : (i left : ℕ) (rows : List ℕ) → Read i left rows → 8 ≤ i → (gauges : ℕ)
-      → ◌≡◌ {A = Chain} (record { gauges = gauges; rows = rows }) (record { gauges = gauges; rows = padded (board_rows 8 b) })
-  read_end i left rows h l gauges =
-      let e : i ≡ 8 = omega (arith, h.few) in
-      ap (λ (x : List ℕ). record { gauges = gauges; rows = x }) (h.sofar ∙ ap (λ (j : ℕ). padded (board_rows j b)) e)

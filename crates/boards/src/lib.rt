@@ -18,9 +18,7 @@ pub fn board_of(rows: &[u64; 64]) -> u64
     ensures { result ≡ board_of (corner rows.now) }
 {
     let mut board: u64 = 0;
-    let mut i = ROWS;
-    while 0 < i {
-        i -= 1;
+    for i in (0..ROWS).rev() {
         board = board * WIDTH + rows[i] % WIDTH;
     }
     board
@@ -32,11 +30,9 @@ pub fn chain_of(board: u64, gauges: u64) -> Chain
 {
     let mut rows = [0u64; 64];
     let mut left = board;
-    let mut i: usize = 0;
-    while i < ROWS {
+    for i in 0..ROWS {
         rows[i] = left % WIDTH;
         left /= WIDTH;
-        i += 1;
     }
     Chain {
         gauges: gauges,

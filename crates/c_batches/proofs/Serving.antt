@@ -18,18 +18,17 @@ use Rattle.lists.specs.OnTable.{hand_out}
 use Rattle.runs.specs.Paused.{Value}
 use Rattle.runs.specs.Calling.{held, value_refusal, PausedAt}
 use Rattle.runs.specs.Omitting.{moves_of}
-use Rattle.runs.specs.Batches.{Ending, denied, full, used, over, ending, Batch, Tale, batch_on, Batched, CarriesBatch, Denied, Comes}
+use Rattle.runs.specs.Batches.{Ending, denied, full, used, over, closing, Batch, Tale, batch_on, Batched, CarriesBatch, Denied, Comes}
 use Rattle.runs.specs.Sides.{side_of}
-use Rattle.runs.specs.declared.Outcome.{Outcome}
-use Rattle.runs.specs.declared.Outcome.TheVariants.{HandedOut, Spent, End, Refused}
-use Rattle.runs.proofs.Marked.{at_side}
+use Rattle.runs.specs.declared.batches.Close.{Close}
+use Rattle.runs.specs.declared.batches.Close.TheVariants.{Full, Spent, End}
 use Rattle.runs.proofs.BatchSides.{not_denied}
 use Rattle.runs.proofs.BatchDeciding.{batched_cases, batch_reached}
 use Rattle.words.specs.Layouts.{Put}
 use Rattle.words.specs.Serving.{GivesTwo, ServedTwo}
 use Rattle.words.proofs.Answers.{left_zero}
 use Rattle.words.proofs.Back.{rows_size}
-use Rattle.run_words.specs.Values.{side_word, value_at, value_words, outcome_of, refused_of}
+use Rattle.run_words.specs.Values.{side_word, value_at, value_words, close_of}
 use Rattle.run_words.proofs.ReadingBack.{Held, numbers_read, value-back}
 use Rattle.c_runs.proofs.Sides.{Startable}
 use Rattle.c_runs.proofs.Returned.{paused-held}
@@ -69,18 +68,16 @@ back_is out ys =
     ap (λ (z : List ℕ). take 3 out ++ (ys ++ z)) (drop_of_length-le (drop 3 out) {i = length out - 3} (omega (arith, length-drop 3 out)))
     ∙ ap (λ (z : List ℕ). take 3 out ++ z) (append-nil ys)
 
--- the numbers of an outcome are those of how a batch stopped
-pub refused_ending : (o : Outcome) → refused_of o ≡ refusal_of (ending o)
-refused_ending (Refused why) = refl
-refused_ending HandedOut = refl
-refused_ending Spent = refl
-refused_ending End = refl
+-- the number of how the code's batch closed is that of how it stopped, and it is not refused
+pub close_ending : (o : Close) → close_of o ≡ stop_of (closing o)
+close_ending Full = refl
+close_ending Spent = refl
+close_ending End = refl
 
-pub outcome_ending : (o : Outcome) → outcome_of o ≡ stop_of (ending o)
-outcome_ending (Refused why) = refl
-outcome_ending HandedOut = refl
-outcome_ending Spent = refl
-outcome_ending End = refl
+pub close_accepted : (o : Close) → 0 ≡ refusal_of (closing o)
+close_accepted Full = refl
+close_accepted Spent = refl
+close_accepted End = refl
 
 pub put_batch : (out ys out' : List ℕ) (b : Batch) (stop : ℕ) → 3 ≤ length out → length ys ≡ length (part out) → stop ≡ stop_of b.ending
     → Put (back out ys) 0 (stop ∷ (b.ladders ∷ (b.moves ∷ []))) out' → Put out 0 (batch_words (record { batch = b; words = ys })) out'
@@ -91,13 +88,13 @@ put_batch out ys out' b stop long size e p = record {
       ∙ head_over out ys (stop_of b.ending) b.ladders b.moves long (size ∙ ap length (part_is out));
 }
 
--- what the library promises of the part, of the mark and the value that the words read as
-pub batch_at : {k c : Bool} {b : ℕ} {v : Value} {r : Batch} {ys : List ℕ} (out w : List ℕ) → k ≡ c → v ≡ value_at (side_word c) w
-    → Batched (side_of k) v b (part out) r ys → CarriesBatch (side_of k) v (length (part out)) b → length ys ≡ length (part out)
+-- what the library promises of the part, of the value that the words read as
+pub batch_at : (c : Bool) {b : ℕ} {v : Value} {r : Batch} {ys : List ℕ} (out w : List ℕ) → v ≡ value_at (side_word c) w
+    → Batched (side_of c) v b (part out) r ys → CarriesBatch (side_of c) v (length (part out)) b → length ys ≡ length (part out)
     → BatchCall (side_of c) (value_at (side_word c) w) b (drop 3 out) (record { batch = r; words = ys })
-batch_at {k} {c} {b} {v} {r} {ys} out w d e h calls l =
-    at_side (λ side u. BatchCall side u b (drop 3 out) (record { batch = r; words = ys })) d e
-    (subst (λ (l : List ℕ). BatchCall (side_of k) v b l (record { batch = r; words = ys })) (part_is out)
+batch_at c {b} {v} {r} {ys} out w e h calls l =
+    subst (λ (u : Value). BatchCall (side_of c) u b (drop 3 out) (record { batch = r; words = ys })) e
+    (subst (λ (l : List ℕ). BatchCall (side_of c) v b l (record { batch = r; words = ys })) (part_is out)
     (record { batched = h; calls = calls; long = l }))
 
 -- ---- what is left reads as the batch

@@ -1,5 +1,5 @@
 // Batches of both sides, on lent words: what the C library's entries of these names do. Any slices are taken: a slice shorter than its layout is refused
-// with 100 before anything else, and a refusal leaves every word as it was. Each entry is the function of either side with its own side's mark. No function
+// with 100 before anything else, and a refusal leaves every word as it was. Each entry is the function of either side for its own side. No function
 // has a `requires`.
 #![tactic(auto)]
 
@@ -12,7 +12,7 @@ ghost use Rattle.c_batches.specs.Serving.{Lists};
 
 use run_words;
 use run_words::RUN;
-use runs;
+use table::{Case, Gauge, Side};
 use words;
 use words::SHORT;
 
@@ -23,19 +23,19 @@ const HEAD: usize = 3;
 pub fn list_gauges(run: &mut [u64], budget: u64, batch: &mut [u64]) -> u64
     ensures { Lists gauge_side 1 run.old budget batch.old run.new batch.new result }
 {
-    list_side(run, false, budget, batch)
+    list_side::<Gauge>(run, budget, batch)
 }
 
 // A batch of the case run in `run`, which then holds the next paused value; how it stopped, and its ladders, go into `batch`.
 pub fn list_cases(run: &mut [u64], budget: u64, batch: &mut [u64]) -> u64
     ensures { Lists case_side 2 run.old budget batch.old run.new batch.new result }
 {
-    list_side(run, true, budget, batch)
+    list_side::<Case>(run, budget, batch)
 }
 
 // A batch of the run in `run`, of either side.
-fn list_side(run: &mut [u64], cases: bool, budget: u64, batch: &mut [u64]) -> u64
-    ensures { Lists (side_of cases) (side_word cases) run.old budget batch.old run.new batch.new result }
+fn list_side<S: Side>(run: &mut [u64], budget: u64, batch: &mut [u64]) -> u64
+    ensures { Lists (side_of S.CASES) (side_word S.CASES) run.old budget batch.old run.new batch.new result }
 {
     if run.len() < RUN {
         return SHORT;
@@ -43,22 +43,20 @@ fn list_side(run: &mut [u64], cases: bool, budget: u64, batch: &mut [u64]) -> u6
     if batch.len() < HEAD {
         return SHORT;
     }
-    let p = run_words::side_run_at(run, cases);
-    let made = runs::list_side(p, budget, &mut batch[HEAD..]);
-    let outcome = made.outcome;
-    let n = run_words::refused_number(outcome);
-    if n != 0 {
-        return n;
+    let p = run_words::run_at::<S>(run);
+    match p.list(budget, &mut batch[HEAD..]) {
+        Ok(made) => {
+            run_words::put_run(run, made.next);
+            put_head(
+                batch,
+                run_words::close_number(made.close),
+                made.ladders,
+                made.moves,
+            );
+            0
+        }
+        Err(why) => why.number(),
     }
-    let next = made.next;
-    run_words::put_side_run(run, next, cases);
-    put_head(
-        batch,
-        run_words::outcome_number(outcome),
-        made.ladders,
-        made.moves,
-    );
-    0
 }
 
 // Puts the words ahead of the ladders.

@@ -6,6 +6,7 @@
 -- the claims of the entries on pairs (`claims_used`).
 --
 -- Elsewhere: what holds of every entry, words/proofs/Answers; one answer of the library's own functions, proofs/ of the crates judge, extend, essentials.
+use Rattle.std.specs.Prelude.{Result, Ok, Err}
 use mathlib.Core.Path.{◌≡◌, refl, sym, ap, ap₂, ◌∙◌, subst}
 use mathlib.Core.Bool.{Bool, true, false, ◌&&◌, cond}
 use mathlib.Core.Logic.{◌⊎◌, inl, inr, ◌↔◌}
@@ -27,8 +28,6 @@ use Rattle.table.specs.Tables.{Legal, table_rows, chain_rows, rows_fit, rows_wit
 use Rattle.table.proofs.Legality.{ChainFacts, chain_facts, chain_within, length_rows, legal_cases}
 use Rattle.table.proofs.Padding.{pad_length}
 use Rattle.judge.specs.Judging.{judgement, Judged}
-use Rattle.judge.specs.declared.Judgement.{Judgement}
-use Rattle.judge.specs.declared.Judgement.TheVariants.{Yes, No, Refused}
 use Rattle.judge.proofs.NestedTest.{chain_dec}
 use Rattle.judge.proofs.Verdicts.{judged_refused, judged_yes, judged_no, judged_dec, judged_unique, maximal_dec}
 use Rattle.lists.specs.Arrangements.{IsArrangement}
@@ -86,15 +85,15 @@ pair_known t g c =
     (known_if (has_pair (table_rows t) g c) 0 19 (inl refl) (inr (PairAbsent, refl))) (table_known t)
 
 -- ---- judging
-judged_some : (n : ℕ) (P : Type 0) → Known n → (n ≡ 0 → (j : Judgement) × Judged n P j) → (j : Judgement) × Judged n P j
+judged_some : (n : ℕ) (P : Type 0) → Known n → (n ≡ 0 → (j : Result Bool Refusal) × Judged n P j) → (j : Result Bool Refusal) × Judged n P j
 judged_some n P (inl z) f = f z
-judged_some n P (inr (x, e)) f = (Refused x, judged_refused x n e)
+judged_some n P (inr (x, e)) f = (Err x, judged_refused x n e)
 
 module _ (t : Table) (s : Chain) (n : length t.rows ≡ 64) (m : length s.rows ≡ 64) where
-  chain_judged : (j : Judgement) × Judged (chain_refusal t s) (IsChain (chain_rows s)) j
+  chain_judged : (j : Result Bool Refusal) × Judged (chain_refusal t s) (IsChain (chain_rows s)) j
   chain_judged = judged_some (chain_refusal t s) (IsChain (chain_rows s)) (chain_known t s) (λ e. judged_dec (chain_refusal t s) e (chain_dec (chain_rows s)))
 
-  ladder_judged : (j : Judgement) × Judged (chain_refusal t s) (IsMaximal (table_rows t) (chain_rows s)) j
+  ladder_judged : (j : Result Bool Refusal) × Judged (chain_refusal t s) (IsMaximal (table_rows t) (chain_rows s)) j
   ladder_judged =
       judged_some (chain_refusal t s) (IsMaximal (table_rows t) (chain_rows s)) (chain_known t s) (λ e.
       judged_dec (chain_refusal t s) e (maximal_dec t s e n m))
@@ -107,7 +106,7 @@ module _ (t s out : List ℕ) where
   judges_unique P = gives_unique out judge_dec (judged_unique (chain_refusal (table_at 0 t) (chain_at 0 s)) (P (table_at 0 t) (chain_at 0 s)))
 
   -- 66, 65 and 1 words are enough: it is the number and the word of the library's answer
-  pub judges_served : (P : Table → Chain → Type 0) → 66 ≤ length t → 65 ≤ length s → 1 ≤ length out → (j : Judgement)
+  pub judges_served : (P : Table → Chain → Type 0) → 66 ≤ length t → 65 ≤ length s → 1 ≤ length out → (j : Result Bool Refusal)
       → Judged (chain_refusal (table_at 0 t) (chain_at 0 s)) (P (table_at 0 t) (chain_at 0 s)) j → (out' : List ℕ) (r : ℕ) → Judges P t s out out' r
       → (r ≡ (judgement j).refusal) × (out' ≡ words_after (judgement j).refusal (yes_no (judgement j).value ∷ []) out)
   judges_served P lt ls lo =
@@ -235,14 +234,14 @@ module _ (t : List ℕ) (g c : ℕ) (out : List ℕ) where
   rivals_served lt lo = gives_is out (conflicts_unique (table_at 0 t) g c) (long_two lt lo)
 
 -- ---- deciding pairs
-essential_judged : (t : Table) (g c : ℕ) → length t.rows ≡ 64 → (j : Judgement) × Judged (pair_refusal t g c) (Essential (table_rows t) g c) j
+essential_judged : (t : Table) (g c : ℕ) → length t.rows ≡ 64 → (j : Result Bool Refusal) × Judged (pair_refusal t g c) (Essential (table_rows t) g c) j
 essential_judged t g c n = judged_some (pair_refusal t g c) (Essential (table_rows t) g c) (pair_known t g c) (λ e.
     go e (essential_test t.cases (table_rows t) (legal_cases t (pair_facts t g c n e).legal) g c) (is_essential t.cases (table_rows t) g c) refl)
   where
     go : pair_refusal t g c ≡ 0 → T (is_essential t.cases (table_rows t) g c) ↔ Essential (table_rows t) g c → (b : Bool)
-        → is_essential t.cases (table_rows t) g c ≡ b → (j : Judgement) × Judged (pair_refusal t g c) (Essential (table_rows t) g c) j
-    go e test true d = (Yes, judged_yes (pair_refusal t g c) e (test.0 (rw d tt)))
-    go e test false d = (No, judged_no (pair_refusal t g c) e (λ h. subst T d (test.1 h)))
+        → is_essential t.cases (table_rows t) g c ≡ b → (j : Result Bool Refusal) × Judged (pair_refusal t g c) (Essential (table_rows t) g c) j
+    go e test true d = (Ok true, judged_yes (pair_refusal t g c) e (test.0 (rw d tt)))
+    go e test false d = (Ok false, judged_no (pair_refusal t g c) e (λ h. subst T d (test.1 h)))
 
 module _ (t : List ℕ) (g c : ℕ) (out : List ℕ) where
   decide_dec : Dec ((length t < 66) ⊎ (length out < 1))
@@ -254,7 +253,7 @@ module _ (t : List ℕ) (g c : ℕ) (out : List ℕ) where
   pub decides_exists : (out' : List ℕ) × (r : ℕ) × Decides t g c out out' r
   decides_exists = let (j, p) = essential_judged (table_at 0 t) g c (rows_size 2 t) in gives_exists out decide_dec j p
 
-  pub decides_served : 66 ≤ length t → 1 ≤ length out → (j : Judgement)
+  pub decides_served : 66 ≤ length t → 1 ≤ length out → (j : Result Bool Refusal)
       → Judged (pair_refusal (table_at 0 t) g c) (Essential (table_rows (table_at 0 t)) g c) j → (out' : List ℕ) (r : ℕ) → Decides t g c out out' r
       → (r ≡ (judgement j).refusal) × (out' ≡ words_after (judgement j).refusal (yes_no (judgement j).value ∷ []) out)
   decides_served lt lo =

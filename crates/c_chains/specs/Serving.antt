@@ -2,13 +2,13 @@
 -- words read as.
 --
 -- Elsewhere: the layouts, words/specs/Layouts; the number returned and what a slice is left with, words/specs/Serving.
-use Rattle.std.specs.Prelude.{◌≡◌, Bool, cond, ◌⊎◌, List, [], ◌∷◌, ℕ, ◌<◌, length}
+use Rattle.refusals.specs.declared.Refusal.{Refusal}
+use Rattle.std.specs.Prelude.{◌≡◌, Bool, cond, ◌⊎◌, List, [], ◌∷◌, ℕ, ◌<◌, length, Result}
 use Rattle.refusals.specs.Answers.{Answer}
 use Rattle.table.specs.declared.Table.{Table}
 use Rattle.table.specs.declared.Chain.{Chain}
 use Rattle.table.specs.Tables.{table_rows, table_refusal, chain_refusal}
 use Rattle.judge.specs.Judging.{judgement, Judged}
-use Rattle.judge.specs.declared.Judgement.{Judgement}
 use Rattle.extend.specs.Extending.{Extends}
 use Rattle.conflicts.specs.Conflicts.{Essential}
 use Rattle.conflicts.specs.Covers.{ConflictClaims}
@@ -25,8 +25,8 @@ abbrev pub Judges : (Table → Chain → Type 0) → List ℕ → List ℕ → L
 Judges P t s out out' r =
     Gives ((length t < 66) ⊎ ((length s < 65) ⊎ (length out < 1)))
     (Judged (chain_refusal (table_at 0 t) (chain_at 0 s)) (P (table_at 0 t) (chain_at 0 s)))
-    (λ (j : Judgement). (judgement j).refusal)
-    (λ (j : Judgement). yes_no (judgement j).value ∷ [])
+    (λ (j : Result Bool Refusal). (judgement j).refusal)
+    (λ (j : Result Bool Refusal). yes_no (judgement j).value ∷ [])
     out
     out'
     r
@@ -62,8 +62,8 @@ abbrev pub Decides : List ℕ → ℕ → ℕ → List ℕ → List ℕ → ℕ 
 Decides t g c out out' r =
     Gives ((length t < 66) ⊎ (length out < 1))
     (Judged (pair_refusal (table_at 0 t) g c) (Essential (table_rows (table_at 0 t)) g c))
-    (λ (j : Judgement). (judgement j).refusal)
-    (λ (j : Judgement). yes_no (judgement j).value ∷ [])
+    (λ (j : Result Bool Refusal). (judgement j).refusal)
+    (λ (j : Result Bool Refusal). yes_no (judgement j).value ∷ [])
     out
     out'
     r

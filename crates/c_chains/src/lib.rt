@@ -7,15 +7,12 @@ ghost use Rattle.table.specs.declared.Table.{Table};
 ghost use Rattle.table.specs.declared.Chain.{Chain};
 ghost use Rattle.table.specs.Chains.{IsChain, IsMaximal};
 ghost use Rattle.table.specs.Tables.{table_rows, chain_rows};
-ghost use Rattle.judge.specs.Judging.{judgement};
 ghost use Rattle.c_chains.specs.Serving.{yes_no, Judges, Grows, Conflicts, Decides, ClaimsConflicts};
 
 use essentials;
 use extend;
 use judge;
-use judge::Judgement;
 use preference::GaugeOrder;
-use refusals;
 use table::{Case, Gauge};
 use words;
 use words::{CHAIN, ORDER, SHORT, TABLE};
@@ -41,13 +38,13 @@ pub fn judge_chain(table: &[u64], chain: &[u64], answer: &mut [u64]) -> u64
     }
     let t = words::table_at(table, 0);
     let s = words::chain_at(chain, 0);
-    let judged = judge::judge_chain(t, s);
-    let n = judged_number(judged);
-    if n != 0 {
-        return n;
+    match judge::judge_chain(t, s) {
+        Err(why) => why.number(),
+        Ok(yes) => {
+            words::put_word(answer, 0, yes_no(yes));
+            0
+        }
     }
-    words::put_word(answer, 0, judged_word(judged));
-    0
 }
 
 // Whether the chain is a maximal chain (01: a ladder) of the table.
@@ -66,13 +63,13 @@ pub fn judge_ladder(table: &[u64], chain: &[u64], answer: &mut [u64]) -> u64
     }
     let t = words::table_at(table, 0);
     let s = words::chain_at(chain, 0);
-    let judged = judge::judge_maximal(t, s);
-    let n = judged_number(judged);
-    if n != 0 {
-        return n;
+    match judge::judge_maximal(t, s) {
+        Err(why) => why.number(),
+        Ok(yes) => {
+            words::put_word(answer, 0, yes_no(yes));
+            0
+        }
     }
-    words::put_word(answer, 0, judged_word(judged));
-    0
 }
 
 // The first maximal chain of the table, by an order of its gauges, that contains the chain.
@@ -92,17 +89,15 @@ pub fn grow(table: &[u64], order: &[u64], chain: &[u64], out: &mut [u64]) -> u64
         return SHORT;
     }
     let t = words::table_at(table, 0);
-    let preferred = GaugeOrder(words::numbers_at(order, 0));
+    let preferred = GaugeOrder::new(words::numbers_at(order, 0));
     let s = words::chain_at(chain, 0);
-    let grown = extend::extend_chain(t, preferred, s);
-    let verdict = grown.verdict;
-    let n = words::verdict_number(verdict);
-    if n != 0 {
-        return n;
+    match extend::extend_chain(t, preferred, s) {
+        Ok(made) => {
+            words::put_chain(out, 0, made);
+            0
+        }
+        Err(why) => why.number(),
     }
-    let made = grown.chain;
-    words::put_chain(out, 0, made);
-    0
 }
 
 // The rivals of a pair of the table, by gauge rows.
@@ -117,16 +112,14 @@ pub fn rivals(table: &[u64], gauge: u64, case: u64, pairs: &mut [u64]) -> u64
         return SHORT;
     }
     let t = words::table_at(table, 0);
-    let found = essentials::conflicts_of(t, Gauge(gauge), Case(case));
-    let verdict = found.verdict;
-    let n = words::verdict_number(verdict);
-    if n != 0 {
-        return n;
+    match essentials::conflicts_of(t, Gauge(gauge), Case(case)) {
+        Err(why) => why.number(),
+        Ok(found) => {
+            let rows = found.rows;
+            words::put_rows(pairs, 0, rows);
+            0
+        }
     }
-    let set = found.pairs;
-    let rows = set.rows;
-    words::put_rows(pairs, 0, rows);
-    0
 }
 
 // Whether a pair of the table is a deciding one.
@@ -141,33 +134,18 @@ pub fn decides(table: &[u64], gauge: u64, case: u64, answer: &mut [u64]) -> u64
         return SHORT;
     }
     let t = words::table_at(table, 0);
-    let judged = essentials::is_essential(t, Gauge(gauge), Case(case));
-    let n = judged_number(judged);
-    if n != 0 {
-        return n;
-    }
-    words::put_word(answer, 0, judged_word(judged));
-    0
-}
-
-// The number of the refusal that a judgement is, else 0.
-fn judged_number(judged: Judgement) -> u64
-    ensures { result ≡ (judgement judged).refusal }
-{
-    match judged {
-        Judgement::Refused(why) => refusals::refusal_number(why),
-        Judgement::Yes => 0,
-        Judgement::No => 0,
+    match essentials::is_essential(t, Gauge(gauge), Case(case)) {
+        Err(why) => why.number(),
+        Ok(yes) => {
+            words::put_word(answer, 0, yes_no(yes));
+            0
+        }
     }
 }
 
 // 1 for yes, else 0.
-fn judged_word(judged: Judgement) -> u64
-    ensures { result ≡ yes_no (judgement judged).value }
+fn yes_no(yes: bool) -> u64
+    ensures { result ≡ yes_no yes }
 {
-    match judged {
-        Judgement::Refused(why) => 0,
-        Judgement::Yes => 1,
-        Judgement::No => 0,
-    }
+    yes as u64
 }

@@ -6,7 +6,7 @@ use native.Mathlib.Nat.{not-suc-le-zero, le_of_suc-le-suc}
 use native.Mathlib.Numerals.{add-one}
 use native.Mathlib.Omega.{arith}
 use lib.ListN.{length, take, get_or}
-use lib.Seq.{sets as stored, take_all, length-sets}
+use lib.Seq.{sets as stored, take_all}
 use Rattle.table.specs.declared.Chain.{Chain}
 use Rattle.words.specs.Layouts.{chain_words, Put}
 use Rattle.c_covers.specs.Serving.{with_chains, PutChains}
@@ -20,11 +20,6 @@ with_suc w a (s ∷ ss) (suc i) d h =
     let e : a + 65 + 65 * i ≡ a + 65 * suc i = omega arith in
     with_suc (stored w a (chain_words s)) (a + 65) ss i d (le_of_suc-le-suc h)
     ∙ ap (λ (k : ℕ). stored (with_chains (stored w a (chain_words s)) (a + 65) (take i ss)) k (chain_words (get_or ss i d))) e
-
-with_length : (w : List ℕ) (a : ℕ) (ss : List Chain) → length (with_chains w a ss) ≡ length w
-unfolding with_chains
-with_length w a [] = refl
-with_length w a (s ∷ ss) = with_length (stored w a (chain_words s)) (a + 65) ss ∙ length-sets w a (chain_words s)
 
 pub chains_none : {w : List ℕ} {a : ℕ} → PutChains w a [] w
 unfolding with_chains
@@ -40,6 +35,3 @@ chains_more {w} {m} {m'} {a} {k} ss i d p h j q = record {
 
 pub chains_all : {w m : List ℕ} {a : ℕ} (ss : List Chain) (i : ℕ) → PutChains w a (take i ss) m → length ss ≤ i → PutChains w a ss m
 chains_all {w} {m} {a} ss i p h = record { words = p.words ∙ ap (with_chains w a) (take_all i ss h) }
-
-pub chains_length : {w m : List ℕ} {a : ℕ} {ss : List Chain} → PutChains w a ss m → length m ≡ length w
-chains_length {w} {m} {a} {ss} p = ap length p.words ∙ with_length w a ss

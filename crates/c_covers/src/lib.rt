@@ -3,12 +3,12 @@
 #![tactic(auto)]
 
 ghost use Rattle.std.specs.Prelude.{◌≡◌};
-ghost use Rattle.mechanisms.specs.Covering.{cover_outcome_says};
-ghost use Rattle.c_covers.specs.Serving.{reply_number, reply_kind, PutChains, CoversWords};
+ghost use Rattle.mechanisms.specs.Covering.{fewest_says};
+ghost use Rattle.c_covers.specs.Serving.{reply_kind, PutChains, CoversWords};
 
 use mechanisms;
-use mechanisms::CoverOutcome;
-use refusals;
+use mechanisms::{Cover, Fewest};
+use table;
 use table::Chain;
 use words;
 use words::{SHORT, TABLE};
@@ -16,9 +16,7 @@ use words::{SHORT, TABLE};
 // The words of a cover.
 const COVER: usize = 523;
 
-// The chains of a cover, where they start, and the words of each.
-const CHAINS: usize = 8;
-
+// Where the chains of a cover start, and the words of each.
 const FIRST: u16 = 3;
 
 const CHAIN: u16 = 65;
@@ -34,18 +32,17 @@ pub fn cover(table: &[u64], budget: u64, out: &mut [u64]) -> u64
         return SHORT;
     }
     let t = words::table_at(table, 0);
-    let fewest = mechanisms::fewest_ladders(t, budget);
-    let outcome = fewest.outcome;
-    let n = outcome_number(outcome);
-    if n != 0 {
-        return n;
+    match mechanisms::fewest_ladders(t, budget) {
+        Err(why) => why.number(),
+        Ok(fewest) => {
+            let cover = cover_of(fewest);
+            words::put_word(out, 0, kind_of(fewest));
+            words::put_word(out, 1, cover.number);
+            words::put_word(out, 2, cover.tried);
+            put_chains(out, cover.chains);
+            0
+        }
     }
-    let chains = fewest.cover;
-    words::put_word(out, 0, outcome_kind(outcome));
-    words::put_word(out, 1, fewest.number);
-    words::put_word(out, 2, fewest.tried);
-    put_chains(out, chains);
-    0
 }
 
 // Puts the chains of a cover, one behind the other.
@@ -53,33 +50,37 @@ fn put_chains(out: &mut [u64], chains: [Chain; 8])
     ensures { PutChains out.old 3 chains out.new }
 {
     let mut at = FIRST;
-    let mut i: usize = 0;
-    while i < CHAINS {
-        let s = chains[i];
+    for s in chains {
         words::put_chain(out, at, s);
         at += CHAIN;
-        i += 1;
     }
 }
 
-// The number of the refusal that an outcome is, else 0.
-fn outcome_number(outcome: CoverOutcome) -> u64
-    ensures { result ≡ reply_number (cover_outcome_says outcome) }
+// The cover that was found, or, where the budget was spent, the ladders tried and blank chains.
+fn cover_of(fewest: Fewest) -> Cover
+    ensures number { result.number ≡ (fewest_says fewest).number }
+    ensures tried { result.tried ≡ (fewest_says fewest).tried }
+    ensures chains { result.chains ≡ (fewest_says fewest).cover }
 {
-    match outcome {
-        CoverOutcome::Refused(why) => refusals::refusal_number(why),
-        CoverOutcome::Covered => 0,
-        CoverOutcome::Spent => 0,
+    match fewest {
+        Fewest::Covered(cover) => cover,
+        Fewest::Spent(tried) => {
+            let blank = table::blank_chain();
+            Cover {
+                number: 0,
+                tried,
+                chains: [blank; 8],
+            }
+        }
     }
 }
 
 // 1 where a cover was found, 2 where the budget was spent.
-fn outcome_kind(outcome: CoverOutcome) -> u64
-    ensures { result ≡ reply_kind (cover_outcome_says outcome) }
+fn kind_of(fewest: Fewest) -> u64
+    ensures { result ≡ reply_kind (fewest_says fewest).reply }
 {
-    match outcome {
-        CoverOutcome::Refused(why) => 0,
-        CoverOutcome::Covered => 1,
-        CoverOutcome::Spent => 2,
+    match fewest {
+        Fewest::Covered(_) => 1,
+        Fewest::Spent(_) => 2,
     }
 }

@@ -9,7 +9,6 @@ use Rattle.refusals.specs.Answers.{Answer}
 use Rattle.table.specs.declared.Table.{Table}
 use Rattle.file_writer.specs.Writing.{write_answer, buffer_after}
 use Rattle.words.specs.Layouts.{table_at, Put}
-use Rattle.words.proofs.Serving.{left_refused}
 use Rattle.words.proofs.Back.{rows_size}
 use Rattle.round_trip.specs.Back.{TableBack}
 use Rattle.round_trip.proofs.Written.{table_back}
@@ -32,17 +31,6 @@ module _ (w : List ℕ) (t : Table) (e : t ≡ table_at 0 w) (bytes bytes' len :
 
   reads_back : n ≡ 0 → TableBack (table_at 0 w) (take (write_answer (table_at 0 w) (length bytes)).value bytes')
   reads_back z = table_back (table_at 0 w) bytes bytes' (rows_size 2 w) (sym number_is ∙ z) file_is
-
-  pub writes_refused : ¬ (n ≡ 0) → WritesTable w bytes len bytes' len n
-  writes_refused h = record {
-    short = λ s. absurd (long s);
-    served = λ _. record {
-      number = number_is;
-      file = file_is;
-      size = sym (left_refused n ((write_answer (table_at 0 w) (length bytes)).value ∷ []) len h);
-      back = reads_back;
-    };
-  }
 
   pub writes_done : (len' : List ℕ) (x : ℕ) → n ≡ 0 → x ≡ a.value → Put len 0 (x ∷ []) len' → WritesTable w bytes len bytes' len' 0
   writes_done len' x h g p = record {

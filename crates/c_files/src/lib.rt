@@ -11,8 +11,7 @@ ghost use Rattle.c_files.specs.Serving.{Reads, Locates, ShowsComment, WritesTabl
 use file_reader;
 use file_reader::Found;
 use file_writer;
-use file_writer::Written;
-use refusals;
+use refusals::Refusal;
 use words;
 use words::{SHORT, TABLE};
 
@@ -28,15 +27,13 @@ pub fn read(file: &[u8], table: &mut [u64]) -> u64
     if table.len() < TABLE {
         return SHORT;
     }
-    let made = file_reader::read(file);
-    let verdict = made.verdict;
-    let n = words::verdict_number(verdict);
-    if n != 0 {
-        return n;
+    match file_reader::read(file) {
+        Err(why) => why.number(),
+        Ok(t) => {
+            words::put_table(table, 0, t);
+            0
+        }
     }
-    let t = made.table;
-    words::put_table(table, 0, t);
-    0
 }
 
 // Puts into `line` the number of the line that decides, from 1, for the reader of files of pairs where `either` is 0, else for the one with a cutoff, which
@@ -90,49 +87,49 @@ pub fn write(table: &[u64], bytes: &mut [u8], length: &mut [u64]) -> u64
 }
 
 // The number of the refusal that the writer's answer is, else 0.
-pub fn written_number(written: Written) -> u64
+pub fn written_number(written: Result<usize, Refusal>) -> u64
     ensures { result ≡ (written_as written).refusal }
 {
     match written {
-        Written::Refused(why) => refusals::refusal_number(why),
-        Written::Length(n) => 0,
+        Err(why) => why.number(),
+        Ok(n) => 0,
     }
 }
 
 // The length of the file that was written, or 0.
-pub fn written_length(written: Written) -> u64
+pub fn written_length(written: Result<usize, Refusal>) -> u64
     ensures { result ≡ (written_as written).value }
 {
     match written {
-        Written::Refused(why) => 0,
-        Written::Length(n) => n as u64,
+        Err(why) => 0,
+        Ok(n) => n as u64,
     }
 }
 
 // The number of the refusal that an answer is, else 0.
-fn found_number(place: Found) -> u64
+fn found_number(place: Result<Found, Refusal>) -> u64
     ensures { result ≡ (found_as place).refusal }
 {
     match place {
-        Found::Refused(why) => refusals::refusal_number(why),
-        Found::At { start, len } => 0,
+        Err(why) => why.number(),
+        Ok(_) => 0,
     }
 }
 
-fn found_start(place: Found) -> u64
+fn found_start(place: Result<Found, Refusal>) -> u64
     ensures { result ≡ (found_as place).value.start }
 {
     match place {
-        Found::Refused(why) => 0,
-        Found::At { start, len } => start as u64,
+        Err(_) => 0,
+        Ok(found) => found.start as u64,
     }
 }
 
-fn found_length(place: Found) -> u64
+fn found_length(place: Result<Found, Refusal>) -> u64
     ensures { result ≡ (found_as place).value.len }
 {
     match place {
-        Found::Refused(why) => 0,
-        Found::At { start, len } => len as u64,
+        Err(_) => 0,
+        Ok(found) => found.len as u64,
     }
 }

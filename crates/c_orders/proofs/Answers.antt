@@ -4,6 +4,7 @@
 -- and with slices no longer than their layouts the library's answer (`orders_served`).
 --
 -- Elsewhere: what holds of every entry, words/proofs/Answers; one answer of the library's own function, `wires_unique` in wiring/proofs/Answers.
+use Rattle.std.specs.Prelude.{Ok}
 use mathlib.Core.Path.{◌≡◌, refl, sym, ap, ap₂, ◌∙◌}
 use mathlib.Core.Bool.{Bool, true, false}
 use mathlib.Core.List.{List, [], ◌∷◌, ◌++◌}
@@ -16,7 +17,6 @@ use Rattle.table.specs.declared.Table.{Table}
 use Rattle.table.specs.declared.Chain.{Chain}
 use Rattle.table.specs.Chains.{IsChain, IsMaximal}
 use Rattle.table.specs.Tables.{table_rows, chain_rows, chain_refusal}
-use Rattle.judge.specs.declared.Judgement.TheVariants.{Yes, No}
 use Rattle.judge.proofs.NestedTest.{chain_dec}
 use Rattle.judge.proofs.Verdicts.{judged_yes, judged_no, maximal_dec}
 use Rattle.pair_orders.specs.Adding.{pair_bytes}
@@ -72,9 +72,9 @@ module _ (t : Table) (s x : Chain) (nt : length t.rows ≡ 64) (ns : length s.ro
     where
       held : (ex : chain_refusal t x ≡ 0) → Dec (IsMaximal (table_rows t) (chain_rows x)) → (b : Bool) → includes x.rows s.rows t.gauges ≡ b
           → (n : ℕ) × LadderChecked t s x n
-      held ex (no f) b i = (25, ladder_no t s x No (judged_no (chain_refusal t x) ex f) refl)
-      held ex (yes m) true i = (0, ladder-yes t s x Yes (judged_yes (chain_refusal t x) ex m) refl nt ns nx es true (sym i) refl)
-      held ex (yes m) false i = (25, ladder-lacks t s x Yes (judged_yes (chain_refusal t x) ex m) refl nt ns nx es false (sym i) refl)
+      held ex (no f) b i = (25, ladder_no t s x (Ok false) (judged_no (chain_refusal t x) ex f) refl)
+      held ex (yes m) true i = (0, ladder-yes t s x (Ok true) (judged_yes (chain_refusal t x) ex m) refl nt ns nx es true (sym i) refl)
+      held ex (yes m) false i = (25, ladder-lacks t s x (Ok true) (judged_yes (chain_refusal t x) ex m) refl nt ns nx es false (sym i) refl)
 
       go : Dec (chain_refusal t x ≡ 0) → (n : ℕ) × LadderChecked t s x n
       go (yes ex) = held ex (maximal_dec t x ex nt nx) (includes x.rows s.rows t.gauges) refl
@@ -92,8 +92,8 @@ module _ (t : Table) (s x : Chain) (nt : length t.rows ≡ 64) (ns : length s.ro
   checks_some = go (ℕ_discrete (chain_refusal t s) 0)
     where
       chained : chain_refusal t s ≡ 0 → Dec (IsChain (chain_rows s)) → (n : ℕ) × Checked t s x n
-      chained es (yes c) = let (n, l) = ladder_some es in (n, chain_yes t s x Yes (judged_yes (chain_refusal t s) es c) refl n l)
-      chained es (no f) = (14, chain_no t s x No (judged_no (chain_refusal t s) es f) refl)
+      chained es (yes c) = let (n, l) = ladder_some es in (n, chain_yes t s x (Ok true) (judged_yes (chain_refusal t s) es c) refl n l)
+      chained es (no f) = (14, chain_no t s x (Ok false) (judged_no (chain_refusal t s) es f) refl)
 
       go : Dec (chain_refusal t s ≡ 0) → (n : ℕ) × Checked t s x n
       go (yes es) = chained es (chain_dec (chain_rows s))

@@ -3,14 +3,10 @@
 // `requires`.
 #![tactic(auto)]
 
-ghost use Rattle.std.specs.Prelude.{◌≡◌};
 ghost use Rattle.pair_orders.specs.Adding.{OrderClaims};
-ghost use Rattle.wiring.specs.Wiring.{ordered as ordered_as};
 ghost use Rattle.c_orders.specs.Serving.{OrdersWords};
 
-use refusals;
 use wiring;
-use wiring::Ordered;
 use words;
 use words::{CHAIN, SHORT, TABLE};
 
@@ -44,30 +40,11 @@ pub fn write_order(
     let t = words::table_at(table, 0);
     let s = words::chain_at(chain, 0);
     let x = words::chain_at(ladder, 0);
-    let ordered = wiring::write_order(t, s, x, bytes);
-    let n = ordered_number(ordered);
-    if n != 0 {
-        return n;
-    }
-    words::put_word(count, 0, ordered_pairs(ordered));
-    0
-}
-
-// The number of the refusal that an answer is, else 0.
-fn ordered_number(ordered: Ordered) -> u64
-    ensures { result ≡ (ordered_as ordered).refusal }
-{
-    match ordered {
-        Ordered::Refused(why) => refusals::refusal_number(why),
-        Ordered::Pairs(n) => 0,
-    }
-}
-
-fn ordered_pairs(ordered: Ordered) -> u64
-    ensures { result ≡ (ordered_as ordered).value }
-{
-    match ordered {
-        Ordered::Refused(why) => 0,
-        Ordered::Pairs(n) => n as u64,
+    match wiring::write_order(t, s, x, bytes) {
+        Err(why) => why.number(),
+        Ok(pairs) => {
+            words::put_word(count, 0, pairs as u64);
+            0
+        }
     }
 }

@@ -5,13 +5,15 @@
 -- Elsewhere: what holds of every entry, words/proofs/Answers; the entries one after another, Joined.antt.
 use mathlib.Core.Path.{◌≡◌, refl, sym, ap, ◌∙◌}
 use mathlib.Core.Logic.{◌⊎◌}
+use mathlib.Core.Bool.{Bool}
 use mathlib.Core.List.{List, [], ◌∷◌}
 use Prim.Native.Nat.{ℕ, ◌<◌}
 use native.Mathlib.Decide.{dec_lt}
 use lib.IntN.{ℤ}
 use lib.ListN.{length}
 use Rattle.recorded.specs.Equality.{ComparedAs}
-use Rattle.recorded.specs.declared.Compared.{Compared}
+use Rattle.std.specs.Prelude.{Result}
+use Rattle.refusals.specs.declared.Refusal.{Refusal}
 use Rattle.recorded.proofs.Equal.{compared_unique}
 use Rattle.file_reader.specs.private.Reading.{read_test}
 use Rattle.file_reader.proofs.Promising.{test_of_file}
@@ -129,5 +131,5 @@ module _ (wa : List ℕ) (va : List ℤ) (wb : List ℕ) (vb : List ℤ) (out : 
   pub equals_unique : (a b : List ℕ) (r q : ℕ) → Equals wa va wb vb out a r → Equals wa va wb vb out b q → (a ≡ b) × (r ≡ q)
   equals_unique = gives_unique out equals_dec (compared_unique (test_at wa va) (test_at wb vb))
 
-  pub equals_exists : (x : Compared) → ComparedAs (test_at wa va) (test_at wb vb) x → (a : List ℕ) × (r : ℕ) × Equals wa va wb vb out a r
+  pub equals_exists : (x : Result Bool Refusal) → ComparedAs (test_at wa va) (test_at wb vb) x → (a : List ℕ) × (r : ℕ) × Equals wa va wb vb out a r
   equals_exists = gives_exists out equals_dec

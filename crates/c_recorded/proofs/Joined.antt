@@ -18,7 +18,8 @@ use Rattle.refusals.specs.Answers.{verdict}
 use Rattle.recorded.specs.Tests.{LegalTest, test_refusal, table_of, cutoff_first}
 use Rattle.recorded.specs.Equality.{two_refusal, ComparedAs}
 use Rattle.recorded.specs.declared.Test.{Test}
-use Rattle.recorded.specs.declared.Compared.{Compared}
+use Rattle.std.specs.Prelude.{Result, Bool}
+use Rattle.refusals.specs.declared.Refusal.{Refusal}
 use Rattle.recorded.proofs.Legality.{legal-test}
 use Rattle.file_reader.specs.private.Reading.{read_recorded, read_test}
 use Rattle.file_reader.proofs.Answered.{read_test_legal}
@@ -102,8 +103,8 @@ module _ (w : List ℕ) (v : List ℤ) (h : is_kind (word_at w 0) ≡ false) whe
       ten_or_eleven (test_refusal (test_at w v)) r (no_kind_refused w v h) (λ n. x.number ∙ rw (ne_eqb (test_refusal (test_at w v)) 0 n))
 
   -- of the first of two tests
-  pub no_kind_compared : (b : Test) (x : Compared) → ComparedAs (test_at w v) b x → (verdict x.verdict ≡ 10) ⊎ (verdict x.verdict ≡ 11)
+  pub no_kind_compared : (b : Test) (x : Result Bool Refusal) → ComparedAs (test_at w v) b x → (verdict x ≡ 10) ⊎ (verdict x ≡ 11)
   unfolding two_refusal
   no_kind_compared b x y =
-      ten_or_eleven (test_refusal (test_at w v)) (verdict x.verdict) (no_kind_refused w v h)
+      ten_or_eleven (test_refusal (test_at w v)) (verdict x) (no_kind_refused w v h)
       (λ n. y.refusal ∙ rw (ne_eqb (test_refusal (test_at w v)) 0 n))

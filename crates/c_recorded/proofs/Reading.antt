@@ -12,7 +12,6 @@ use lib.Dec.{eqb}
 use lib.IntN.{ℤ}
 use lib.ListN.{length, drop, get_or-append}
 use lib.Seq.{sets as stored, sets-eq, ext_get_or, get_or-append-add}
-use borrow.Author.Tests.{eq-eqb, ne_eqb}
 use Rattle.basics.proofs.Clash.{clash}
 use Rattle.sets.specs.Sets.{bit}
 use Rattle.sets.specs.Lists.{tabulate, all_below}
@@ -26,31 +25,10 @@ use Rattle.words.specs.Layouts.{word_at, rows_at}
 use Rattle.c_recorded.specs.Layouts.{is_kind, kind_of, kind_word, readings_at, stray_reading, readings_beside, test_at, test_words}
 use Rattle.c_recorded.proofs.Readings.{readings_front}
 
--- ---- a kind by its word
-pub is_pattern : (x : ℕ) → x ≡ 1 → true ≡ is_kind x
-is_pattern x e = rw (eq-eqb x 1 e)
-
-pub is_other : (x : ℕ) → ¬ (x ≡ 1) → eqb x 2 ≡ is_kind x
-is_other x n = rw (ne_eqb x 1 n)
-
-pub kind_integer : (x : ℕ) → x ≡ 2 → Integer ≡ kind_of x
-kind_integer x e = rw (eq-eqb x 2 e)
-
-pub kind_pattern : (x : ℕ) → ¬ (x ≡ 2) → Pattern ≡ kind_of x
-kind_pattern x n = rw (ne_eqb x 2 n)
-
 -- ---- the readings beside a word, where the code's test t of it said yes, and where it said no
-pub beside_kind : (x : ℕ) (v s : List ℤ) (t : Bool) → t ≡ is_kind x → t ≡ true → s ≡ readings_at v → s ≡ readings_beside x v
-beside_kind x v s t e y d = rw (sym e ∙ y) d
 
 pub beside_none : (x : ℕ) (v : List ℤ) (t : Bool) → t ≡ is_kind x → t ≡ false → stray_reading ≡ readings_beside x v
 beside_none x v t e n = rw (sym e ∙ n)
-
--- ---- a test by its parts
-pub test_is : (w : List ℕ) (v : List ℤ) (x g l : ℕ) (k : Kind) (r : List ℕ) (s : List ℤ) → x ≡ word_at w 0 → g ≡ word_at w 1 → l ≡ word_at w 2
-    → r ≡ rows_at 3 w → s ≡ readings_beside x v → k ≡ kind_of x
-    → ◌≡◌ {A = Test} (record { kind = k; gauges = g; cases = l; entries = r; readings = s }) (test_at w v)
-test_is w v x g l k r s ex eg el er es ek = rw (ek, eg, el, er, es, ex)
 
 -- ---- what is put reads back, whatever comes after it
 same_test : (t : Test) (k : Kind) (r : List ℕ) (s : List ℤ) → k ≡ t.kind → r ≡ t.entries → s ≡ t.readings

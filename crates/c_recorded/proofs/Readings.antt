@@ -7,11 +7,10 @@ use mathlib.Core.List.{List, [], ◌∷◌, ◌++◌, append_assoc}
 use Prim.Native.Nat.{ℕ, zero, suc, ◌+◌, ◌≤◌, ◌<◌}
 use native.Mathlib.Nat.{not-suc-le-zero, le_of_suc-le-suc, add-suc, suc-add, zero-add, add-zero}
 use native.Mathlib.Numerals.{add-one}
-use native.Mathlib.Decide.{ℕ_discrete}
 use native.Mathlib.Omega.{arith}
 use lib.IntN.{ℤ, pos}
 use lib.ListN.{length, get_or, set, take, replicate, length-set, length-append, length-replicate}
-use lib.Seq.{sets as stored, ext_get_or, get_or-set_same, get_or-set_other, get_or-take, length-take-le, length-sets, take_all, take_at}
+use lib.Seq.{sets as stored, ext_get_or, get_or-take, length-take-le, take_at}
 use Rattle.recorded.specs.Tests.{reading, no_readings}
 use mathlib.Core.Bool.{Bool, true, false, cond}
 use Rattle.c_recorded.specs.Layouts.{is_kind, readings_at, stray_reading, readings_beside}
@@ -44,16 +43,6 @@ pub record Taken (v l : List ℤ) (k : ℕ) : Type 0 where
   pub most : k ≤ 4096
   pub entry : (i : ℕ) → i < k → reading l i ≡ reading v i
 
-pub taken_none : (v l : List ℤ) → length l ≡ 4096 → Taken v l 0
-taken_none v l e = record { size = e; most = omega arith; entry = λ i h. absurd (not-suc-le-zero h) }
-
-pub taken_more : {v l : List ℤ} {k : ℕ} (x : ℤ) → Taken v l k → k < 4096 → x ≡ reading v k → Taken v (set l k x) (k + 1)
-taken_more {v} {l} {k} x r h e = record { size = length-set l k x ∙ r.size; most = omega arith; entry = λ i b. go i b (ℕ_discrete i k) }
-  where
-    go : (i : ℕ) → i < k + 1 → Dec (i ≡ k) → reading (set l k x) i ≡ reading v i
-    go i b (yes d) = ap (λ (j : ℕ). reading (set l k x) j) d ∙ get_or-set_same l k x (pos 0) (omega (arith, r.size)) ∙ e ∙ ap (reading v) (sym d)
-    go i b (no d) = get_or-set_other l k i x (pos 0) d ∙ r.entry i (omega arith)
-
 pub taken_all : {v l : List ℤ} (k : ℕ) → Taken v l k → 4096 ≤ k → l ≡ readings_at v
 taken_all {v} {l} k r h =
     ext_get_or (pos 0) l (readings_at v) (r.size ∙ sym (readings_length v)) (λ i b.
@@ -66,9 +55,6 @@ stored_suc l a [] i h = absurd (not-suc-le-zero h)
 stored_suc l a (v ∷ vs) zero h = rw add-zero
 stored_suc l a (v ∷ vs) (suc i) h = rw (add-suc, ← suc-add) (stored_suc (set l a v) (suc a) vs i (le_of_suc-le-suc h))
 
-pub put_none : {l : List ℤ} → PutReadings l [] l
-put_none = record { values = refl }
-
 -- a loop puts reading i
 pub put_more : {l m m' : List ℤ} {x : ℤ} (vs : List ℤ) (i : ℕ) → PutReadings l (take i vs) m → i < length vs → x ≡ reading vs i → m' ≡ set m i x
     → PutReadings l (take (i + 1) vs) m'
@@ -76,12 +62,6 @@ put_more {l} {m} {m'} {x} vs i p h e q = record {
   values = q ∙ ap (set m i) e ∙ ap (λ (y : List ℤ). set y i (reading vs i)) p.values
       ∙ sym (rw add-one (stored_suc l 0 vs i h ∙ ap (λ (k : ℕ). set (stored l 0 (take i vs)) k (reading vs i)) (zero-add i)));
 }
-
-pub put_all : {l vs m : List ℤ} (i : ℕ) → PutReadings l (take i vs) m → length vs ≤ i → PutReadings l vs m
-put_all {l} {vs} i p h = record { values = p.values ∙ ap (stored l 0) (take_all i vs h) }
-
-pub put_length : {l vs m : List ℤ} → PutReadings l vs m → length m ≡ length l
-put_length {l} {vs} p = ap length p.values ∙ length-sets l 0 vs
 
 -- the readings beside any word are 4,096
 pub beside_length : (x : ℕ) (v : List ℤ) → length (readings_beside x v) ≡ 4096

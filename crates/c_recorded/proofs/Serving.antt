@@ -1,20 +1,16 @@
 -- The returns of the entries.
-use mathlib.Core.Path.{◌≡◌, refl, ap, sym, ◌∙◌, subst}
+use mathlib.Core.Path.{◌≡◌, ap, sym, ◌∙◌, subst}
 use mathlib.Core.Bool.{Bool, true, false, cond}
 use mathlib.Core.Logic.{◌⊎◌, inl, inr, ◌↔◌}
 use mathlib.Core.List.{List, [], ◌∷◌}
-use Prim.Native.Nat.{ℕ, ◌<◌, ◌≤◌}
-use native.Mathlib.Omega.{arith}
-use lib.Dec.{ltb}
+use Prim.Native.Nat.{ℕ, ◌<◌}
 use lib.IntN.{ℤ}
 use lib.ListN.{length, take}
 use lib.Seq.{sets as stored}
-use borrow.Author.Tests.{ne_eqb, lt-ltb, ltb-true}
+use borrow.Author.Tests.{ne_eqb}
 use Rattle.basics.proofs.Clash.{clash}
 use Rattle.refusals.specs.Answers.{Answer}
-use Rattle.recorded.specs.Equality.{ComparedAs}
 use Rattle.recorded.specs.declared.Test.{Test}
-use Rattle.recorded.specs.declared.Compared.{Compared}
 use Rattle.file_reader.specs.Promises.{TestAndTable, TestOfFile}
 use Rattle.file_reader.specs.private.Reading.{read_test}
 use Rattle.file_reader.proofs.Promising.{test_is_read}
@@ -41,9 +37,6 @@ module _ (file : List ℕ) (cutoff : ℕ) (w : List ℕ) (v : List ℤ) (t : Lis
   leaves_read {w'} {v'} {t'} {r} s =
       subst (λ (x : Answer TestAndTable). LeavesTest x w v t w' v' t' r) (test_is_read file cutoff s.answer s.promised) s.leaves
 
-  pub reads_short : ShortTest w v ⊎ (length t < 66) → ReadsTest file cutoff w v t w v t 100
-  reads_short h = record { short = λ _. (refl, refl, refl, refl); served = λ n. absurd (n h) }
-
   module _ (long : ¬ (ShortTest w v ⊎ (length t < 66))) (a : Answer TestAndTable) (d : TestOfFile file cutoff a) (n : ℕ) (f : n ≡ a.refusal) where
     reads : (w' : List ℕ) (v' : List ℤ) (t' : List ℕ) (r : ℕ) → LeavesTest a w v t w' v' t' r → ReadsTest file cutoff w v t w' v' t' r
     reads w' v' t' r l = record {
@@ -66,10 +59,6 @@ module _ (file : List ℕ) (cutoff : ℕ) (w : List ℕ) (v : List ℤ) (t : Lis
     reads-done w' v' t' h p q s =
         reads w' v' t' 0 (record { number = sym h ∙ f; test = p.words; readings = q.values; table = s.words })
 
--- ---- the writer: it answered a, and left the bytes; n is the answer's number
-pub writes_short : (w : List ℕ) (v : List ℤ) (bytes len : List ℕ) → ShortTest w v ⊎ (length len < 1) → WritesTest w v bytes len bytes len 100
-writes_short w v bytes len h = record { short = λ _. (refl, refl, refl); served = λ n. absurd (n h) }
-
 module _ (w : List ℕ) (v : List ℤ) (t : Test) (e : t ≡ test_at w v) (bytes bytes' len : List ℕ) (long : ¬ (ShortTest w v ⊎ (length len < 1))) (a : Answer ℕ)
     (d : a ≡ test_answer t (length bytes)) (b : bytes' ≡ test_buffer t bytes) (n : ℕ) (f : n ≡ a.refusal) where
   answer_is : a ≡ test_answer (test_at w v) (length bytes)
@@ -84,17 +73,6 @@ module _ (w : List ℕ) (v : List ℤ) (t : Test) (e : t ≡ test_at w v) (bytes
   reads_back : n ≡ 0 → TestBack (test_at w v) (take (test_answer (test_at w v) (length bytes)).value bytes')
   reads_back z = test_back (test_at w v) bytes bytes' (rows_size 3 w) (beside_length (word_at w 0) v) (sym number_is ∙ z) file_is
 
-  pub writes_refused : ¬ (n ≡ 0) → WritesTest w v bytes len bytes' len n
-  writes_refused h = record {
-    short = λ s. absurd (long s);
-    served = λ _. record {
-      number = number_is;
-      file = file_is;
-      size = sym (left_refused n ((test_answer (test_at w v) (length bytes)).value ∷ []) len h);
-      back = reads_back;
-    };
-  }
-
   pub writes_done : (len' : List ℕ) (x : ℕ) → n ≡ 0 → x ≡ a.value → Put len 0 (x ∷ []) len' → WritesTest w v bytes len bytes' len' 0
   writes_done len' x h g p = record {
     short = λ s. absurd (long s);
@@ -106,11 +84,6 @@ module _ (w : List ℕ) (v : List ℤ) (t : Test) (e : t ≡ test_at w v) (bytes
     };
   }
 
--- ---- whether two tests are equal, of the slices that they were read from
-pub compared_at : (wa : List ℕ) (va : List ℤ) (wb : List ℕ) (vb : List ℤ) (a b : Test) (x : Compared) → a ≡ test_at wa va → b ≡ test_at wb vb
-    → ComparedAs a b x → ComparedAs (test_at wa va) (test_at wb vb) x
-compared_at wa va wb vb a b x e d h = rw (e, d) at h
-
 -- ---- slices that are long enough: the code's test t of S said no
 pub told_not : {S : Type 0} (t : Bool) → (t ≡ true) ↔ S → t ≡ false → ¬ S
 told_not t e n s = clash (ap (λ (b : Bool). cond b 1 0) (sym n ∙ e.1 s))
@@ -118,14 +91,3 @@ told_not t e n s = clash (ap (λ (b : Bool). cond b 1 0) (sym n ∙ e.1 s))
 pub neither : {A B : Type 0} → ¬ A → ¬ B → ¬ (A ⊎ B)
 neither f g (inl a) = f a
 neither f g (inr b) = g b
-
--- and the test by lengths
-pub short_words : (w : List ℕ) (v : List ℤ) → length w < 67 → (true ≡ true) ↔ ShortTest w v
-short_words w v h = (λ _. inl h, λ _. refl)
-
-pub short_readings : (w : List ℕ) (v : List ℤ) → 67 ≤ length w → (ltb (length v) 4096 ≡ true) ↔ ShortTest w v
-short_readings w v h = (λ e. inr (ltb-true (length v) 4096 e), λ s. lt-ltb (length v) 4096 (go s))
-  where
-    go : ShortTest w v → length v < 4096
-    go (inl l) = absurd (omega arith)
-    go (inr l) = l

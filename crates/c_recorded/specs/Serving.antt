@@ -2,12 +2,12 @@
 -- as.
 --
 -- Elsewhere: the layouts, specs/Layouts and words/specs/Layouts; the number returned and what a slice of words is left with, words/specs/Serving.
-use Rattle.std.specs.Prelude.{◌≡◌, cond, ◌⊎◌, List, [], ◌∷◌, ℕ, ◌<◌, eqb, ℤ, length, take}
+use Rattle.std.specs.Prelude.{◌≡◌, cond, ◌⊎◌, List, [], ◌∷◌, ℕ, ◌<◌, eqb, ℤ, length, take, Bool, false, Result}
 use Rattle.std.proofs.lemmas.List.Edits.{sets as stored}
-use Rattle.refusals.specs.Answers.{Answer, verdict}
+use Rattle.refusals.specs.Answers.{Answer, verdict, given}
 use Rattle.recorded.specs.Equality.{ComparedAs}
 use Rattle.recorded.specs.declared.Test.{Test}
-use Rattle.recorded.specs.declared.Compared.{Compared}
+use Rattle.refusals.specs.declared.Refusal.{Refusal}
 use Rattle.file_reader.specs.Promises.{TestAndTable, TestOfFile}
 use Rattle.file_writer.specs.TestFiles.{test_answer, test_buffer}
 use Rattle.round_trip.specs.Back.{TestBack}
@@ -57,8 +57,8 @@ abbrev pub Equals : List ℕ → List ℤ → List ℕ → List ℤ → List ℕ
 Equals wa va wb vb out out' r =
     Gives (ShortTest wa va ⊎ (ShortTest wb vb ⊎ (length out < 1)))
     (ComparedAs (test_at wa va) (test_at wb vb))
-    (λ (x : Compared). verdict x.verdict)
-    (λ (x : Compared). cond x.same 1 0 ∷ [])
+    (λ (x : Result Bool Refusal). verdict x)
+    (λ (x : Result Bool Refusal). cond (given false x) 1 0 ∷ [])
     out
     out'
     r

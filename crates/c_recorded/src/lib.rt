@@ -48,19 +48,16 @@ pub fn read_test(
     if table.len() < TABLE {
         return SHORT;
     }
-    let answer = file_reader::read_test(file, cutoff);
-    let verdict = answer.verdict;
-    let n = words::verdict_number(verdict);
-    if n != 0 {
-        return n;
+    match file_reader::read_test(file, cutoff) {
+        Err(why) => why.number(),
+        Ok(recording) => {
+            let t = recording.test;
+            put_test(test, t);
+            put_readings(readings, t.readings);
+            words::put_table(table, 0, recording.table);
+            0
+        }
     }
-    let t = answer.test;
-    let values = t.readings;
-    let pairs = answer.table;
-    put_test(test, t);
-    put_readings(readings, values);
-    words::put_table(table, 0, pairs);
-    0
 }
 
 // Writes the test to the front of `bytes` as a file of its kind, and its length to `length`.
@@ -106,14 +103,13 @@ pub fn equal(
     }
     let a = test_at(test, readings);
     let b = test_at(other, values);
-    let compared = recorded::equal_tests(a, b);
-    let verdict = compared.verdict;
-    let n = words::verdict_number(verdict);
-    if n != 0 {
-        return n;
+    match recorded::equal_tests(a, b) {
+        Err(why) => why.number(),
+        Ok(same) => {
+            words::put_word(answer, 0, yes_no(same));
+            0
+        }
     }
-    words::put_word(answer, 0, yes_no(compared.same));
-    0
 }
 
 // Whether the slices of a test are shorter than their layouts.
@@ -161,10 +157,8 @@ fn readings_at(v: &[i32]) -> [i32; 4096]
     ensures { result ≡ readings_at v.now }
 {
     let mut readings = [0i32; 4096];
-    let mut i: usize = 0;
-    while i < READINGS {
+    for i in 0..READINGS {
         readings[i] = reading_at(v, i);
-        i += 1;
     }
     readings
 }
@@ -195,11 +189,9 @@ fn put_test(out: &mut [u64], t: Test)
 fn put_readings(out: &mut [i32], readings: [i32; 4096])
     ensures { PutReadings out.old readings out.new }
 {
-    let mut i: usize = 0;
-    while i < READINGS {
+    for i in 0..READINGS {
         let v = readings[i];
         put_reading(out, i, v);
-        i += 1;
     }
 }
 

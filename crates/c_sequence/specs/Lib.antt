@@ -1,3 +1,2 @@
--- What a reader must believe of the pick sequence on lent words; `private` is for private steps alone.
+-- What a reader must believe of the pick sequence on lent words.
 pub mod Serving
-pub mod private

@@ -1,17 +1,18 @@
 -- Texts as the private steps make, find and put them.
 --
--- In order: a text that a loop filled (`text_is`); the arms of a match on a number (`text_at`, `text_later`, `text_else`); the words and their length put
--- (`says`); a byte put by a loop (`put_byte`).
+-- In order: a text by its bytes (`text_is`); the arms of a match on a number (`text_at`, `text_later`, `text_else`); the words and their length put
+-- (`says`); bytes put over the front (`put_front`).
 use mathlib.Core.Path.{◌≡◌, refl, sym, ap, ◌∙◌}
 use mathlib.Core.Logic.{◌⊎◌}
 use mathlib.Core.List.{List, [], ◌∷◌, ◌++◌}
-use Prim.Native.Nat.{ℕ, ◌+◌, ◌<◌}
+use Prim.Native.Nat.{ℕ, ◌<◌, ◌≤◌}
 use Prim.Native.String.{String}
 use native.Mathlib.Nat.{zero-add}
-use lib.ListN.{length, get_or, set, take, drop}
+use native.Mathlib.Omega.{arith}
+use lib.ListN.{length, take, drop}
+use lib.Seq.{sets-eq}
 use borrow.Author.Tests.{ne_eqb}
 use Rattle.words.specs.Layouts.{Put}
-use Rattle.words.proofs.Storing.{put_more}
 use Rattle.words.proofs.Serving.{two_accepted}
 use Rattle.c_support.specs.Words.{bytes_of, text_in, texts, other_text, words_of}
 use Rattle.c_support.specs.Serving.{lent, SaysWords}
@@ -52,6 +53,8 @@ pub says : (n : ℕ) (x : Text) {text text' len len' : List ℕ} → ¬ ((length
     → Put text 0 x.bytes text' → Put len 0 (x.length ∷ []) len' → SaysWords n text len text' len' 0
 says n x {text} {text'} {len} {len'} l e p q = two_accepted text len text' len' l (words_of n) refl 0 refl refl (rw e at p) (rw e at q)
 
--- ---- a loop puts byte i
-pub put_byte : {l m : List ℕ} (vs : List ℕ) (i : ℕ) → Put l 0 (take i vs) m → i < length vs → Put l 0 (take (i + 1) vs) (set m i (get_or vs i 0))
-put_byte {l} {m} vs i p h = put_more vs i p h refl (record { words = ap (λ (k : ℕ). set m k (get_or vs i 0)) (sym (zero-add i)) })
+-- ---- 80 bytes are put over the front
+pub put_front : {l m : List ℕ} (vs : List ℕ) → length vs ≡ 80 → 80 ≤ length l → m ≡ vs → Put l 0 vs (m ++ drop 80 l)
+put_front {l} {m} vs size h e = record {
+  words = ap (λ (x : List ℕ). x ++ drop 80 l) e ∙ ap (λ (n : ℕ). vs ++ drop n l) (sym (zero-add (length vs) ∙ size)) ∙ sym (sets-eq vs l 0 (omega arith));
+}

@@ -10,8 +10,8 @@ ghost use Rattle.c_support.specs.Serving.{this_release, SaysWords, GivesPlain};
 ghost use Rattle.c_support.specs.private.Texts.{later_words, text_of};
 
 use preference::GaugeOrder;
-use refusals;
 use refusals::Refusal;
+use std::array;
 use table;
 use table::Table;
 use words;
@@ -69,10 +69,10 @@ pub fn plain_order(n: u64, order: &mut [u64]) -> u64
         return SHORT;
     }
     if !table::in_range(n, Table::MOST_GAUGES) {
-        return refusals::refusal_number(Refusal::TableShape);
+        return Refusal::TableShape.number();
     }
     let plain = GaugeOrder::plain(n);
-    let numbers = plain.0;
+    let numbers = plain.numbers;
     words::put_numbers(order, 0, numbers);
     0
 }
@@ -131,14 +131,9 @@ fn later_text(number: u64) -> Text
 fn filled(s: &[u8]) -> Text
     ensures { result ≡ text_of s.now }
 {
-    let mut bytes = [0u8; 80];
-    let mut i: usize = 0;
-    while i < BYTES {
-        bytes[i] = byte_at(s, i);
-        i += 1;
-    }
+    let bytes = array::from_fn(|i| byte_at(s, i));
     Text {
-        bytes: bytes,
+        bytes,
         length: s.len() as u64,
     }
 }
@@ -158,9 +153,5 @@ fn put_bytes(out: &mut [u8], bytes: [u8; 80])
     requires { 80 ≤ length out.old }
     ensures { Put out.old 0 bytes out.new }
 {
-    let mut i: usize = 0;
-    while i < BYTES {
-        out[i] = bytes[i];
-        i += 1;
-    }
+    out[..BYTES].copy_from_slice(&bytes);
 }

@@ -39,15 +39,13 @@ pub fn trial(table: &[u64], chain: &[u64], gauge: u64, case: u64, out: &mut [u64
     }
     let t = words::table_at(table, 0);
     let s = words::chain_at(chain, 0);
-    let tried = trials::trial(t, s, Gauge(gauge), Case(case));
-    let verdict = tried.verdict;
-    let n = words::verdict_number(verdict);
-    if n != 0 {
-        return n;
+    match trials::trial(t, s, Gauge(gauge), Case(case)) {
+        Err(why) => why.number(),
+        Ok(p) => {
+            put_proposal(out, p);
+            0
+        }
     }
-    let p = tried.proposal;
-    put_proposal(out, p);
-    0
 }
 
 // Puts into `out` the table with the entry flipped that a proposal names.
@@ -65,15 +63,13 @@ pub fn commit(proposal: &[u64], table: &[u64], out: &mut [u64]) -> u64
     }
     let p = proposal_at(proposal);
     let t = words::table_at(table, 0);
-    let made = trials::commit(p, t);
-    let verdict = made.verdict;
-    let n = words::verdict_number(verdict);
-    if n != 0 {
-        return n;
+    match trials::commit(p, t) {
+        Err(why) => why.number(),
+        Ok(new) => {
+            words::put_table(out, 0, new);
+            0
+        }
     }
-    let new = made.table;
-    words::put_table(out, 0, new);
-    0
 }
 
 // The proposal in the words of a slice.

@@ -43,8 +43,7 @@ use Rattle.search.proofs.Within.{within-lowest}
 use Rattle.count.specs.Counting.{CountAnswer, refused, spent, counted, most_calls, due_answer, Counts}
 use Rattle.count.specs.private.Below.{calls_in, ladders_in, tallied}
 use Rattle.count.specs.declared.Tally.{Tally}
-use Rattle.count.specs.declared.Below.{Below}
-use Rattle.count.specs.declared.Below.TheVariants.{Whole, Spent}
+use Rattle.std.specs.Prelude.{Option, Some, None}
 use Rattle.count.proofs.Unpicked.{ones-lowest}
 use Rattle.count.proofs.Turns.{Says, whole_says, spent_says}
 use Rattle.count.proofs.Nodes.{nodes}
@@ -174,20 +173,20 @@ module _ (t : Table) (k : List ℕ) (b : ℕ) (g : Given t k) where
     ladders-are = rw all-unpicked (ladders_leaves rows rows_ok (length rows) [] first (2 ^ 64 - 1) fresh)
 
     -- what the step says, begun with these unpicked on this array
-    abbrev stepped : ℕ → List ℕ → Below
+    abbrev stepped : ℕ → List ℕ → Option Tally
     stepped unpicked x =
         tallied b (ladders_in (ones unpicked) (within unpicked x) (2 ^ 64 - 1)) (calls_in (ones unpicked) (within unpicked x) (2 ^ 64 - 1))
 
-    module _ (unpicked : ℕ) (x : List ℕ) (y : Below) (s : unpicked ≡ lowest n) (i : x ≡ array) (e : y ≡ stepped unpicked x) where
+    module _ (unpicked : ℕ) (x : List ℕ) (y : Option Tally) (s : unpicked ≡ lowest n) (i : x ≡ array) (e : y ≡ stepped unpicked x) where
       told : y ≡ tallied b ladders sequences
       told = rw (s, i) at e ∙ ap₂ (tallied b) ladders-are calls_are
 
-      pub counts_whole : (w : Tally) → y ≡ Whole w → Counts t k b (counted w.ladders w.calls)
+      pub counts_whole : (w : Tally) → y ≡ Some w → Counts t k b (counted w.ladders w.calls)
       counts_whole w d =
           let z : Says b ladders sequences w = whole_says b ladders sequences y told w d in
           counts_by (counted w.ladders w.calls) (ap₂ counted z.ladders z.calls ∙ sym (due_counted b ladders sequences small z.fits))
 
-      pub counts-spent : y ≡ Spent → Counts t k b (spent b)
+      pub counts-spent : y ≡ None → Counts t k b (spent b)
       counts-spent d = counts_by (spent b) (sym (due_spent b ladders sequences small (spent_says b ladders sequences y told d)))
 
 -- ---- an answer for every table of 64 rows, every 64 numbers and every budget

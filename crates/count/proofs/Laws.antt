@@ -32,7 +32,10 @@ use Rattle.lists.proofs.PreferredSides.{prefer_fair, preferred_list}
 use Rattle.lists.proofs.Demand.{run_lists_all}
 use Rattle.preference.specs.Preferences.{preferred_refusal, order_of}
 use Rattle.count.specs.declared.Count.{Count}
-use Rattle.count.specs.declared.Count.TheVariants.{Counted, Spent, Refused}
+use Rattle.count.specs.declared.Count.TheVariants.{Counted, Spent}
+use Rattle.count.specs.declared.Tally.{Tally}
+use Rattle.std.specs.Prelude.{Result, Ok, Err}
+use Rattle.refusals.specs.declared.Refusal.{Refusal}
 use Rattle.count.specs.Counting.{CountAnswer, refused, spent, counted, count_says, ReachedPicks, PickSequences, most_calls, due_answer, CountsBy, Counts}
 use Rattle.count.proofs.Nodes.{nodes, leaves-nodes}
 use Rattle.count.proofs.Reached.{reached_in_order, pick_sequences}
@@ -40,17 +43,17 @@ use Rattle.count.proofs.Answers.{due_large, due_counted, due_spent, nodes_some}
 
 -- ---- one answer
 -- no two answers read alike
-pub count_answer_injective : (x y : Count) → count_says x ≡ count_says y → x ≡ y
-count_answer_injective (Counted x) (Counted y) e =
-    ap Counted (ap₂ (λ (l c : ℕ). record { ladders = l; calls = c }) (cc) (cc))
-count_answer_injective (Counted x) (Spent n) e = clash cc
-count_answer_injective (Counted x) (Refused y) e = clash cc
-count_answer_injective (Spent m) (Counted y) e = clash cc
-count_answer_injective (Spent m) (Spent n) e = ap Spent (cc)
-count_answer_injective (Spent m) (Refused y) e = clash cc
-count_answer_injective (Refused x) (Counted y) e = clash cc
-count_answer_injective (Refused x) (Spent n) e = clash cc
-count_answer_injective (Refused x) (Refused y) e = ap Refused (number_injective x y (cc))
+pub count_answer_injective : (x y : Result Count Refusal) → count_says x ≡ count_says y → x ≡ y
+count_answer_injective (Ok (Counted x)) (Ok (Counted y)) e =
+    ap (λ (t : Tally). Ok (Counted t)) (ap₂ (λ (l c : ℕ). record { ladders = l; calls = c }) (cc) (cc))
+count_answer_injective (Ok (Counted x)) (Ok (Spent n)) e = clash cc
+count_answer_injective (Ok (Counted x)) (Err y) e = clash cc
+count_answer_injective (Ok (Spent m)) (Ok (Counted y)) e = clash cc
+count_answer_injective (Ok (Spent m)) (Ok (Spent n)) e = ap (λ (c : ℕ). Ok (Spent c)) (cc)
+count_answer_injective (Ok (Spent m)) (Err y) e = clash cc
+count_answer_injective (Err x) (Ok (Counted y)) e = clash cc
+count_answer_injective (Err x) (Ok (Spent n)) e = clash cc
+count_answer_injective (Err x) (Err y) e = ap Err (number_injective x y (cc))
 
 -- ---- the sequences: "each pick sequence the rules can reach, the empty one included"
 pub sequence_reached : (s : Side) (o p : List ℕ) → ReachedPicks s o p → (n : ℕ) × ((after_by (move_on s o) n fresh).picks ≡ p)

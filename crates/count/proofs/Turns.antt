@@ -22,17 +22,16 @@ use Rattle.table.specs.Pairs.{row}
 use Rattle.search.specs.Finding.{FirstOf, within}
 use Rattle.count.specs.private.Below.{sum_below, is_candidate, calls_in, ladders_in, tallied}
 use Rattle.count.specs.declared.Tally.{Tally}
-use Rattle.count.specs.declared.Below.{Below}
-use Rattle.count.specs.declared.Below.TheVariants.{Whole, Spent}
+use Rattle.std.specs.Prelude.{Option, Some, None}
 use Rattle.count.proofs.Sums.{sum_in, sum_skip, sum_none, sum_mono, sum_le}
 use Rattle.count.proofs.Unpicked.{some_unpicked, one_fewer, rows_fewer, own_row}
 
 -- ---- answers
-tallied_whole : (b l c : ℕ) → c ≤ b → Whole (record { ladders = l; calls = c }) ≡ tallied b l c
+tallied_whole : (b l c : ℕ) → c ≤ b → Some (record { ladders = l; calls = c }) ≡ tallied b l c
 unfolding tallied
 tallied_whole b l c h = rw (le-leb c b h)
 
-tallied_spent : (b l c : ℕ) → b < c → Spent ≡ tallied b l c
+tallied_spent : (b l c : ℕ) → b < c → None ≡ tallied b l c
 unfolding tallied
 tallied_spent b l c h = rw (lt-leb c b h)
 
@@ -42,35 +41,35 @@ pub record Says (b l c : ℕ) (t : Tally) : Type 0 where
   pub ladders : t.ladders ≡ l
   pub calls : t.calls ≡ c
 
-abbrev tally_of : Tally → Below → Tally
-tally_of d (Whole t) = t
-tally_of d Spent = d
+abbrev tally_of : Tally → Option Tally → Tally
+tally_of d (Some t) = t
+tally_of d None = d
 
-module _ (b l c : ℕ) (x : Below) (e : x ≡ tallied b l c) where
-  abbrev by : Bool → Below
-  by v = cond v (Whole (record { ladders = l; calls = c })) Spent
+module _ (b l c : ℕ) (x : Option Tally) (e : x ≡ tallied b l c) where
+  abbrev by : Bool → Option Tally
+  by v = cond v (Some (record { ladders = l; calls = c })) None
 
   told : (v : Bool) → leb c b ≡ v → x ≡ by v
   unfolding tallied
   told v w = e ∙ ap by w
 
-  pub whole_says : (t : Tally) → x ≡ Whole t → Says b l c t
+  pub whole_says : (t : Tally) → x ≡ Some t → Says b l c t
   whole_says t d = go (leb c b) refl
     where
       go : (v : Bool) → leb c b ≡ v → Says b l c t
       go true w =
-          let k : Whole t ≡ by true = sym d ∙ told true w in
-          record { fits = leb-true c b w; ladders = ap (λ (y : Below). (tally_of t y).ladders) k; calls = ap (λ (y : Below). (tally_of t y).calls) k }
+          let k : Some t ≡ by true = sym d ∙ told true w in
+          record { fits = leb-true c b w; ladders = ap (λ (y : Option Tally). (tally_of t y).ladders) k; calls = ap (λ (y : Option Tally). (tally_of t y).calls) k }
       go false w =
-          let k : Whole t ≡ Spent = sym d ∙ told false w in
+          let k : Some t ≡ None = sym d ∙ told false w in
           clash cc
 
-  pub spent_says : x ≡ Spent → b < c
+  pub spent_says : x ≡ None → b < c
   spent_says d = go (leb c b) refl
     where
       go : (v : Bool) → leb c b ≡ v → b < c
       go true w =
-          let k : Spent ≡ by true = sym d ∙ told true w in
+          let k : None ≡ by true = sym d ∙ told true w in
           clash cc
       go false w = leb-false c b w
 
@@ -184,7 +183,7 @@ high c from g f = go (dec_lt g 64)
 
 module _ (rows : List ℕ) (s left b g : ℕ) (f : FirstOf (can rows s left) 0 64 g) (some : 0 < b) where
   -- the first search finds none: a leaf
-  pub leaf : 64 ≤ g → Whole (record { ladders = 1; calls = 1 }) ≡ tallied b (all_ladders rows s left) (all_calls rows s left)
+  pub leaf : 64 ≤ g → Some (record { ladders = 1; calls = 1 }) ≡ tallied b (all_ladders rows s left) (all_calls rows s left)
   leaf h =
       tallied_whole b 1 1 some
       ∙ ap₂ (tallied b) (sym (ladders_none (within s rows) left (ones s) none)) (sym (calls_none (within s rows) left (ones s) none))
@@ -209,7 +208,7 @@ module _ (rows : List ℕ) (s left b g : ℕ) (f : FirstOf (can rows s left) 0 6
 
 module _ {rows : List ℕ} {s left b ladders calls g : ℕ} (t : Turn rows s left b ladders calls g) where
   -- past the last: the whole count
-  pub turn_last : 64 ≤ g → Whole (record { ladders = ladders; calls = calls }) ≡ tallied b (all_ladders rows s left) (all_calls rows s left)
+  pub turn_last : 64 ≤ g → Some (record { ladders = ladders; calls = calls }) ≡ tallied b (all_ladders rows s left) (all_calls rows s left)
   turn_last h =
       let e : g ≡ 64 = omega (arith, t.place) in
       tallied_whole b ladders calls t.most
@@ -226,7 +225,7 @@ module _ {rows : List ℕ} {s left b ladders calls g : ℕ} (t : Turn rows s lef
     among = omega (arith, t.calls_are, t.all_calls_is, upto (calls_of rows s left), sum_mono (can rows s left) (calls_of rows s left) (suc g) 64 l)
 
     -- the budget is used up and g is still to come
-    pub turn-full : calls ≡ b → Spent ≡ tallied b (all_ladders rows s left) (all_calls rows s left)
+    pub turn-full : calls ≡ b → None ≡ tallied b (all_ladders rows s left) (all_calls rows s left)
     turn-full e = tallied_spent b (all_ladders rows s left) (all_calls rows s left) (omega (arith, among, some_call rows s left g))
 
     -- one gauge fewer is unpicked
@@ -238,19 +237,19 @@ module _ {rows : List ℕ} {s left b ladders calls g : ℕ} (t : Turn rows s lef
       turn-falls = omega (arith, fewer)
 
       -- the count below g came back
-      module _ {x : Below} (e : x ≡ tallied (b - calls) (all_ladders rows r (bit_and (get_or rows g 0) left)) (all_calls rows r (bit_and (get_or rows g 0) left))) where
+      module _ {x : Option Tally} (e : x ≡ tallied (b - calls) (all_ladders rows r (bit_and (get_or rows g 0) left)) (all_calls rows r (bit_and (get_or rows g 0) left))) where
         below : x ≡ tallied (b - calls) (ladders_of rows s left g) (calls_of rows s left g)
         unfolding meet
         below =
             let k : ones r ≡ ones s - 1 = omega (arith, fewer) in
             e ∙ rw (k, rows_fewer rows s left g l (t.here l) r w, own_row rows s left g l (t.here l))
 
-        pub turn-spent : x ≡ Spent → Spent ≡ tallied b (all_ladders rows s left) (all_calls rows s left)
+        pub turn-spent : x ≡ None → None ≡ tallied b (all_ladders rows s left) (all_calls rows s left)
         turn-spent d =
             tallied_spent b (all_ladders rows s left) (all_calls rows s left)
             (omega (arith, among, spent_says (b - calls) (ladders_of rows s left g) (calls_of rows s left g) x below d))
 
-        module _ {y : Tally} (d : x ≡ Whole y) where
+        module _ {y : Tally} (d : x ≡ Some y) where
           says : Says (b - calls) (ladders_of rows s left g) (calls_of rows s left g) y
           says = whole_says (b - calls) (ladders_of rows s left g) (calls_of rows s left g) x below y d
 

@@ -3,17 +3,18 @@
 -- sequences than the budget, with the budget as the calls and no count"), under a preference (R-12: "a count .. now take a preference"). The list is
 -- the gauge list under it, `PreferredList` of crate `lists`, which looks at no run. That `Counts` leaves one answer for every table, preference and
 -- budget is `counts_some` in proofs/Answers.antt and `counts_only` in proofs/Laws.antt.
-use Rattle.std.specs.Prelude.{◌≡◌, ◌↔◌, ◌≢◌, cond, ℕ, ◌<◌, leb, ltb, length}
+use Rattle.std.specs.Prelude.{◌≡◌, ◌↔◌, ◌≢◌, cond, ℕ, ◌<◌, leb, ltb, length, Result, Ok, Err}
 use mathlib.Core.List.{List, Memᴰ}
 use Rattle.table.specs.declared.Table.{Table}
 use Rattle.refusals.specs.Answers.{number}
+use Rattle.refusals.specs.declared.Refusal.{Refusal}
 use Rattle.rules.specs.Sequences.{Sorted}
 use Rattle.rules.specs.Machine.{Phase, at}
 use Rattle.lists.specs.Lists.{Side, gauge_side, PreferredList}
 use Rattle.lists.specs.OnTable.{ReachedOn}
 use Rattle.preference.specs.Preferences.{preferred_refusal, order_of}
 use Rattle.count.specs.declared.Count.{Count}
-use Rattle.count.specs.declared.Count.TheVariants.{Counted, Spent, Refused}
+use Rattle.count.specs.declared.Count.TheVariants.{Counted, Spent}
 
 -- 02's answers: the number of a refusal; spent, with the calls; the count of ladders, with the calls
 pub data CountAnswer : Type 0 where
@@ -22,10 +23,10 @@ pub data CountAnswer : Type 0 where
   counted : ℕ → ℕ → CountAnswer
 
 -- how the code's answer reads
-abbrev pub count_says : Count → CountAnswer
-count_says (Counted x) = counted x.ladders x.calls
-count_says (Spent calls) = spent calls
-count_says (Refused x) = refused (number x)
+abbrev pub count_says : Result Count Refusal → CountAnswer
+count_says (Ok (Counted x)) = counted x.ladders x.calls
+count_says (Ok (Spent calls)) = spent calls
+count_says (Err x) = refused (number x)
 
 -- p is the picks of some state of the side s, under the preference o, that some number of moves, 0 included, from a fresh start leads to
 pub record ReachedPicks (s : Side) (o p : List ℕ) : Type 0 where

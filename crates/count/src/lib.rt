@@ -11,7 +11,7 @@ ghost use Rattle.count.specs.private.Below.{below_all};
 
 use preference;
 use preference::GaugeOrder;
-use refusals::{Refusal, Verdict};
+use refusals::Refusal;
 use search;
 use sets;
 use table::Table;
@@ -37,70 +37,53 @@ pub struct Tally {
 pub enum Count {
     Counted(Tally),
     Spent(u64),
-    Refused(Refusal),
-}
-
-// The count below one pick sequence, or that the budget was used up there.
-#[derive(Clone, Copy)]
-enum Below {
-    Whole(Tally),
-    Spent,
 }
 
 // How many ladders `t` has, by at most `budget` calls that go by an order of its gauges.
-pub fn count_ladders(t: Table, order: GaugeOrder, budget: u64) -> Count
-    ensures { Counts t order.0 budget (count_says result) }
+pub fn count_ladders(t: Table, order: GaugeOrder, budget: u64) -> Result<Count, Refusal>
+    ensures { Counts t order.numbers budget (count_says result) }
 {
-    let numbers = order.0;
-    let checked = preference::check(t, t.gauges, numbers);
-    if let Verdict::Refused(why) = checked {
-        return Count::Refused(why);
-    }
+    let numbers = order.numbers;
+    preference::check(t, t.gauges, numbers)?;
     if MOST_CALLS < budget {
-        return Count::Refused(Refusal::BudgetTooLarge);
+        return Err(Refusal::BudgetTooLarge);
     }
     if budget == 0 {
-        return Count::Spent(budget);
+        return Ok(Count::Spent(budget));
     }
     let given = t.rows;
     let rows = preference::gather(&given, &numbers, t.gauges as usize);
-    let below = count_below(&rows, sets::lowest(t.gauges), ALL, budget);
-    match below {
-        Below::Whole(tally) => Count::Counted(tally),
-        Below::Spent => Count::Spent(budget),
+    match count_below(&rows, sets::lowest(t.gauges), ALL, budget) {
+        Some(tally) => Ok(Count::Counted(tally)),
+        None => Ok(Count::Spent(budget)),
     }
 }
 
 // The count below a pick sequence, itself included: the call for that sequence, and one for each candidate after it. `unpicked` is the set
-// of the gauges not yet picked, of which each call has one fewer, and `left` the left cases.
-fn count_below(rows: &[u64; 64], unpicked: u64, left: u64, budget: u64) -> Below
+// of the gauges not yet picked, of which each call has one fewer, and `left` the left cases. None where the budget was used up there.
+fn count_below(rows: &[u64; 64], unpicked: u64, left: u64, budget: u64) -> Option<Tally>
     requires { 0 < budget }
     ensures { result ≡ below_all budget (within unpicked rows.now) (ones unpicked) left }
 {
     let mut g = search::next_candidate_of(rows, unpicked, left, 0);
     if PLACES <= g {
-        return Below::Whole(Tally {
+        return Some(Tally {
             ladders: 1,
             calls: 1,
         });
     }
     let mut ladders: u64 = 0;
     let mut calls: u64 = 1;
+    // by hand: the next place is searched for, and not counted
     while g < PLACES {
         if calls == budget {
-            return Below::Spent;
+            return None;
         }
         let fewer = sets::without(unpicked, g as u64);
-        let below = count_below(rows, fewer, rows[g] & left, budget - calls);
-        let Below::Whole(tally) = below else {
-            return Below::Spent;
-        };
+        let tally = count_below(rows, fewer, rows[g] & left, budget - calls)?;
         ladders += tally.ladders;
         calls += tally.calls;
         g = search::next_candidate_of(rows, unpicked, left, g + 1);
     }
-    Below::Whole(Tally {
-        ladders: ladders,
-        calls: calls,
-    })
+    Some(Tally { ladders, calls })
 }

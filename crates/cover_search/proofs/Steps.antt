@@ -3,14 +3,12 @@
 --
 -- In order: what an answer says (`told_spent`, `told_nothing`, `told_cover`); one uncovered set (`left_empty`,
 -- `none_allowed`, `first-pair`); one next ladder (`ladders_over`, `ladder-skipped`, `none_left`, `ladder-spent`,
--- `ladder-covers`, `ladder-nothing`); the numbers k (`Deepening` and its laws); the measure of the two functions
--- (`falls_to_next`, `falls_on`, `falls_to_left`).
+-- `ladder-covers`, `ladder-nothing`); the numbers k (`Deepening` and its laws).
 use mathlib.Core.Path.{◌≡◌, refl, sym, ap, ap₂, ◌∙◌, subst}
 use mathlib.Core.Bool.{Bool, true, false, not}
 use mathlib.Core.Option.{none, some}
 use mathlib.Core.List.{List, [], ◌∷◌}
-use Prim.Native.Nat.{ℕ, zero, suc, ◌+◌, ◌-◌, ◌*◌, ◌^◌, ◌≤◌, ◌<◌}
-use native.Mathlib.Nat.{suc-mul}
+use Prim.Native.Nat.{ℕ, suc, ◌+◌, ◌-◌, ◌^◌, ◌≤◌, ◌<◌}
 use native.Mathlib.Omega.{arith}
 use lib.Dec.{T}
 use lib.ListN.{length, get_or, drop, set, drop_of_length-le}
@@ -183,9 +181,6 @@ module _ (ls : List ℕ) (left b : ℕ) where
     pub same : spend b (up_to ls left 0 8) ≡ spend rest (up_to ls left k (8 - k))
     pub blank : cover ≡ no_boards
 
-  pub deepening_start : Deepening 0 b no_boards
-  deepening_start = record { few = omega arith; same = refl; blank = refl }
-
   module _ (k rest : ℕ) (cover : List ℕ) (d : Deepening k rest cover) (r : Search) (m : List ℕ)
       (f : Finds 0 (spend rest (search bit ls k (places left))) cover r m) where
     from-blank : Finds 0 (spend rest (search bit ls k (places left))) no_boards r m
@@ -233,18 +228,3 @@ module _ (ls : List ℕ) (left b : ℕ) where
       deepening-last k rest cover d r m (subst (λ (j : ℕ). Finds 0 (spend rest (search bit ls j (places left))) cover r m) e f) l
 
 -- ---- the measure: k * (n + 2) for an uncovered set; for a next ladder as much, the ladders still to come, and one
-module _ (n : ℕ) where
-  pub falls_to_next : (k : ℕ) → ¬ (k ≡ 0) → (k - 1) * (n + 2) + (n - 0 + 1) < k * (n + 2)
-  falls_to_next zero nz = absurd (nz refl)
-  falls_to_next (suc k) nz =
-      let e : suc k - 1 ≡ k = omega arith in
-      rw (e, suc-mul k (n + 2)) (less (k * (n + 2)))
-    where
-      less : (x : ℕ) → x + (n - 0 + 1) < x + (n + 2)
-      less x = omega arith
-
-  pub falls_on : (x i : ℕ) → i < n → x + (n - (i + 1) + 1) < x + (n - i + 1)
-  falls_on x i l = omega arith
-
-  pub falls_to_left : (x i : ℕ) → x < x + (n - i + 1)
-  falls_to_left x i = omega arith

@@ -37,9 +37,8 @@ pub fn least_cover(ladders: &[u64], left: u64, budget: u64) -> Found
     ensures { Finds 0 (spend budget (up_to ladders.now left 0 8)) no_boards result.search result.cover }
 {
     let mut cover = [0u64; 8];
-    let mut k: usize = 0;
     let mut rest = budget;
-    while k < MOST {
+    for k in 0..MOST {
         let found = cover_left(ladders, left, k, 0, &mut cover, rest);
         match found {
             Search::Cover(_, _) => {
@@ -48,10 +47,7 @@ pub fn least_cover(ladders: &[u64], left: u64, budget: u64) -> Found
                     cover: cover,
                 };
             }
-            Search::Nothing(more) => {
-                rest = more;
-                k += 1;
-            }
+            Search::Nothing(more) => rest = more,
             Search::Spent => {
                 return Found {
                     search: found,

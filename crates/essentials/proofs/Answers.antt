@@ -1,9 +1,10 @@
 -- What the entries answer: the check of a pair named, the conflicts of a pair, whether it is essential, and a refusal, by the facts that the code
 -- has; and that sets of pairs are answered in one way (`pairs_unique`, so `conflicts_unique`, `essential_unique`; `judged_unique` is in crate `judge`).
 -- The essential pairs of all rows are in Outdoing.antt (`finding_all`).
+use Rattle.std.specs.Prelude.{Result}
 use mathlib.Core.Path.{◌≡◌, refl, sym, ap, ap₂, ◌∙◌, subst}
 use mathlib.Core.Logic.{◌↔◌}
-use mathlib.Core.Bool.{Bool, true, false, cond}
+use mathlib.Core.Bool.{Bool, true, false, not, cond}
 use mathlib.Core.List.{List}
 use Prim.Native.Nat.{ℕ, suc, ◌-◌, ◌≤◌, ◌<◌}
 use native.Mathlib.Decide.{ℕ_discrete, dec_lt}
@@ -11,24 +12,23 @@ use native.Mathlib.Omega.{arith}
 use lib.Dec.{T}
 use lib.ListN.{length, length-replicate}
 use borrow.Author.Tests.{ne_eqb}
+use Rattle.std.specs.Prelude.{Result, Ok, Err, IsOk}
 use Rattle.basics.proofs.Clash.{clash}
 use Rattle.sets.specs.Sets.{bit}
 use Rattle.sets.proofs.Tests.{is_true}
 use Rattle.sets.proofs.OnePlace.{none_in}
 use Rattle.table.specs.declared.Table.{Table}
 use Rattle.refusals.specs.declared.Refusal.{Refusal}
-use Rattle.refusals.specs.declared.Verdict.{Verdict}
 use Rattle.table.specs.Pairs.{Has}
 use Rattle.table.specs.Tables.{Legal, table_rows, table_refusal, no_rows}
 use Rattle.refusals.specs.Answers.{number, Answer, refused}
 use Rattle.table.proofs.Legality.{legal_of, legal_cases}
 use Rattle.table.proofs.Places.{same_pairs_rows}
-use Rattle.refusals.proofs.Answering.{number_pos, verdict_injective}
+use Rattle.refusals.proofs.Answering.{number_pos, number_injective}
 use Rattle.judge.specs.Judging.{Judged}
-use Rattle.judge.specs.declared.Judgement.TheVariants.{Yes, No}
 use Rattle.judge.proofs.Verdicts.{judged_yes, judged_no}
 use Rattle.conflicts.specs.Conflicts.{Conflict, StrictlyContains, Essential}
-use Rattle.essentials.specs.declared.FoundPairs.{FoundPairs}
+use Rattle.essentials.specs.declared.PairSet.{PairSet}
 use Rattle.conflicts.specs.Tests.{has_pair}
 use Rattle.conflicts.proofs.Testing.{has_test}
 use Rattle.essentials.specs.Answers.{pair_refusal, found_pairs, GivesPairs, GivesConflicts, GivesEssentials}
@@ -127,7 +127,7 @@ module _ (t : Table) (g c : ℕ) (size : length t.rows ≡ 64) (f : PairFacts t 
       placed_at h d v = rw (up_g, up_c) v
 
   module _ (b : Bool) (out : (b ≡ true) ↔ Outdone t.rows (g - 1) (c - 1)) where
-    pub essential-yes : b ≡ false → Judged (pair_refusal t g c) (Essential (table_rows t) g c) Yes
+    essential-yes : b ≡ false → Judged (pair_refusal t g c) (Essential (table_rows t) g c) (Ok true)
     essential-yes e = judged_yes (pair_refusal t g c) (sym f.passes) (essential_same same g c (record { pair = f.pair; none = none }))
       where
         none : (h d : ℕ) → Has t.rows h d → StrictlyContains t.rows h d g c → ⊥
@@ -135,11 +135,15 @@ module _ (t : Table) (g c : ℕ) (size : length t.rows ≡ 64) (f : PairFacts t 
             let y : b ≡ true = out.1 (h, d, q, rw (up_g, up_c) x) in
             clash cc
 
-    pub essential-no : b ≡ true → Judged (pair_refusal t g c) (Essential (table_rows t) g c) No
+    essential-no : b ≡ true → Judged (pair_refusal t g c) (Essential (table_rows t) g c) (Ok false)
     essential-no e = judged_no (pair_refusal t g c) (sym f.passes) (λ v. go (essential_same (same_back same) g c v) (out.0 e))
       where
         go : Essential t.rows g c → Outdone t.rows (g - 1) (c - 1) → ⊥
         go v x = v.none x.0 x.1 x.2 (rw (up_g, up_c) at x.3)
+
+  pub essential-judged : (b : Bool) → (b ≡ true) ↔ Outdone t.rows (g - 1) (c - 1) → Judged (pair_refusal t g c) (Essential (table_rows t) g c) (Ok (not b))
+  essential-judged true out = essential-no true out refl
+  essential-judged false out = essential-yes false out refl
 
 -- a refusal, with no pairs
 pub gives_refused : (n : ℕ) (P : ℕ → ℕ → Type 0) (x : Refusal) (a : Answer (List ℕ)) → number x ≡ n → a ≡ refused x no_rows → GivesPairs n P a
@@ -169,8 +173,14 @@ conflicts_unique t g c = pairs_unique _ _
 pub essential_unique : (t : Table) (a b : Answer (List ℕ)) → GivesEssentials t a → GivesEssentials t b → a ≡ b
 essential_unique t = pairs_unique _ _
 
+-- an answer without a refusal has pairs
+pub found_ok : (r : Result PairSet Refusal) → (found_pairs r).refusal ≡ 0 → IsOk r
+found_ok (Ok a) e = refl
+found_ok (Err x) e = absurd (omega (arith, number_pos x))
+
 -- no two answers of the code read alike
-pub found_pairs_injective : (x y : FoundPairs) → found_pairs x ≡ found_pairs y → x ≡ y
-found_pairs_injective x y e =
-    ap₂ (λ (v : Verdict) (r : List ℕ). record { verdict = v; pairs = record { rows = r } })
-    (verdict_injective x.verdict y.verdict (ap (λ (a : Answer (List ℕ)). a.refusal) e)) (ap (λ (a : Answer (List ℕ)). a.value) e)
+pub found_pairs_injective : (x y : Result PairSet Refusal) → found_pairs x ≡ found_pairs y → x ≡ y
+found_pairs_injective (Ok a) (Ok b) e = ap (λ (r : List ℕ). Ok (record { rows = r })) (ap (λ (z : Answer (List ℕ)). z.value) e)
+found_pairs_injective (Ok a) (Err y) e = absurd (omega (arith, ap (λ (z : Answer (List ℕ)). z.refusal) e, number_pos y))
+found_pairs_injective (Err x) (Ok b) e = absurd (omega (arith, ap (λ (z : Answer (List ℕ)). z.refusal) e, number_pos x))
+found_pairs_injective (Err x) (Err y) e = ap Err (number_injective x y (ap (λ (z : Answer (List ℕ)). z.refusal) e))

@@ -29,7 +29,7 @@ use Rattle.essentials.specs.Answers.{GivesEssentials}
 use Rattle.essentials.proofs.Comparing.{includes_short}
 use Rattle.essentials.proofs.RowLaws.{bit-without}
 use Rattle.conflicts.proofs.SamePairs.{same_back, essential_same, table_pairs}
-use Rattle.essentials.proofs.Storing.{Passed, passed_none, passed_more, passed_all, next_in, rest_before}
+use Rattle.essentials.proofs.Storing.{Passed, passed_more, passed_all, next_in, rest_before}
 
 -- an answer of the code, where the statement does and does not hold
 told_yes : {P : Type 0} → P → (true ≡ true) ↔ P
@@ -116,8 +116,6 @@ module _ (r : List ℕ) (n : ℕ) (store : List ℕ) (ready : Ready r n store) (
             go d u (inr x) v = passed_all Apart all rest p z d (rw (a, bit-without (row r h) U d) (and_i (bit (row r h) d) (not (bit U d)) u x)) v
 
   -- ---- the pairs of all rows
-  pub row_found : (h : ℕ) (b : Bool) → (b ≡ true) ↔ OutdoneIn r g k h → b ≡ true → (true ≡ true) ↔ Outdone r g k
-  row_found h b f e = let x = f.0 e in told_yes (suc h, x.0, x.1, x.2)
 
   pub row_passed : (h : ℕ) (b : Bool) → ((j : ℕ) → j < h → OutdoneIn r g k j → ⊥) → (b ≡ true) ↔ OutdoneIn r g k h → b ≡ false
       → (j : ℕ) → j < h + 1 → OutdoneIn r g k j → ⊥
@@ -146,10 +144,6 @@ pub record Keeping (r : List ℕ) (g kept rest : ℕ) : Type 0 where
   pub passed : Passed (λ (k : ℕ). T (bit kept k) ↔ Essential r (suc g) (suc k)) (row r g) rest
   pub inside : (k : ℕ) → T (bit kept k) → T (bit (row r g) k)
   pub waiting : (k : ℕ) → T (bit rest k) → T (bit kept k)
-
-pub keeping_none : (r : List ℕ) (g : ℕ) → Keeping r g (row r g) (row r g)
-keeping_none r g =
-    record { passed = passed_none (λ (k : ℕ). T (bit (row r g) k) ↔ Essential r (suc g) (suc k)) (row r g); inside = λ k t. t; waiting = λ k t. t }
 
 module _ (r : List ℕ) (g kept rest after k : ℕ) (b : Bool) (s : Keeping r g kept rest) (e : k ≡ count_trailing_zeros 64 rest) (l : Lowest rest k) (x : Rest rest after)
     (f : (b ≡ true) ↔ Outdone r g k) where

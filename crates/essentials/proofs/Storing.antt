@@ -7,8 +7,7 @@ use native.Mathlib.Decide.{ℕ_discrete}
 use native.Mathlib.Omega.{arith}
 use lib.Dec.{T, eqb}
 use lib.Count.{count_trailing_zeros}
-use lib.ListN.{length, get_or, set, length-set}
-use lib.Seq.{get_or-set_same, get_or-set_other}
+use lib.ListN.{get_or}
 use borrow.Author.Tests.{ne_eqb}
 use Rattle.sets.specs.Sets.{bit}
 use Rattle.sets.specs.First.{Lowest, Rest}
@@ -21,9 +20,6 @@ use Rattle.essentials.specs.private.Unions.{against, Stored}
 pub record Passed (P : ℕ → Type 0) (all rest : ℕ) : Type 0 where
   pub inside : (k : ℕ) → T (bit rest k) → T (bit all k)
   pub done : (k : ℕ) → T (bit all k) → bit rest k ≡ false → P k
-
-pub passed_none : (P : ℕ → Type 0) (all : ℕ) → Passed P all all
-passed_none P all = record { inside = λ k t. t; done = λ k t e. absurd (subst T e t) }
 
 -- the set after a turn: a place of it was there before, and one that was there and is not k still is
 pub rest_before : (rest after k : ℕ) → Rest rest after → T (bit after k) → T (bit rest k)
@@ -58,24 +54,6 @@ pub record Storing (r : List ℕ) (n i : ℕ) (store : List ℕ) (rest : ℕ) : 
   pub stored : Stored r n i store
   pub passed : Passed (λ (k : ℕ). k < 64 → get_or store (i * 64 + k) 0 ≡ against r (row r i) k n) (row r i) rest
 
-pub storing_none : (r : List ℕ) (n i : ℕ) (store : List ℕ) → Stored r n i store → Storing r n i store (row r i)
-storing_none r n i store s = record { stored = s; passed = passed_none (λ (k : ℕ). k < 64 → get_or store (i * 64 + k) 0 ≡ against r (row r i) k n) (row r i) }
-
-pub storing_more : (r : List ℕ) (n i : ℕ) (store : List ℕ) (rest after k v : ℕ) → Storing r n i store rest → i < 64 → k ≡ count_trailing_zeros 64 rest
-    → Lowest rest k → Rest rest after → v ≡ against r (row r i) k n → Storing r n i (set store (i * 64 + k) v) after
-storing_more r n i store rest after k v s h e l x d = record {
-  stored = record {
-    size = length-set store (i * 64 + k) v ∙ s.stored.size;
-    entry = λ j m y z t. get_or-set_other store (i * 64 + k) (j * 64 + m) v 0 (λ w. omega (arith, l.below)) ∙ s.stored.entry j m y z t;
-  };
-  passed = passed_more (Kept store) (Kept (set store (i * 64 + k) v)) (row r i) rest after k s.passed e x
-      (λ j z f y. get_or-set_other store (i * 64 + k) (i * 64 + j) v 0 (λ w. z (omega arith)) ∙ f y)
-      (λ y. get_or-set_same store (i * 64 + k) v 0 (omega (arith, s.stored.size)) ∙ d);
-}
-  where
-    Kept : List ℕ → ℕ → Type 0
-    Kept q = λ (k : ℕ). k < 64 → get_or q (i * 64 + k) 0 ≡ against r (row r i) k n
-
 pub storing_all : (r : List ℕ) (n i : ℕ) (store : List ℕ) (rest : ℕ) → Storing r n i store rest → rest ≡ 0 → Stored r n (i + 1) store
 storing_all r n i store rest s e = record { size = s.stored.size; entry = λ j k y z t. go j k y z t (ℕ_discrete j i) }
   where
@@ -84,6 +62,3 @@ storing_all r n i store rest s e = record { size = s.stored.size; entry = λ j k
         subst (λ (x : ℕ). T (bit (row r x) k) → get_or store (x * 64 + k) 0 ≡ against r (row r x) k n) (sym d)
         (λ u. passed_all (λ (k : ℕ). k < 64 → get_or store (i * 64 + k) 0 ≡ against r (row r i) k n) (row r i) rest s.passed e k u z) t
     go j k y z t (no d) = s.stored.entry j k (omega arith) z t
-
-pub stored_none : (r : List ℕ) (n : ℕ) (store : List ℕ) → length store ≡ 4096 → Stored r n 0 store
-stored_none r n store e = record { size = e; entry = λ i k l. absurd (omega arith) }

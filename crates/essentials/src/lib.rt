@@ -1,14 +1,14 @@
 // Conflicts and essential pairs of a table (02, R-2: rivals and deciding pairs): the conflicts of a pair, whether a
 // pair is essential, and all essential pairs at once. Any table and any numbers are taken; 10, 11 and then 19 are
-// refused, with blank values beside a refusal, and nothing is lent. Two pairs' conflicts are compared by one union of
+// refused, and nothing is lent. Two pairs' conflicts are compared by one union of
 // rows for each pair (specs/private/Unions.antt), kept in a store: at most 64 * 64 * 64 steps on sets for the store
 // and as many for a pair's comparisons; for all pairs at most 64 * 64 * 64 * 64 of a few operations each, and no more
 // than there are pairs with at least the same conflicts.
 #![tactic(auto)]
 
 ghost use Rattle.std.specs.Prelude.{◌≡◌, ◌↔◌, true, ◌+◌, ◌≤◌, ◌<◌};
-ghost use Rattle.table.specs.Tables.{table_rows, table_refusal, no_rows};
-ghost use Rattle.refusals.specs.Answers.{refused, verdict};
+ghost use Rattle.table.specs.Tables.{table_rows, table_refusal};
+ghost use Rattle.refusals.specs.Answers.{verdict};
 ghost use Rattle.judge.specs.Judging.{Judged};
 ghost use Rattle.conflicts.specs.Conflicts.{Essential};
 ghost use Rattle.conflicts.specs.Covers.{ConflictClaims};
@@ -16,114 +16,70 @@ ghost use Rattle.essentials.specs.Answers.{pair_refusal, found_pairs, GivesConfl
 ghost use Rattle.essentials.specs.private.Unions.{without, conflict_row, conflict_rows, joined, against, includes};
 ghost use Rattle.essentials.specs.private.Unions.{Stored, Ready, Placed, EssentialRow, OutdoneIn, Outdone};
 
-use judge::Judgement;
-use refusals::{Refusal, Verdict};
+use refusals::Refusal;
 use sets;
+use sets::Places;
 use table;
 use table::{Case, Gauge, Table};
 
 // A set of a table's pairs, by gauge rows; in general no chain.
-#[derive(Clone, Copy)]
+#[derive(Clone, Copy, Debug, PartialEq, Eq)]
 pub struct PairSet {
     pub rows: [u64; 64],
-}
-
-// The pairs that were asked for, or a refusal with no pairs.
-#[derive(Clone, Copy)]
-pub struct FoundPairs {
-    pub verdict: Verdict,
-    pub pairs: PairSet,
 }
 
 // The places of a set of cases.
 const PLACES: usize = 64;
 
 // The conflicts of the pair of gauge `g` and case `c`.
-pub fn conflicts_of(t: Table, g: Gauge, c: Case) -> FoundPairs
+pub fn conflicts_of(t: Table, g: Gauge, c: Case) -> Result<PairSet, Refusal>
     ensures gives_conflicts { GivesConflicts t g.0 c.0 (found_pairs result) }
     ensures claims { table_refusal t ≡ 0 → ConflictClaims (table_rows t) }
 {
-    let checked = check_pair(t, g, c);
-    if let Verdict::Refused(why) = checked {
-        return refuse(why);
-    }
+    check_pair(t, g, c)?;
     let outer = t.rows;
     let i = (g.0 - 1) as usize;
     let rows = conflict_rows(&outer, i, c.0 - 1);
-    let pairs = PairSet { rows: rows };
-    FoundPairs {
-        verdict: Verdict::Accepted,
-        pairs: pairs,
-    }
+    Ok(PairSet { rows })
 }
 
 // Whether the pair of gauge `g` and case `c` is essential.
-pub fn is_essential(t: Table, g: Gauge, c: Case) -> Judgement
+pub fn is_essential(t: Table, g: Gauge, c: Case) -> Result<bool, Refusal>
     ensures judged { Judged (pair_refusal t g.0 c.0) (Essential (table_rows t) g.0 c.0) result }
     ensures claims { table_refusal t ≡ 0 → ConflictClaims (table_rows t) }
 {
-    let checked = check_pair(t, g, c);
-    if let Verdict::Refused(why) = checked {
-        return Judgement::Refused(why);
-    }
+    check_pair(t, g, c)?;
     let rows = t.rows;
     let n = t.gauges as usize;
     let store = unions(&rows, n);
     let i = (g.0 - 1) as usize;
-    if outdone(&store, &rows, n, i, c.0 - 1) {
-        return Judgement::No;
-    }
-    Judgement::Yes
+    Ok(!outdone(&store, &rows, n, i, c.0 - 1))
 }
 
 // All essential pairs of a table.
-pub fn essential_rows(t: Table) -> FoundPairs
+pub fn essential_rows(t: Table) -> Result<PairSet, Refusal>
     ensures { GivesEssentials t (found_pairs result) }
 {
-    let checked = table::check_table(t);
-    if let Verdict::Refused(why) = checked {
-        return refuse(why);
-    }
+    table::check_table(t)?;
     let rows = t.rows;
     let n = t.gauges as usize;
     let store = unions(&rows, n);
     let mut found = [0u64; 64];
-    let mut i = 0;
-    while i < n {
+    for i in 0..n {
         found[i] = essential_row(&store, &rows, n, i);
-        i += 1;
     }
-    let pairs = PairSet { rows: found };
-    FoundPairs {
-        verdict: Verdict::Accepted,
-        pairs: pairs,
-    }
+    Ok(PairSet { rows: found })
 }
 
 // The check of a pair named, after its table: 10, 11, then 19.
-fn check_pair(t: Table, g: Gauge, c: Case) -> Verdict
-    ensures { verdict result ≡ pair_refusal t g.0 c.0 }
+fn check_pair(table: Table, g: Gauge, c: Case) -> Result<(), Refusal>
+    ensures { verdict result ≡ pair_refusal table g.0 c.0 }
 {
-    let checked = table::check_table(t);
-    if let Verdict::Refused(why) = checked {
-        return Verdict::Refused(why);
+    table::check_table(table)?;
+    if !table.has(g, c) {
+        return Err(Refusal::PairAbsent);
     }
-    if !t.has(g, c) {
-        return Verdict::Refused(Refusal::PairAbsent);
-    }
-    Verdict::Accepted
-}
-
-// A refusal, with no pairs.
-fn refuse(why: Refusal) -> FoundPairs
-    ensures { found_pairs result ≡ refused why no_rows }
-{
-    let rows = [0u64; 64];
-    let pairs = PairSet { rows: rows };
-    FoundPairs {
-        verdict: Verdict::Refused(why),
-        pairs: pairs,
-    }
+    Ok(())
 }
 
 // The conflicts of place `k` of row `g`, row by row.
@@ -133,10 +89,8 @@ fn conflict_rows(rows: &[u64; 64], g: usize, k: u64) -> [u64; 64]
 {
     let own = rows[g];
     let mut found = [0u64; 64];
-    let mut i = 0;
-    while i < PLACES {
+    for i in 0..PLACES {
         found[i] = conflict_row(rows[i], own, k);
-        i += 1;
     }
     found
 }
@@ -164,10 +118,8 @@ fn unions(rows: &[u64; 64], n: usize) -> [u64; 4096]
     ensures { Stored rows.now n n result }
 {
     let mut store = [0u64; 4096];
-    let mut i = 0;
-    while i < n {
+    for i in 0..n {
         store_row(&mut store, rows, n, i);
-        i += 1;
     }
     store
 }
@@ -178,10 +130,7 @@ fn store_row(store: &mut [u64; 4096], rows: &[u64; 64], n: usize, i: usize)
     ensures { Stored rows.now n (i + 1) store.new }
 {
     let own = rows[i];
-    let mut rest = own;
-    while rest != 0 {
-        let k = sets::first(rest);
-        rest = sets::rest(rest);
+    for k in Places(own) {
         store[i * 64 + k] = union_against(rows, n, own, k as u64);
     }
 }
@@ -192,10 +141,8 @@ fn union_against(rows: &[u64; 64], n: usize, own: u64, k: u64) -> u64
     ensures { result ≡ against rows.now own k n }
 {
     let mut seen: u64 = 0;
-    let mut i = 0;
-    while i < n {
+    for i in 0..n {
         seen = join_row(seen, rows[i], own, k);
-        i += 1;
     }
     seen
 }
@@ -220,10 +167,7 @@ fn essential_row(store: &[u64; 4096], rows: &[u64; 64], n: usize, g: usize) -> u
 {
     let own = rows[g];
     let mut kept = own;
-    let mut rest = own;
-    while rest != 0 {
-        let k = sets::first(rest);
-        rest = sets::rest(rest);
+    for k in Places(own) {
         if outdone(store, rows, n, g, k as u64) {
             kept = sets::without(kept, k as u64);
         }
@@ -236,12 +180,10 @@ fn outdone(store: &[u64; 4096], rows: &[u64; 64], n: usize, g: usize, k: u64) ->
     requires { Ready rows.now n store.now × Placed rows.now n g k }
     ensures { (result ≡ true) ↔ Outdone rows.now g k }
 {
-    let mut h = 0;
-    while h < n {
+    for h in 0..n {
         if outdone_in(store, rows, n, g, k, h) {
             return true;
         }
-        h += 1;
     }
     false
 }
@@ -258,10 +200,8 @@ fn outdone_in(store: &[u64; 4096], rows: &[u64; 64], n: usize, g: usize, k: u64,
     if !sets::subset(union & other, own) {
         return false;
     }
-    let mut rest = minus(other, union);
-    while rest != 0 {
-        let d = sets::first(rest);
-        rest = sets::rest(rest);
+    let places = minus(other, union);
+    for d in Places(places) {
         if !included(store[h * 64 + d], k, own, other) {
             return true;
         }

@@ -2,8 +2,10 @@
 -- `asks_pair`), and an answer that they refuse (`refused-explained`); of a value that passes, the picks are numbers
 -- of rows (`numbers`); the answer that the search gives (`named-explained`), and the claim of R-6 beside it
 -- (`has_reasons`). What differs between the sides goes by their mark (`side_sees`, `own_is`, `rows_few`,
--- `gauge_rows`, `case_rows`), and what holds of either holds of one (`explained_at_side`). Last, one answer
+-- `turned_rows`, `given_rows`). Last, one answer
 -- (`explained_unique`), for every value (`explained_made`), and no two answers of the code read alike.
+use Rattle.std.specs.Prelude.{Result, Ok, Err}
+use Rattle.refusals.specs.declared.Refusal.{Refusal}
 use mathlib.Core.Path.{◌≡◌, refl, sym, ap, ap₂, ◌∙◌, subst}
 use mathlib.Core.Logic.{⊎_elim, ◌↔◌}
 use mathlib.Core.Bool.{Bool, true, false, cond}
@@ -26,9 +28,8 @@ use Rattle.table.proofs.Legality.{length_rows}
 use Rattle.transpose.specs.Transposing.{transpose}
 use Rattle.transpose.specs.Places.{places}
 use Rattle.transpose.proofs.Transposition.{length-transpose}
-use Rattle.refusals.specs.Answers.{Answer, answer}
-use Rattle.refusals.specs.declared.Verdict.{Verdict}
-use Rattle.refusals.proofs.Answering.{verdict_injective}
+use Rattle.refusals.specs.Answers.{Answer, answer, number}
+use Rattle.refusals.proofs.Answering.{named, named-number, number_pos}
 use Rattle.rules.specs.Machine.{Handed, State, at}
 use Rattle.lists.specs.Lists.{Side, gauge_side, case_side}
 use Rattle.lists.specs.OnTable.{hand_out, ReachedOn}
@@ -47,11 +48,12 @@ use Rattle.runs.specs.private.Working.{Works}
 use Rattle.runs.proofs.Padding.{take-padded}
 use Rattle.runs.proofs.Answered.{paused_state}
 use Rattle.runs.proofs.Demands.{Starts}
+use Rattle.runs.proofs.Readings.{gauge_own, case_own}
 use Rattle.runs.proofs.Sides.{gauge_works, case_works}
 use Rattle.runs.proofs.PhaseChecks.{never-at, passes_at, some_at}
-use Rattle.explain.specs.declared.GaugeReason.{GaugeReason}
-use Rattle.explain.specs.declared.CaseReason.{CaseReason}
-use Rattle.explain.specs.Reasons.{Question, question_of, first_lacking, reason_refusal, no_pick, Explained, made_before, HasReasons, gauge_reason, case_reason}
+use Rattle.table.specs.declared.Gauge.{Gauge}
+use Rattle.table.specs.declared.Case.{Case}
+use Rattle.explain.specs.Reasons.{Question, question_of, first_lacking, reason_refusal, no_pick, Explained, made_before, HasReasons, reason_of}
 use Rattle.explain.specs.private.Asking.{own_of, AsksAt, RowsOf, kept_by, Numbered, row_has, found_in}
 use Rattle.explain.proofs.Leaves.{LeavesFrom, Leaves, leaves_reached}
 use Rattle.explain.proofs.Picks.{first_same, None, Found, search_before}
@@ -112,16 +114,22 @@ works_rows s n R w = record {
       ∙ ap (λ (x : List ℕ). row x j) w.rows_are;
 }
 
-pub gauge_rows : (t : Table) → Legal t → RowsOf (gauge_side t) t.rows
+gauge_rows : (t : Table) → Legal t → RowsOf (gauge_side t) t.rows
 gauge_rows t l = works_rows (gauge_side t) t.gauges t.rows (gauge_works t l)
 
-pub case_rows : (t : Table) (R : List ℕ) → R ≡ padded (transpose (min t.cases 64) (places t.gauges t.rows)) → Legal t → RowsOf (case_side t) R
+case_rows : (t : Table) (R : List ℕ) → R ≡ padded (transpose (min t.cases 64) (places t.gauges t.rows)) → Legal t → RowsOf (case_side t) R
 case_rows t R e l = works_rows (case_side t) t.cases R (case_works t l R e)
 
 -- ---- by the mark of a side
 pub side_sees : (b : Bool) (t : Table) → Legal t → (g c : ℕ) → 1 ≤ g → 1 ≤ c → Sees t (side_of b t) (question_of b t g c) g c (own_of b c g)
 side_sees false t l g c = gauge_sees t l g c
 side_sees true t l g c = case_sees t l g c
+
+pub turned_rows : (b : Bool) (t : Table) → b ≡ true → (R : List ℕ) → R ≡ padded (transpose (min t.cases 64) (places t.gauges t.rows)) → Legal t → RowsOf (side_of b t) R
+turned_rows b t e R d l = rw e (case_rows t R d l)
+
+pub given_rows : (b : Bool) (t : Table) → b ≡ false → Legal t → RowsOf (side_of b t) t.rows
+given_rows b t e l = rw e (gauge_rows t l)
 
 pub own_is : (b : Bool) (t : Table) (g c : ℕ) → own_of b g c ≡ (question_of b t g c).own
 own_is false t g c = refl
@@ -130,11 +138,6 @@ own_is true t g c = refl
 pub rows_few : (b : Bool) (t : Table) → Legal t → length (side_of b t).rows ≤ 64
 rows_few false t l = omega (arith, length_rows t l, l.gauges_high)
 rows_few true t l = omega (arith, length-transpose t.cases (table_rows t), l.cases_high)
-
-pub explained_at_side : {a b : Bool} {u v : Value} {g c : ℕ} {r : Answer ℕ} → a ≡ b → u ≡ v
-    → Explained (side_of a) (question_of a) u g c r × HasReasons (side_of a) (question_of a) u
-    → Explained (side_of b) (question_of b) v g c r × HasReasons (side_of b) (question_of b) v
-explained_at_side d e h = rw (← d, ← e) h
 
 -- ---- the checks: a refusal of the value, and else the pair
 pub asks_refused : (side : Table → Side) (v : Value) (b : Bool) (n : ℕ) → 0 < n → ChecksAt side v Handed n → AsksAt side v b n
@@ -307,13 +310,16 @@ explained_made side question t k omit p g c ok h = record {
       (paused_state t k omit (at p Handed) (at j Handed) w.stands);
 }
 
--- ---- no two answers of the code read alike
-pub gauge_reason_injective : (x y : GaugeReason) → gauge_reason x ≡ gauge_reason y → x ≡ y
-gauge_reason_injective x y e =
-    ap₂ (λ (v : Verdict) (n : ℕ). record { verdict = v; pick = record { 0 = n } })
-    (verdict_injective x.verdict y.verdict (ap (λ (a : Answer ℕ). a.refusal) e)) (ap (λ (a : Answer ℕ). a.value) e)
+-- ---- no two answers of the code read alike, of a side whose numbers are its own and from 1
+module _ {S : Type 0} (n : S → ℕ) (own : (x y : S) → n x ≡ n y → x ≡ y) where
+  reason_injective : (x y : Result S Refusal) → reason_of n x ≡ reason_of n y → x ≡ y
+  reason_injective (Ok x) (Ok y) e = ap Ok (own x y (ap (λ (a : Answer ℕ). a.value) e))
+  reason_injective (Ok x) (Err y) e = let d : 0 ≡ number y = ap (λ (a : Answer ℕ). a.refusal) e in absurd (omega (arith, d, number_pos y))
+  reason_injective (Err x) (Ok y) e = let d : number x ≡ 0 = ap (λ (a : Answer ℕ). a.refusal) e in absurd (omega (arith, d, number_pos x))
+  reason_injective (Err x) (Err y) e = ap Err (sym (named-number x) ∙ ap named (ap (λ (a : Answer ℕ). a.refusal) e) ∙ named-number y)
 
-pub case_reason_injective : (x y : CaseReason) → case_reason x ≡ case_reason y → x ≡ y
-case_reason_injective x y e =
-    ap₂ (λ (v : Verdict) (n : ℕ). record { verdict = v; pick = record { 0 = n } })
-    (verdict_injective x.verdict y.verdict (ap (λ (a : Answer ℕ). a.refusal) e)) (ap (λ (a : Answer ℕ). a.value) e)
+pub gauge_reason_injective : (x y : Result Gauge Refusal) → reason_of (λ g. g.0) x ≡ reason_of (λ g. g.0) y → x ≡ y
+gauge_reason_injective = reason_injective (λ g. g.0) gauge_own
+
+pub case_reason_injective : (x y : Result Case Refusal) → reason_of (λ c. c.0) x ≡ reason_of (λ c. c.0) y → x ≡ y
+case_reason_injective = reason_injective (λ c. c.0) case_own

@@ -1,5 +1,5 @@
 -- The code's loop: the search through the first `count` picks in their array, from each place on (`Ahead`).
-use mathlib.Core.Path.{◌≡◌, refl, sym, ap, ◌∙◌}
+use mathlib.Core.Path.{◌≡◌, sym, ap, ◌∙◌}
 use mathlib.Core.Bool.{Bool, true, false}
 use mathlib.Core.List.{List}
 use Prim.Native.Nat.{ℕ, ◌+◌, ◌-◌, ◌≤◌, ◌<◌}
@@ -12,12 +12,8 @@ use Rattle.explain.proofs.Picks.{from, turn-own, turn-lacks, turn_on, turn_end}
 
 module _ (rows : List ℕ) (k : ℕ) (picks : List ℕ) (count own : ℕ) where
   -- what is found from place i on is what is found at all
-  pub record Ahead (i : ℕ) : Type 0 where
-    pub most : i ≤ count
-    pub same : from (row_has rows k) own (take count picks) i ≡ found_in rows k picks count own
-
-  pub ahead_none : Ahead 0
-  ahead_none = record { most = omega arith; same = refl }
+  abbrev pub Ahead : ℕ → Type 0
+  Ahead i = from (row_has rows k) own (take count picks) i ≡ found_in rows k picks count own
 
   module _ (n : Numbered picks count) where
     size : length (take count picks) ≡ count
@@ -31,14 +27,8 @@ module _ (rows : List ℕ) (k : ℕ) (picks : List ℕ) (count own : ℕ) where
       low : i < length (take count picks)
       low = omega (arith, size)
 
-      pub pick_low : 1 ≤ x
-      pick_low = omega (arith, n.low i l)
-
-      pub pick-high : x ≤ 64
-      pick-high = omega (arith, n.high i l)
-
       pub found-own : x ≡ own → 0 ≡ found_in rows k picks count own
-      found-own e = turn-own (row_has rows k) own (take count picks) i low (at_place ∙ e) ∙ a.same
+      found-own e = turn-own (row_has rows k) own (take count picks) i low (at_place ∙ e) ∙ a
 
       module _ (other : x ≡ own → ⊥) (b : Bool) (has : b ≡ bit (get_or rows (x - 1) 0) k) where
         another : get_or (take count picks) i 0 ≡ own → ⊥
@@ -46,13 +36,10 @@ module _ (rows : List ℕ) (k : ℕ) (picks : List ℕ) (count own : ℕ) where
 
         pub found-lacking : b ≡ false → x ≡ found_in rows k picks count own
         found-lacking e =
-            sym at_place ∙ turn-lacks (row_has rows k) own (take count picks) i low another (ap (row_has rows k) at_place ∙ sym has ∙ e) ∙ a.same
+            sym at_place ∙ turn-lacks (row_has rows k) own (take count picks) i low another (ap (row_has rows k) at_place ∙ sym has ∙ e) ∙ a
 
         pub found-on : b ≡ true → Ahead (i + 1)
-        found-on e = record {
-          most = omega arith;
-          same = turn_on (row_has rows k) own (take count picks) i low another (ap (row_has rows k) at_place ∙ sym has ∙ e) ∙ a.same;
-        }
+        found-on e = turn_on (row_has rows k) own (take count picks) i low another (ap (row_has rows k) at_place ∙ sym has ∙ e) ∙ a
 
     pub found_none : (i : ℕ) → count ≤ i → Ahead i → 0 ≡ found_in rows k picks count own
-    found_none i l a = turn_end (row_has rows k) own (take count picks) i (omega (arith, size)) ∙ a.same
+    found_none i l a = turn_end (row_has rows k) own (take count picks) i (omega (arith, size)) ∙ a

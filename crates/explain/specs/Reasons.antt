@@ -5,16 +5,16 @@
 --
 -- In order: the question as each side puts it; the pick named; what the entries answer (`Explained`); the claim of
 -- R-6 on the picks before the pair's own (`Reasoned`), which each entry promises of the ladder that it is asked about
--- (`HasReasons`); how the structs read.
+-- (`HasReasons`); how an answer reads.
 --
 -- Elsewhere: that `Explained` leaves one answer and can be met, `explained_unique` and `explained_made` in
 -- proofs/Answers.antt; the claim, `reasoned` in proofs/Reasoning.antt.
-use Rattle.std.specs.Prelude.{◌≡◌, Bool, true, false, cond, ℕ, suc, ◌<◌, eqb}
+use Rattle.std.specs.Prelude.{◌≡◌, Bool, true, false, cond, ℕ, suc, ◌<◌, eqb, Result, Ok, Err}
 use mathlib.Core.List.{List, [], ◌∷◌, ◌++◌, map, Memᴰ}
 use Rattle.table.specs.declared.Table.{Table}
 use Rattle.table.specs.Pairs.{Has}
 use Rattle.table.specs.Tables.{table_rows}
-use Rattle.refusals.specs.Answers.{Answer, answer, verdict}
+use Rattle.refusals.specs.Answers.{Answer, answer, number}
 use Rattle.rules.specs.Machine.{Handed, at}
 use Rattle.lists.specs.Lists.{Side}
 use Rattle.lists.specs.OnTable.{hand_out}
@@ -22,9 +22,7 @@ use Rattle.conflicts.specs.Tests.{has_pair}
 use Rattle.essentials.specs.Answers.{pair_refusal}
 use Rattle.runs.specs.Paused.{Value}
 use Rattle.runs.specs.Calling.{value_refusal, PausedAt}
-use Rattle.explain.specs.declared.GaugeReason.{GaugeReason}
-use Rattle.explain.specs.declared.CaseReason.{CaseReason}
-use Rattle.explain.specs.declared.side.SideReason.{SideReason}
+use Rattle.refusals.specs.declared.Refusal.{Refusal}
 
 -- ---- the question
 -- a pair as a side's run is asked about it: its own number on that side, and whether a pick has the pair's other
@@ -100,13 +98,7 @@ HasReasons side question v =
     value_refusal side v ≡ 0 → (p : List ℕ) → PausedAt side v (at p Handed) → (g c : ℕ)
     → Reasoned v.table (side v.table) (question v.table g c) g c p
 
--- ---- how the structs read: 01's number, 0 where nothing is refused, and the pick's number
-abbrev pub gauge_reason : GaugeReason → Answer ℕ
-gauge_reason r = record { refusal = verdict r.verdict; value = r.pick.0 }
-
-abbrev pub case_reason : CaseReason → Answer ℕ
-case_reason r = record { refusal = verdict r.verdict; value = r.pick.0 }
-
--- of either side
-abbrev pub side_reason : SideReason → Answer ℕ
-side_reason r = record { refusal = verdict r.verdict; value = r.pick }
+-- ---- how an answer reads, by the numbers of its side: 01's number, 0 where nothing is refused, and the pick's number
+abbrev pub reason_of : {S : Type 0} → (S → ℕ) → Result S Refusal → Answer ℕ
+reason_of n (Ok x) = record { refusal = 0; value = n x }
+reason_of n (Err why) = no_pick (number why)

@@ -3,8 +3,10 @@
 -- In order: the arrays at the first turn and after the last, for a table and a chain that the checks pass (`first_turn`, `last_turn`); the same on the
 -- rows as an order has them, and back (`may_grow`, `placed_first`); each answer by what led to it (`extends_first`, `extends_refused`,
 -- `extends_no_chain`, `extends_grown`); `Extends` leaves one answer only (`extends_unique`), and no two read alike (`extended_injective`).
+use Rattle.std.specs.Option.{is_some}
+use Rattle.std.specs.Prelude.{Option, Some, Result, Ok, Err}
 use mathlib.Core.Path.{◌≡◌, refl, sym, ap, ap₂, ◌∙◌, subst, subst₂}
-use mathlib.Core.Bool.{Bool, true, cond}
+use mathlib.Core.Bool.{Bool, true, cond, false}
 use mathlib.Core.List.{List, map}
 use Prim.Native.Nat.{ℕ, suc, ◌-◌, ◌^◌, ◌<◌}
 use native.Mathlib.Decide.{ℕ_discrete, dec_lt}
@@ -25,13 +27,11 @@ use Rattle.table.specs.declared.Table.{Table}
 use Rattle.table.specs.declared.Chain.{Chain}
 use Rattle.refusals.specs.declared.Refusal.{Refusal}
 use Rattle.refusals.specs.declared.Refusal.TheVariants.{NotAChain}
-use Rattle.refusals.proofs.Answering.{number_pos, verdict_injective}
+use Rattle.refusals.proofs.Answering.{number_pos, answered_injective}
 use Rattle.table.proofs.Legality.{ChainFacts, chain_facts, length_rows, row-table_rows, row-chain_rows, chain_within}
 use Rattle.table.proofs.Places.{row_past, within_sub}
 use Rattle.table.proofs.Padding.{pad_length, pad_get_or}
 use Rattle.judge.specs.Judging.{judgement, Judged}
-use Rattle.judge.specs.declared.Judgement.{Judgement}
-use Rattle.judge.specs.declared.Judgement.TheVariants.{Yes, No, Refused}
 use Rattle.judge.proofs.NestedTest.{chain_dec}
 use Rattle.lists.specs.Arrangements.{IsArrangement, place_of}
 use Rattle.lists.specs.ByNumber.{pick_seq}
@@ -44,13 +44,10 @@ use Rattle.lists.proofs.Growing.{grow, grow_first, first_unique}
 use Rattle.lists.proofs.PreferredGrowing.{first_placed}
 use Rattle.preference.specs.Preferences.{is_preference, preferred_refusal, order_of, numbers_of}
 use Rattle.preference.specs.Placing.{inverse, placed_as, gathered}
-use Rattle.preference.specs.declared.Placed.{Placed}
 use Rattle.preference.proofs.Holding.{preference_of}
-use Rattle.preference.proofs.Placing.{passes_both, ok_is, places_are}
+use Rattle.preference.proofs.Placing.{passes_both, some_is, places_are}
 use Rattle.preference.proofs.Gathering.{gathered_is, gathered_array, gathered_back}
 use Rattle.search.proofs.AfterPicks.{full, Rows}
-use Rattle.refusals.specs.declared.Verdict.{Verdict}
-use Rattle.extend.specs.declared.Extended.{Extended}
 use Rattle.extend.specs.Extending.{extended, refused_by, grow_refusal, FirstRows, Grown, Extends}
 use Rattle.extend.specs.private.FirstByNumber.{FirstByNumber}
 use Rattle.extend.proofs.Picking.{Picked, picked_start}
@@ -200,9 +197,12 @@ module _ (t : Table) (k : List ℕ) (s : Chain) (p : Preferred t k s) where
   may_grow = (part_facts, subst IsChain (sym part_rows) (arrange_chain n o arranged (chain_rows s) p.chain))
 
   -- ---- and back
-  pub placed_first : (first rows : List ℕ) (q : Placed) → FirstByNumber table part first → q ≡ placed_as n k → rows ≡ padded (gathered n first q.places)
+  pub some_places : (p : Option (List ℕ)) → p ≡ placed_as n k → is_some p ≡ true
+  some_places p e = some_is n k p e ∙ is_preference_lem
+
+  pub placed_first : (first rows : List ℕ) (q : List ℕ) (p : Option (List ℕ)) → FirstByNumber table part first → p ≡ placed_as n k → p ≡ Some q → rows ≡ padded (gathered n first q)
       → FirstRows t o s rows
-  placed_first first rows q f e d = record {
+  placed_first first rows q p f e some d = record {
     chain = unarrange o f.chain;
     first =
         first_placed n o arranged (table_rows t) (chain_rows s) (length_rows t legal) within f.chain
@@ -211,15 +211,12 @@ module _ (t : Table) (k : List ℕ) (s : Chain) (p : Preferred t k s) where
     held =
         d
         ∙ ap padded
-        (ap₂ (gathered n) f.held (places_are n k q e (ok-true q e)).1
+        (ap₂ (gathered n) f.held (places_are n k p e some).1
         ∙ gathered_is n (padded f.chain) (numbers_of (inverse o)) legal.gauges_high
         (pad_length f.chain (omega (arith, chain-size, legal.gauges_high))) places-size
         ∙ gathered_back n o f.chain arranged.size);
   }
     where
-      ok-true : (q : Placed) → q ≡ placed_as n k → q.ok ≡ true
-      ok-true q e = ok_is n k q e ∙ is_preference_lem
-
       chain-size : length f.chain ≡ n
       chain-size = f.first.maximal.within.size ∙ ap length table_rows_lem ∙ size (table_rows t)
 
@@ -244,20 +241,20 @@ extends_first t k s x a e r = record {
         ∙ sym (ap (λ (b : Bool). cond b (chain_refusal t s) (preferred_refusal t t.gauges k))
         (ne_eqb (preferred_refusal t t.gauges k) 0 (λ z. omega (arith, e, z, number_pos x))))
 
-module _ (t : Table) (k : List ℕ) (s : Chain) (passed : preferred_refusal t t.gauges k ≡ 0) (j : Judgement)
+module _ (t : Table) (k : List ℕ) (s : Chain) (passed : preferred_refusal t t.gauges k ≡ 0) (j : Result Bool Refusal)
     (d : Judged (chain_refusal t s) (IsChain (chain_rows s)) j) where
   -- after the preference, the chain's number
   then : grow_refusal t k s ≡ chain_refusal t s
   unfolding grow_refusal
   then = ap (λ (b : Bool). cond b (chain_refusal t s) (preferred_refusal t t.gauges k)) (eq-eqb (preferred_refusal t t.gauges k) 0 passed)
 
-  pub judged_passes : j ≡ Yes → grow_refusal t k s ≡ 0
-  judged_passes e = then ∙ sym d.refusal ∙ ap (λ (x : Judgement). (judgement x).refusal) e
+  pub judged_passes : j ≡ Ok true → grow_refusal t k s ≡ 0
+  judged_passes e = then ∙ sym d.refusal ∙ ap (λ (x : Result Bool Refusal). (judgement x).refusal) e
 
-  pub judged_chain : j ≡ Yes → IsChain (chain_rows s)
-  judged_chain e = d.yes (ap (λ (x : Judgement). (judgement x).value) e)
+  pub judged_chain : j ≡ Ok true → IsChain (chain_rows s)
+  judged_chain e = d.yes (ap (λ (x : Result Bool Refusal). (judgement x).value) e)
 
-  pub extends_refused : (x : Refusal) (a : Answer Chain) → j ≡ Refused x → a ≡ refused x blank_chain → Extends t k s a
+  pub extends_refused : (x : Refusal) (a : Answer Chain) → j ≡ Err x → a ≡ refused x blank_chain → Extends t k s a
   extends_refused x a e r = record {
     checked = λ z. r ∙ ap refused_by is;
     no_chain = λ z. absurd (omega (arith, is, number_pos x));
@@ -265,19 +262,19 @@ module _ (t : Table) (k : List ℕ) (s : Chain) (passed : preferred_refusal t t.
   }
     where
       is : number x ≡ grow_refusal t k s
-      is = ap (λ (x : Judgement). (judgement x).refusal) (sym e) ∙ d.refusal ∙ sym then
+      is = ap (λ (x : Result Bool Refusal). (judgement x).refusal) (sym e) ∙ d.refusal ∙ sym then
 
-  pub extends_no_chain : (a : Answer Chain) → j ≡ No → a ≡ refused NotAChain blank_chain → Extends t k s a
+  pub extends_no_chain : (a : Answer Chain) → j ≡ Ok false → a ≡ refused NotAChain blank_chain → Extends t k s a
   extends_no_chain a e r = record {
     checked = λ z. absurd (z passes);
     no_chain = λ z w. r;
-    grown = λ z h. absurd (d.no (sym then ∙ passes) (ap (λ (x : Judgement). (judgement x).value) e) h);
+    grown = λ z h. absurd (d.no (sym then ∙ passes) (ap (λ (x : Result Bool Refusal). (judgement x).value) e) h);
   }
     where
       passes : grow_refusal t k s ≡ 0
-      passes = then ∙ sym d.refusal ∙ ap (λ (x : Judgement). (judgement x).refusal) e
+      passes = then ∙ sym d.refusal ∙ ap (λ (x : Result Bool Refusal). (judgement x).refusal) e
 
-  pub extends_grown : (rows : List ℕ) → j ≡ Yes → FirstRows t (order_of t.gauges k) s rows
+  pub extends_grown : (rows : List ℕ) → j ≡ Ok true → FirstRows t (order_of t.gauges k) s rows
       → Extends t k s (record { refusal = 0; value = record { gauges = t.gauges; rows = rows } })
   extends_grown rows e f = record {
     checked = λ z. absurd (z (judged_passes e));
@@ -311,7 +308,5 @@ extends_unique t k s a b x y = go (ℕ_discrete (grow_refusal t k s) 0) (chain_d
     go (yes z) (no c) = x.no_chain z c ∙ sym (y.no_chain z c)
 
 -- no two answers read alike
-pub extended_injective : (r q : Extended) → extended r ≡ extended q → r ≡ q
-extended_injective r q e =
-    ap₂ (λ (v : Verdict) (c : Chain). record { verdict = v; chain = c })
-    (verdict_injective r.verdict q.verdict (ap (λ (a : Answer Chain). a.refusal) e)) (ap (λ (a : Answer Chain). a.value) e)
+pub extended_injective : (r q : Result Chain Refusal) → extended r ≡ extended q → r ≡ q
+extended_injective = answered_injective blank_chain

@@ -2,20 +2,20 @@
 -- (02, R-12: "a growth now take a preference"), by which that order goes. *Maximal chain* is 01's "ladder"; the first one that contains a set of
 -- pairs is `FirstContaining` of crate `lists`, and there is exactly one for every chain of the table. So `Extends` leaves one answer to every table,
 -- every preference and every chain: `extends_unique` in proofs/Answers.antt.
-use Rattle.std.specs.Prelude.{◌≡◌, cond, List, ℕ, eqb}
+use Rattle.std.specs.Prelude.{◌≡◌, cond, List, ℕ, eqb, Result}
 use Rattle.table.specs.declared.Table.{Table}
 use Rattle.table.specs.declared.Chain.{Chain}
 use Rattle.table.specs.Chains.{IsChain}
 use Rattle.table.specs.Tables.{table_rows, chain_rows, chain_refusal, padded, blank_chain}
-use Rattle.refusals.specs.Answers.{Answer, verdict}
+use Rattle.refusals.specs.Answers.{Answer, answered}
+use Rattle.refusals.specs.declared.Refusal.{Refusal}
 use Rattle.lists.specs.Lists.{gauge_side, list_key}
 use Rattle.lists.specs.Growing.{FirstContaining}
 use Rattle.preference.specs.Preferences.{preferred_refusal, order_of}
-use Rattle.extend.specs.declared.Extended.{Extended}
 
 -- how the code's answer reads: 01's number, 0 where nothing is refused, and the chain
-abbrev pub extended : Extended → Answer Chain
-extended r = record { refusal = verdict r.verdict; value = r.chain }
+abbrev pub extended : Result Chain Refusal → Answer Chain
+extended = answered blank_chain
 
 -- "A refusal yields its number and nothing else": the chain beside it has no gauges and no pairs
 abbrev pub refused_by : ℕ → Answer Chain

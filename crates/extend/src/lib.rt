@@ -1,14 +1,13 @@
 // Extending a chain of a table to the first maximal chain, in gauge order under a preference, that contains it (01: "Growing"; 02, R-12). Any table,
-// order and chain are taken, however malformed; 10, 11, 27 and 12 to 14 are refused in this order, and a refusal has the blank chain beside it.
+// order and chain are taken, however malformed; 10, 11, 27 and 12 to 14 are refused in this order, in place of a chain.
 // No maximal chains are listed: each turn picks the lowest candidate that still leaves room for the rest of the chain, at most 64 turns of at
 // most 64 * 64 steps, on the rows as the order has them.
 #![tactic(auto)]
 
 ghost use Rattle.std.specs.Prelude.{◌≡◌, ◌≤◌, ◌<◌};
 ghost use Rattle.table.specs.Chains.{IsChain};
-ghost use Rattle.table.specs.Tables.{chain_rows, blank_chain};
+ghost use Rattle.table.specs.Tables.{chain_rows};
 ghost use Rattle.table.proofs.Legality.{ChainFacts};
-ghost use Rattle.refusals.specs.Answers.{refused};
 ghost use Rattle.search.specs.Finding.{FirstOf};
 ghost use Rattle.preference.specs.Preferences.{order_of};
 ghost use Rattle.extend.specs.Extending.{extended, grow_refusal, FirstRows, Extends};
@@ -16,57 +15,28 @@ ghost use Rattle.extend.specs.private.FirstByNumber.{FirstByNumber};
 ghost use Rattle.extend.specs.private.PickSteps.{fits_in};
 
 use judge;
-use judge::Judgement;
 use preference;
 use preference::GaugeOrder;
-use refusals::{Refusal, Verdict};
+use refusals::Refusal;
 use search;
 use sets;
 use table;
 use table::{Chain, Table};
 
-// A maximal chain, or a refusal with the blank chain. `extended` in specs/Extending.antt reads it.
-#[derive(Clone, Copy)]
-pub struct Extended {
-    pub verdict: Verdict,
-    pub chain: Chain,
-}
-
 // The first maximal chain of `t` that contains `s`, by an order of the gauges.
-pub fn extend_chain(t: Table, order: GaugeOrder, s: Chain) -> Extended
-    ensures { Extends t order.0 s (extended result) }
+pub fn extend_chain(t: Table, order: GaugeOrder, s: Chain) -> Result<Chain, Refusal>
+    ensures { Extends t order.numbers s (extended result) }
 {
-    let numbers = order.0;
-    let checked = preference::check(t, t.gauges, numbers);
-    if let Verdict::Refused(why) = checked {
-        return refuse(why);
+    let numbers = order.numbers;
+    preference::check(t, t.gauges, numbers)?;
+    if !judge::judge_chain(t, s)? {
+        return Err(Refusal::NotAChain);
     }
-    let judged = judge::judge_chain(t, s);
-    match judged {
-        Judgement::Refused(why) => refuse(why),
-        Judgement::No => refuse(Refusal::NotAChain),
-        Judgement::Yes => {
-            let rows = first_by_place(t, numbers, s);
-            let chain = Chain {
-                gauges: t.gauges,
-                rows: rows,
-            };
-            Extended {
-                verdict: Verdict::Accepted,
-                chain: chain,
-            }
-        }
-    }
-}
-
-// A refusal, with the blank chain.
-fn refuse(why: Refusal) -> Extended
-    ensures { extended result ≡ refused why blank_chain }
-{
-    Extended {
-        verdict: Verdict::Refused(why),
-        chain: table::blank_chain(),
-    }
+    let rows = first_by_place(t, numbers, s);
+    Ok(Chain {
+        gauges: t.gauges,
+        rows,
+    })
 }
 
 // The rows of the first maximal chain by place: the first by number of the rows as the order has them, and back.
@@ -80,7 +50,7 @@ fn first_by_place(t: Table, numbers: [u8; 64], s: Chain) -> [u64; 64]
     let arranged = Table {
         gauges: t.gauges,
         cases: t.cases,
-        rows: rows,
+        rows,
     };
     let part = s.rows;
     let asked = preference::gather(&part, &numbers, n);
@@ -89,8 +59,8 @@ fn first_by_place(t: Table, numbers: [u8; 64], s: Chain) -> [u64; 64]
         rows: asked,
     };
     let first = first_rows(arranged, chain);
-    let placed = preference::place_all(numbers, n);
-    let places = placed.places;
+    // the preference was checked, so that each number has a place
+    let places = preference::place_all(numbers, n).unwrap();
     preference::gather(&first, &places, n)
 }
 
@@ -106,8 +76,7 @@ fn first_rows(t: Table, s: Chain) -> [u64; 64]
     let mut owed = s.rows;
     let mut left = sets::lowest(Table::MOST_CASES);
     let mut rows = [0u64; 64];
-    let mut turns = 0;
-    while turns < n {
+    for _turn in 0..n {
         let all_owed = table::union_of(&owed, 0, n);
         let g = next_fitting(&outer, unpicked, left, n, all_owed);
         if n <= g {
@@ -117,7 +86,6 @@ fn first_rows(t: Table, s: Chain) -> [u64; 64]
         rows[g] = left;
         unpicked = sets::without(unpicked, g as u64);
         owed[g] = 0;
-        turns += 1;
     }
     rows
 }
@@ -127,12 +95,10 @@ fn next_fitting(rows: &[u64; 64], unpicked: u64, left: u64, n: usize, owed: u64)
     requires { n ≤ 64 }
     ensures { FirstOf (fits_in rows.now unpicked left owed) 0 n result }
 {
-    let mut g = 0;
-    while g < n {
+    for g in 0..n {
         if fits(rows, unpicked, left, owed, g) {
             return g;
         }
-        g += 1;
     }
     n
 }

@@ -1,23 +1,22 @@
--- The kind of a line, as the code tests it: one law for each `return` of the functions that tell the kind, its premises the tests that
--- led there. In order: comment lines; lines ahead of the entries; entry lines; that a size and an entry that are taken are in range, which
--- `reader` rests on. The first line is in Opening.antt.
--- Pins, which nothing else cites: `head-gauges`, `head-cases`.
-use Prim.Native.Nat.{ℕ, ◌≤◌, ◌<◌}
+-- The kind of a line, by the tests that the code makes: a size and an entry out of range, an entry that is taken, the fields by the kind; that
+-- a size and an entry that are taken are in range, which `reader` rests on. The first line is in Opening.antt.
+-- Pins, which nothing else cites: `head-gauges`, `head-cases`, `entry-gauge`, `entry_case`, `entry-entry`, `by_pattern`, `by_integer`.
+use Prim.Native.Nat.{ℕ, ◌≤◌}
 use mathlib.Core.Path.{◌≡◌, refl, ap, sym, ◌∙◌}
-use mathlib.Core.List.{List, [], ◌∷◌}
+use mathlib.Core.List.{List}
 use mathlib.Core.Bool.{Bool, true, false, cond, ◌&&◌}
 use native.Mathlib.Omega.{arith}
-use lib.ListN.{length, get_or}
+use lib.ListN.{length}
 use lib.Dec.{ltb}
 use lib.IntN.{ℤ, pos, nat_abs}
-use borrow.Author.Tests.{ne_eqb, eq-eqb, lt-ltb, le-ltb, lt-leb, le-leb, leb-true}
+use borrow.Author.Tests.{le-ltb, le-leb, leb-true}
 use Rattle.basics.proofs.Clash.{clash}
 use Rattle.file_text.specs.Fields.{fields}
 use Rattle.table.specs.Tables.{in_range}
 use Rattle.table.proofs.Legality.{range_is}
 use Rattle.table.specs.declared.Gauge.{Gauge}
 use Rattle.table.specs.declared.Case.{Case}
-use Rattle.refusals.specs.declared.Refusal.TheVariants.{LineTooLong, SizeFields, SizeRange, PairFields, PairRange, ReadingRange}
+use Rattle.refusals.specs.declared.Refusal.TheVariants.{LineTooLong, SizeRange, PairRange, ReadingRange}
 use Rattle.file_kinds.specs.Kinds.{is_comment, size_of, head_line, pair_of, pair_fields, fields_by, in_reach, entry_of, entry_line}
 use Rattle.file_text.specs.declared.Fields.{Fields}
 use Rattle.file_text.specs.declared.Fields.TheVariants.{Blank, Two, Three, Other}
@@ -27,55 +26,13 @@ use Rattle.file_entries.specs.declared.EntryFields.TheVariants.{Blank as no_fiel
 use Rattle.recorded.specs.declared.Kind.{Kind}
 use Rattle.recorded.specs.declared.Kind.TheVariants.{Pattern, Integer}
 use Rattle.file_kinds.specs.declared.HeadLine.TheVariants.{Size, Skip as skip_head, Bad as bad_head}
-use Rattle.file_kinds.specs.declared.EntryLine.TheVariants.{Entry, Skip as skip_entry, Bad as bad_entry}
-
-pub comment_empty : (l : List ℕ) → length l ≡ 0 → false ≡ is_comment l
-comment_empty [] h = refl
-comment_empty (b ∷ l) h = absurd (omega arith)
-
-pub comment_yes : (l : List ℕ) → (length l ≡ 0 → ⊥) → get_or l 0 0 ≡ 37 → true ≡ is_comment l
-comment_yes [] h e = absurd (h refl)
-comment_yes (b ∷ l) h e = sym (eq-eqb b 37 e)
-
-pub comment_no : (l : List ℕ) → (length l ≡ 0 → ⊥) → (get_or l 0 0 ≡ 37 → ⊥) → false ≡ is_comment l
-comment_no [] h e = absurd (h refl)
-comment_no (b ∷ l) h e = sym (ne_eqb b 37 e)
-
--- neither blank nor three fields
-unfoldable pub NoSize : Fields → Type 0
-NoSize Blank = ⊥
-NoSize (Two a b) = Unit {0}
-NoSize (Three a b c) = ⊥
-NoSize Other = Unit {0}
+use Rattle.file_kinds.specs.declared.EntryLine.TheVariants.{Entry, Bad as bad_entry}
 
 module _ (l : List ℕ) where
-  pub head_long : 1024 < length l → bad_head LineTooLong ≡ head_line l
-  head_long h = rw (lt-ltb 1024 (length l) h)
-
-  pub entry_long : (kind : Kind) (gs : Gauge) (cs : Case) → 1024 < length l → bad_entry LineTooLong ≡ entry_line kind gs cs l
-  unfolding entry_line
-  entry_long kind gs cs h = rw (lt-ltb 1024 (length l) h)
-
   module _ (h : length l ≤ 1024) where
-    pub head-comment : (t : Bool) → t ≡ is_comment l → t ≡ true → skip_head ≡ head_line l
-    head-comment t e p = rw (le-ltb 1024 (length l) h, ← e, p)
-
     module _ (t : Bool) (e : t ≡ is_comment l) (p : t ≡ false) (f : Fields) (q : f ≡ fields l) where
       head-fields : size_of f ≡ head_line l
       head-fields = rw (le-ltb 1024 (length l) h, ← e, p, ← q)
-
-      pub head-blank : f ≡ Blank → skip_head ≡ head_line l
-      head-blank x = ap size_of (sym x) ∙ head-fields
-
-      pub head-none : NoSize f → bad_head SizeFields ≡ head_line l
-      unfolding NoSize
-      head-none n = go f n ∙ head-fields
-        where
-          go : (f : Fields) → NoSize f → bad_head SizeFields ≡ size_of f
-          go Blank n = absurd n
-          go (Two a b) n = refl
-          go (Three a b c) n = absurd n
-          go Other n = refl
 
       module _ (g c n : ℕ) (x : f ≡ Three g c n) (u : Bool) (a : u ≡ in_range 64 g) where
         pub head-gauges : u ≡ false → bad_head SizeRange ≡ head_line l
@@ -84,21 +41,10 @@ module _ (l : List ℕ) where
         pub head-cases : u ≡ true → (v : Bool) → v ≡ in_range 64 c → v ≡ false → bad_head SizeRange ≡ head_line l
         head-cases k v b m = rw (← a, k, ← b, m) at (ap size_of (sym x) ∙ head-fields)
 
-        pub head-size : u ≡ true → (v : Bool) → v ≡ in_range 64 c → v ≡ true → Size (record { 0 = g }) (record { 0 = c }) n ≡ head_line l
-        head-size k v b m = rw (← a, k, ← b, m) at (ap size_of (sym x) ∙ head-fields)
-
     module _ (kind : Kind) (gs : Gauge) (cs : Case) (f : EntryFields) (q : f ≡ fields_by kind l) where
       by-fields : entry_of gs cs f ≡ entry_line kind gs cs l
       unfolding entry_line
       by-fields = rw (le-ltb 1024 (length l) h, ← q)
-
-      pub entry-blank : f ≡ no_fields → skip_entry ≡ entry_line kind gs cs l
-      unfolding entry_of
-      entry-blank x = ap (entry_of gs cs) (sym x) ∙ by-fields
-
-      pub entry-none : f ≡ other_fields → bad_entry PairFields ≡ entry_line kind gs cs l
-      unfolding entry_of
-      entry-none x = ap (entry_of gs cs) (sym x) ∙ by-fields
 
       module _ (g c : ℕ) (v : ℤ) (x : f ≡ fields_of g c v) (u : Bool) (a : u ≡ in_range gs.0 g) where
         by-entry : entry_of gs cs (fields_of g c v) ≡ entry_line kind gs cs l
@@ -115,10 +61,6 @@ module _ (l : List ℕ) where
 
           -- z is what the code handed on of v
           module _ (m : w ≡ true) (z : ℤ) (s : z ≡ v) (n : ℕ) (d : n ≡ nat_abs z) where
-            pub entry-reach : 1000000 < n → bad_entry ReadingRange ≡ entry_line kind gs cs l
-            unfolding entry_of
-            entry-reach y = rw (← a, k, ← b, m, lt-leb (nat_abs v) 1000000 (omega (arith, d ∙ ap nat_abs s))) at by-entry
-
             pub entry-entry : n ≤ 1000000 → Entry (record { 0 = g }) (record { 0 = c }) z ≡ entry_line kind gs cs l
             unfolding entry_of
             entry-entry y =

@@ -2,24 +2,25 @@
 -- no line is of two kinds; a first line is read exactly when it is a banner in 01's words (`first_mixed`, `first_only`, `first_none`), and a banner
 -- that is written is (`banner_reads`). Then the answers of `is_of_kind` and of `first_line`, one law for each of their returns.
 -- Pins, which nothing else cites: `first-integer`.
-use Prim.Native.Nat.{ℕ, ◌<◌}
+use Prim.Native.Nat.{ℕ}
 use mathlib.Core.Path.{◌≡◌, refl, sym, ap, ap₂, ◌∙◌}
 use mathlib.Core.Logic.{◌↔◌}
 use mathlib.Core.List.{List, [], ◌∷◌, ◌++◌, map}
 use mathlib.Core.Bool.{Bool, true, false, cond, ◌&&◌}
+use native.Mathlib.Decide.{ℕ_discrete}
 use native.Mathlib.Omega.{arith}
-use lib.ListN.{length, get_or, take, drop, length-take, take-append-drop}
+use lib.ListN.{length, get_or, take, drop, take-append-drop}
 use lib.Dec.{eqb}
-use borrow.Author.Tests.{eqb-true, eq-eqb}
+use borrow.Author.Tests.{eqb-true, eq-eqb, ne_eqb}
+use Rattle.std.specs.List.{starts_with}
 use Rattle.basics.proofs.Clash.{clash}
 use Rattle.file_text.specs.Bytes.{same_bytes, small}
-use Rattle.file_text.proofs.Comparing.{same_lengths}
 use Rattle.table.proofs.Legality.{both}
 use Rattle.recorded.specs.declared.Kind.{Kind}
 use Rattle.recorded.specs.declared.Kind.TheVariants.{Pattern, Integer}
 use Rattle.file_kinds.specs.Banner.{opening, pattern, integer, words_of, takes, IsBanner, is_of_kind, first_line, banner_of}
-use Rattle.file_kinds.specs.declared.FirstLine.{FirstLine}
-use Rattle.file_kinds.specs.declared.FirstLine.TheVariants.{Banner, Other}
+use Rattle.file_kinds.specs.Banner.{FirstLine}
+use Rattle.std.specs.Prelude.{Some as Banner, None as Other}
 
 -- texts that compare as the same are the same
 same_is : (a b : List ℕ) → same_bytes a b ≡ true → a ≡ b
@@ -117,9 +118,15 @@ pub banner_reads : (integers : Bool) (kind : Kind) → takes integers kind ≡ t
 banner_reads integers kind t = first_mixed integers kind (banner_of kind) (record { taken = t; rest = words_of kind; whole = refl; letters = written kind })
 
 -- ---- the answers of the code
-pub opening_short : (words l : List ℕ) → length l < 14 → false ≡ is_of_kind words l
-opening_short words l h =
-    ap (λ (t : Bool). t && same_bytes (map small (drop 14 l)) words) (same_lengths (take 14 l) opening (λ e. omega (arith, length-take 14 l)))
+-- the library's comparison with a front is that of as many bytes
+pub starts_is : (l p : List ℕ) → starts_with eqb l p ≡ same_bytes (take (length p) l) p
+starts_is l [] = refl
+starts_is [] (x ∷ p) = refl
+starts_is (y ∷ l) (x ∷ p) = ap₂ (λ (t u : Bool). t && u) (go (ℕ_discrete x y)) (starts_is l p)
+  where
+    go : Dec (x ≡ y) → eqb x y ≡ eqb y x
+    go (yes e) = rw (eq-eqb x y e, eq-eqb y x (sym e))
+    go (no n) = rw (ne_eqb x y n, ne_eqb y x (λ e. n (sym e)))
 
 module _ (words l : List ℕ) (t : Bool) (e : t ≡ same_bytes (take 14 l) opening) where
   pub opening_other : t ≡ false → false ≡ is_of_kind words l
@@ -128,17 +135,7 @@ module _ (words l : List ℕ) (t : Bool) (e : t ≡ same_bytes (take 14 l) openi
   pub opening_words : t ≡ true → (u : Bool) → u ≡ same_bytes (map small (drop 14 l)) words → u ≡ is_of_kind words l
   opening_words f u d = ap₂ (λ (a b : Bool). a && b) (sym f ∙ e) d
 
-module _ (integers : Bool) (l : List ℕ) (t : Bool) (e : t ≡ is_of_kind pattern l) where
-  pub first_pattern : t ≡ true → Banner Pattern ≡ first_line integers l
-  first_pattern p = rw (sym e ∙ p)
-
-  module _ (p : t ≡ false) where
-    pub first-unasked : integers ≡ false → Other ≡ first_line integers l
-    first-unasked i = rw (sym e ∙ p, i)
-
-    module _ (i : integers ≡ true) (u : Bool) (d : u ≡ is_of_kind integer l) where
-      pub first-integer : u ≡ true → Banner Integer ≡ first_line integers l
-      first-integer q = rw (sym e ∙ p, i, sym d ∙ q)
-
-      pub first-other : u ≡ false → Other ≡ first_line integers l
-      first-other q = rw (sym e ∙ p, i, sym d ∙ q)
+module _ (integers : Bool) (l : List ℕ) (t : Bool) (e : t ≡ is_of_kind pattern l) (p : t ≡ false) (i : integers ≡ true) (u : Bool)
+    (d : u ≡ is_of_kind integer l) where
+  pub first-integer : u ≡ true → Banner Integer ≡ first_line integers l
+  first-integer q = rw (sym e ∙ p, i, sym d ∙ q)

@@ -23,8 +23,8 @@ use Rattle.file_entries.specs.Values.{number_from, is_minus, unsigned}
 use Rattle.file_entries.specs.Words.{words}
 use Rattle.file_kinds.specs.Banner.{first_line, first_line_says, banner, banner_of}
 use Rattle.file_kinds.specs.Kinds.{head_line, head_line_says, fields_by, entry_of, entry_line, entry_line_says}
-use Rattle.file_kinds.specs.declared.FirstLine.{FirstLine}
-use Rattle.file_kinds.specs.declared.FirstLine.TheVariants.{Banner, Other}
+use Rattle.file_kinds.specs.Banner.{FirstLine}
+use Rattle.std.specs.Prelude.{Some as Banner, None as Other}
 use Rattle.file_kinds.specs.declared.HeadLine.{HeadLine}
 use Rattle.file_kinds.specs.declared.HeadLine.TheVariants.{Size, Skip as skip_head, Bad as bad_head}
 use Rattle.file_kinds.specs.declared.EntryLine.{EntryLine}

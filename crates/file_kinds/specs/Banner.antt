@@ -12,8 +12,7 @@ use Rattle.refusals.specs.Answers.{Answer, refused}
 use Rattle.refusals.specs.declared.Refusal.TheVariants.{NotTheBanner}
 use Rattle.recorded.specs.declared.Kind.{Kind}
 use Rattle.recorded.specs.declared.Kind.TheVariants.{Pattern, Integer}
-use Rattle.file_kinds.specs.declared.FirstLine.{FirstLine}
-use Rattle.file_kinds.specs.declared.FirstLine.TheVariants.{Banner, Other}
+use Rattle.std.specs.Prelude.{Option as Optional, Some as Banner, None as Other}
 
 -- `%%MatrixMarket`
 abbrev pub opening : List ℕ
@@ -58,6 +57,10 @@ pub record IsBanner (integers : Bool) (kind : Kind) (l : List ℕ) : Type 0 wher
 -- letters, the words
 abbrev pub is_of_kind : List ℕ → List ℕ → Bool
 is_of_kind words l = same_bytes (take 14 l) opening && same_bytes (map small (drop 14 l)) words
+
+-- what a first line is: the banner of a kind of file, or another line
+abbrev pub FirstLine : Type 0
+FirstLine = Optional Kind
 
 -- a first line: the banner of a file of pairs, or, where integer files are taken, of a file of readings; any other is
 -- refused with 2

@@ -23,14 +23,8 @@ const OPENING: usize = 14;
 // 02: v is "in -1,000,000..1,000,000".
 const MOST_READING: u64 = 1_000_000;
 
-// A first line: the banner of a kind of file, or not one that is taken.
-#[derive(Clone, Copy)]
-pub enum FirstLine {
-    Banner(Kind),
-    Other,
-}
-
 // A line ahead of the entries: passed over; the size line, with the last gauge, the last case and the number of entries; or refused.
+// No `Result<Option<..>, Refusal>`: that would leave the three kinds of line without a name, and their reader, who numbers lines, without `?`.
 #[derive(Clone, Copy)]
 pub enum HeadLine {
     Skip,
@@ -38,7 +32,7 @@ pub enum HeadLine {
     Bad(Refusal),
 }
 
-// A line behind the size line: passed over, an entry with its reading, or refused.
+// A line behind the size line: passed over, an entry with its reading, or refused; no `Result`, for the same reason.
 #[derive(Clone, Copy)]
 pub enum EntryLine {
     Skip,
@@ -47,32 +41,26 @@ pub enum EntryLine {
 }
 
 // "First line: 2 not the banner." Its words may have capitals; `integers` says whether the banner of an integer file is taken too.
-pub fn first_line(line: &[u8], integers: bool) -> FirstLine
+pub fn first_line(line: &[u8], integers: bool) -> Option<Kind>
     ensures { first_line_says result ≡ first_line_says (first_line integers line.now) }
 {
     if is_of_kind(line, b" matrix coordinate pattern general") {
-        return FirstLine::Banner(Kind::Pattern);
+        return Some(Kind::Pattern);
     }
     if !integers {
-        return FirstLine::Other;
+        return None;
     }
     if is_of_kind(line, b" matrix coordinate integer general") {
-        return FirstLine::Banner(Kind::Integer);
+        return Some(Kind::Integer);
     }
-    FirstLine::Other
+    None
 }
 
 // "Comment lines (first byte `%`)."
 pub fn is_comment(line: &[u8]) -> bool
     ensures { result ≡ is_comment line.now }
 {
-    if line.len() == 0 {
-        return false;
-    }
-    if line[0] == b'%' {
-        return true;
-    }
-    false
+    matches!(line, [b'%', ..])
 }
 
 // A line ahead of the entries: a comment, blank, or the size line.
@@ -102,6 +90,7 @@ pub fn head_line(line: &[u8]) -> HeadLine
 }
 
 // A line behind the size line of a file of a kind, where `gauges` is the last gauge and `cases` the last case: blank, or an entry.
+#[tactic(auto, unfolding(crate::specs::Kinds::entry_line, crate::specs::Kinds::entry_of))]
 pub fn entry_line(line: &[u8], kind: Kind, gauges: Gauge, cases: Case) -> EntryLine
     ensures { entry_line_says result ≡ entry_line_says (entry_line kind gauges cases line.now) }
 {
@@ -131,18 +120,11 @@ pub fn entry_line(line: &[u8], kind: Kind, gauges: Gauge, cases: Case) -> EntryL
 fn is_of_kind(line: &[u8], words: &[u8]) -> bool
     ensures { result ≡ is_of_kind words.now line.now }
 {
-    if line.len() < OPENING {
-        return false;
-    }
-    let start = 0;
-    let behind = OPENING;
-    if !file_text::same_bytes(&line[start..behind], b"%%MatrixMarket") {
-        return false;
-    }
-    file_text::same_small(&line[behind..], words)
+    line.starts_with(b"%%MatrixMarket") && file_text::same_small(&line[OPENING..], words)
 }
 
 // The fields of an entry line, by the kind of file.
+#[tactic(auto, using(file_entries::proofs::Saying::entry_fields_are), unfolding(crate::specs::Kinds::fields_by))]
 fn fields_by(line: &[u8], kind: Kind) -> EntryFields
     ensures { result ≡ fields_by kind line.now }
 {
@@ -160,7 +142,6 @@ fn pair_fields(line: &[u8]) -> EntryFields
     match f {
         Fields::Blank => EntryFields::Blank,
         Fields::Two(g, c) => EntryFields::Entry(g, c, 0),
-        Fields::Three(_, _, _) => EntryFields::Other,
-        Fields::Other => EntryFields::Other,
+        Fields::Three(..) | Fields::Other => EntryFields::Other,
     }
 }

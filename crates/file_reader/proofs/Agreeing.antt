@@ -20,8 +20,8 @@ use Rattle.recorded.specs.declared.Test.{Test}
 use Rattle.recorded.proofs.Reaching.{pattern_table}
 use Rattle.file_text.specs.Lines.{Line, lines}
 use Rattle.file_kinds.specs.Banner.{pattern, integer, takes, is_of_kind}
-use Rattle.file_kinds.specs.declared.FirstLine.{FirstLine}
-use Rattle.file_kinds.specs.declared.FirstLine.TheVariants.{Banner, Other}
+use Rattle.file_kinds.specs.Banner.{FirstLine}
+use Rattle.std.specs.Prelude.{Some as Banner, None as Other}
 use Rattle.file_kinds.proofs.Opening.{kinds_apart, integer_refused, first_same}
 use Rattle.file_reader.specs.private.Reading.{refused_file, read_head, read_lines, read_recorded, pairs_of, read_file, read_test}
 use Rattle.file_reader.specs.Promises.{TestAndTable, blank_both}

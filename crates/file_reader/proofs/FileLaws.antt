@@ -34,8 +34,8 @@ use Rattle.refusals.proofs.Answering.{number_pos, number_injective}
 use Rattle.file_text.specs.Lines.{Line, lines}
 use Rattle.file_kinds.specs.Banner.{first_line}
 use Rattle.file_kinds.specs.Kinds.{head_line}
-use Rattle.file_kinds.specs.declared.FirstLine.{FirstLine}
-use Rattle.file_kinds.specs.declared.FirstLine.TheVariants.{Banner, Other}
+use Rattle.file_kinds.specs.Banner.{FirstLine}
+use Rattle.std.specs.Prelude.{Some as Banner, None as Other}
 use Rattle.file_kinds.specs.declared.HeadLine.{HeadLine}
 use Rattle.file_kinds.specs.declared.HeadLine.TheVariants.{Size, Skip as skip_head, Bad as bad_head}
 use Rattle.file_kinds.specs.declared.EntryLine.TheVariants.{Entry, Skip as skip_entry}

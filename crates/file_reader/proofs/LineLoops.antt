@@ -33,8 +33,8 @@ use Rattle.file_reader.specs.private.Stopping.{stop_entries, stop_head, stop_lin
 use Rattle.file_kinds.proofs.KindOf.{Bounded, entry_taken, size_range}
 use Rattle.file_kinds.proofs.Saying.{first_is, head_is, entry_is}
 use Rattle.file_text.specs.declared.Span.{Span}
-use Rattle.file_kinds.specs.declared.FirstLine.{FirstLine}
-use Rattle.file_kinds.specs.declared.FirstLine.TheVariants.{Banner, Other}
+use Rattle.file_kinds.specs.Banner.{FirstLine}
+use Rattle.std.specs.Prelude.{Some as Banner, None as Other}
 use Rattle.file_kinds.specs.declared.HeadLine.{HeadLine}
 use Rattle.file_kinds.specs.declared.HeadLine.TheVariants.{Size, Skip as skip_head, Bad as bad_head}
 use Rattle.file_kinds.specs.declared.EntryLine.{EntryLine}

@@ -1,8 +1,9 @@
 -- The search for a comment line: a turn of the code's loop, from the line at a place of the file to the next; the answer by the
 -- reader's; the part that is shown. For users: a comment that is found lies in the file (`comment_inside`) and is not empty
 -- (`comment_some`), so that the empty part tells a refusal.
+use Rattle.std.specs.Prelude.{Result, Err, Ok}
 use Prim.Native.Nat.{ℕ, suc, ◌+◌, ◌-◌, ◌≤◌, ◌<◌}
-use mathlib.Core.Path.{◌≡◌, refl, ap, ap₂, sym, ◌∙◌}
+use mathlib.Core.Path.{◌≡◌, refl, ap, sym, ◌∙◌}
 use mathlib.Core.List.{List, [], ◌∷◌}
 use mathlib.Core.Bool.{Bool, true, false, cond}
 use native.Mathlib.Omega.{arith}
@@ -14,12 +15,11 @@ use lib.Dec.{eqb, ltb}
 use borrow.Author.Tests.{ne_eqb, eq-eqb, eqb-false, lt-ltb, le-ltb}
 use denote.Ref.{Bor}
 use Rattle.basics.proofs.Clash.{clash}
-use Rattle.refusals.specs.Answers.{Answer, number, refused, verdict}
+use Rattle.refusals.specs.Answers.{Answer, number, refused}
 use Rattle.refusals.specs.declared.Refusal.{Refusal}
 use Rattle.recorded.specs.declared.Test.{Test}
 use Rattle.file_reader.specs.private.Gathering.{gathered}
-use Rattle.file_reader.specs.declared.Gathered.{Gathered}
-use Rattle.refusals.specs.declared.Verdict.TheVariants.{Accepted, Refused}
+use Rattle.file_reader.specs.declared.Failed.{Failed}
 use Rattle.file_text.specs.Lines.{Line, lines, span_at, at_crlf, extend}
 use Rattle.file_text.proofs.LineAt.{inside, lines-at}
 use Rattle.refusals.proofs.Answering.{number_pos, number_injective}
@@ -27,7 +27,6 @@ use Rattle.file_kinds.specs.Kinds.{is_comment}
 use Rattle.file_reader.specs.private.Reading.{read_recorded, comment_at}
 use Rattle.file_reader.specs.Comments.{Part, Shows, no_part, found, no_comment, comment_from, comment_lines}
 use Rattle.file_reader.specs.declared.Found.{Found}
-use Rattle.file_reader.specs.declared.Found.TheVariants.{At, Refused as FoundRefused}
 use Rattle.file_text.specs.declared.Span.{Span}
 
 pub find_past : (f : List ℕ) (at k : ℕ) (C : Answer Part) → comment_from k at (lines (drop at f)) ≡ C → length f ≤ at → no_comment ≡ C
@@ -58,7 +57,7 @@ module _ {f : List ℕ} {at : ℕ} {s : Span} {t : Bool} {k : ℕ} {C : Answer P
       let b = inside f at s T.span (omega (arith, T.here)) in
       length-take (s.end - at) (drop at f) ∙ omega (arith, b, length-drop at f)
 
-  pub find_here : t ≡ true → k ≤ 1 → k ≡ 1 → found (At at (s.end - at)) ≡ C
+  pub find_here : t ≡ true → k ≤ 1 → k ≡ 1 → found (Ok (record { start = at; len = s.end - at })) ≡ C
   unfolding comment_from
   find_here x y z = rw (eq-eqb k 1 z, found_length) at (rw (le-ltb 1 k y) at (rw (sym T.kind ∙ x, comment_from) at step.1))
 
@@ -91,17 +90,17 @@ lookup_by x n c e =
 lookup_none : (n : ℕ) (c : Answer Part) → n ≡ 0 → c ≡ cond (eqb n 0) c (record { refusal = n; value = no_part })
 lookup_none n c e = rw e
 
-module _ (f : List ℕ) (k : ℕ) (m : Gathered) (p : gathered m ≡ read_recorded true f) where
-  refusal_is : verdict m.verdict ≡ (read_recorded true f).refusal
-  refusal_is = ap (λ (a : Answer Test). a.refusal) p
+module _ (f : List ℕ) (k : ℕ) (m : Result Test Failed) (p : gathered m ≡ read_recorded true f) where
+  refusal_is : {a : Answer Test} → gathered m ≡ a → a.refusal ≡ (read_recorded true f).refusal
+  refusal_is d = ap (λ (a : Answer Test). a.refusal) (sym d ∙ p)
 
-  pub lookup_refused : {x : Refusal} → m.verdict ≡ Refused x → refused x no_part ≡ comment_at f k
+  pub lookup_refused : {x : Failed} → m ≡ Err x → refused x.why no_part ≡ comment_at f k
   unfolding comment_at
-  lookup_refused {x} e = lookup_by x (read_recorded true f).refusal (comment_lines k (lines f)) (ap verdict (sym e) ∙ refusal_is)
+  lookup_refused {x} e = lookup_by x.why (read_recorded true f).refusal (comment_lines k (lines f)) (refusal_is (ap gathered e))
 
-  pub lookup_found : m.verdict ≡ Accepted → comment_lines k (lines f) ≡ comment_at f k
+  pub lookup_found : {t : Test} → m ≡ Ok t → comment_lines k (lines f) ≡ comment_at f k
   unfolding comment_at
-  lookup_found e = lookup_none (read_recorded true f).refusal (comment_lines k (lines f)) (sym refusal_is ∙ ap verdict e)
+  lookup_found e = lookup_none (read_recorded true f).refusal (comment_lines k (lines f)) (sym (refusal_is (ap gathered e)))
 
 -- ---- where a comment lies
 
@@ -202,22 +201,25 @@ comment_some f k x = go (eqb (read_recorded true f).refusal 0) refl (lines f) x
     go true e (l ∷ ls) y = from_some k l.size ls y
 
 -- ---- the part that is shown, by the answer of `comment_at`
-module _ (f : List ℕ) (k : ℕ) (x : Found) (p : found x ≡ comment_at f k) where
-  part_is : {start len : ℕ} → x ≡ At start len → record { start = start; len = len } ≡ (comment_at f k).value
+module _ (f : List ℕ) (k : ℕ) (x : Result Found Refusal) (p : found x ≡ comment_at f k) where
+  part_is : {place : Found} → x ≡ Ok place → record { start = place.start; len = place.len } ≡ (comment_at f k).value
   part_is e = ap (λ (a : Answer Part). a.value) (ap found (sym e) ∙ p)
 
-  pub part_inside : {start len : ℕ} → x ≡ At start len → start + len ≤ length f
-  part_inside {start} {len} e =
-      let q : start + len ≡ (comment_at f k).value.start + (comment_at f k).value.len = ap (λ (a : Part). a.start + a.len) (part_is e) in
+  pub part_inside : {place : Found} → x ≡ Ok place → place.start + place.len ≤ length f
+  part_inside {place} e =
+      let q : place.start + place.len ≡ (comment_at f k).value.start + (comment_at f k).value.len = ap (λ (a : Part). a.start + a.len) (part_is e) in
       omega (arith, comment_inside f k)
 
 -- ---- one answer
 -- no two answers read alike
-pub found_injective : (r q : Found) → found r ≡ found q → r ≡ q
-found_injective (At a n) (At b m) e = ap₂ At (ap (λ (x : Answer Part). x.value.start) e) (ap (λ (x : Answer Part). x.value.len) e)
-found_injective (At a n) (FoundRefused y) e = absurd (omega (arith, ap (λ (x : Answer Part). x.refusal) e, number_pos y))
-found_injective (FoundRefused x) (At b m) e = absurd (omega (arith, ap (λ (y : Answer Part). y.refusal) e, number_pos x))
-found_injective (FoundRefused x) (FoundRefused y) e = ap FoundRefused (number_injective x y (ap (λ (z : Answer Part). z.refusal) e))
+pub found_injective : (r q : Result Found Refusal) → found r ≡ found q → r ≡ q
+found_injective (Ok a) (Ok b) e =
+    let s : a.start ≡ b.start = ap (λ (x : Answer Part). x.value.start) e in
+    let n : a.len ≡ b.len = ap (λ (x : Answer Part). x.value.len) e in
+    λ i. Ok (record { start = s i; len = n i })
+found_injective (Ok a) (Err y) e = absurd (omega (arith, ap (λ (x : Answer Part). x.refusal) e, number_pos y))
+found_injective (Err x) (Ok b) e = absurd (omega (arith, ap (λ (y : Answer Part). y.refusal) e, number_pos x))
+found_injective (Err x) (Err y) e = ap Err (number_injective x y (ap (λ (z : Answer Part). z.refusal) e))
 
 -- two slices that show one part are the same memory
 pub shows_unique : (file r q : Bor (List ℕ)) (p : Part) → Shows file r p → Shows file q p → (r.ref_ptr.0 ≡ q.ref_ptr.0) × (r.ref_ptr.1 ≡ q.ref_ptr.1) × (r.now ≡ q.now)

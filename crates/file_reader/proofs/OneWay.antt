@@ -10,7 +10,7 @@ use Rattle.file_text.proofs.LinesLaw.{one_way}
 use Rattle.file_kinds.specs.Banner.{first_line}
 use Rattle.file_kinds.specs.Kinds.{head_line}
 use Rattle.file_kinds.specs.OneLine.{PassedLine, SizeLine}
-use Rattle.file_kinds.specs.declared.FirstLine.TheVariants.{Banner}
+use Rattle.std.specs.Prelude.{Some as Banner}
 use Rattle.file_kinds.specs.declared.HeadLine.TheVariants.{Size, Skip as skip_head}
 use Rattle.file_kinds.proofs.Opening.{first_mixed}
 use Rattle.file_kinds.proofs.LineWords.{passed_line, size_line}

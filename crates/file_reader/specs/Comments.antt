@@ -2,14 +2,14 @@
 -- parts of a file, what it is to show one, and where the k-th `%` line after the first is. The banner is no comment,
 -- and an accepted file has no `%` line behind its size line (refusal 6; `late_comment` in proofs/Late.antt), so these
 -- are the comment lines. What comment lookup promises is `CommentOfFile` in Promises.antt.
-use Rattle.std.specs.Prelude.{ℕ, ◌+◌, ◌-◌, ◌≡◌, List, [], ◌∷◌, true, false, cond, length, take, drop, ltb, eqb}
+use Rattle.std.specs.Prelude.{ℕ, ◌+◌, ◌-◌, ◌≡◌, List, [], ◌∷◌, true, false, cond, length, take, drop, ltb, eqb, Result, Ok, Err}
 use Rattle.std.specs.Borrow.{Bor}
 use Rattle.refusals.specs.Answers.{Answer, refused}
+use Rattle.refusals.specs.declared.Refusal.{Refusal}
 use Rattle.refusals.specs.declared.Refusal.TheVariants.{NoSuchComment}
 use Rattle.file_text.specs.Lines.{Line}
 use Rattle.file_kinds.specs.Kinds.{is_comment}
 use Rattle.file_reader.specs.declared.Found.{Found}
-use Rattle.file_reader.specs.declared.Found.TheVariants.{At, Refused}
 
 -- a part of a file: its first byte's place, and its length
 pub record Part : Type 0 where
@@ -28,9 +28,9 @@ abbrev pub no_part : Part
 no_part = record { start = 0; len = 0 }
 
 -- how the code's answer reads
-abbrev pub found : Found → Answer Part
-found (At start len) = record { refusal = 0; value = record { start = start; len = len } }
-found (Refused why) = refused why no_part
+abbrev pub found : Result Found Refusal → Answer Part
+found (Ok place) = record { refusal = 0; value = record { start = place.start; len = place.len } }
+found (Err why) = refused why no_part
 
 abbrev pub no_comment : Answer Part
 no_comment = refused NoSuchComment no_part
@@ -44,7 +44,7 @@ comment_from k at (l ∷ ls) =
       | true ↦
           elim (ltb 1 k) [
             | true ↦ comment_from (k - 1) (at + l.size) ls
-            | false ↦ cond (eqb k 1) (found (At at (length l.text))) no_comment
+            | false ↦ cond (eqb k 1) (found (Ok (record { start = at; len = length l.text }))) no_comment
           ]
       | false ↦ comment_from k (at + l.size) ls
     ]

@@ -4,7 +4,7 @@
 -- Each of them can be met for every file and leaves one answer: `table_of_file`, `table_of_file_unique` and so on in proofs/Promising.antt, where a law
 -- for each field reads it out; examples of every refusal are in proofs/Examples.antt. How the code's answers read: `made` in table/specs/Tables, `recording`
 -- here, `found` in Comments.antt.
-use Rattle.std.specs.Prelude.{ℕ, ◌-◌, ◌≤◌, ◌≡◌, ◌↔◌, Bool, true, false, ℤ, nat_abs, length, get_or, take, drop}
+use Rattle.std.specs.Prelude.{ℕ, ◌-◌, ◌≤◌, ◌≡◌, ◌↔◌, Bool, true, false, ℤ, nat_abs, length, get_or, take, drop, Result, Ok, Err}
 use mathlib.Core.List.{List, [], ◌∷◌, Memᴰ}
 use Rattle.std.specs.Borrow.{Bor}
 use Rattle.table.specs.Pairs.{Has}
@@ -13,7 +13,7 @@ use Rattle.table.specs.declared.Table.{Table}
 use Rattle.recorded.specs.Tests.{LegalTest, blank_test}
 use Rattle.recorded.specs.declared.Kind.TheVariants.{Integer}
 use Rattle.recorded.specs.declared.Test.{Test}
-use Rattle.refusals.specs.Answers.{Answer, refused, verdict}
+use Rattle.refusals.specs.Answers.{Answer, refused}
 use Rattle.refusals.specs.declared.Refusal.{Refusal}
 use Rattle.refusals.specs.declared.Refusal.TheVariants.{CutoffRange}
 use Rattle.file_text.specs.Texts.{Text}
@@ -47,12 +47,13 @@ pub record TestAndTable : Type 0 where
 abbrev pub blank_both : TestAndTable
 blank_both = record { test = blank_test; table = blank_table }
 
--- how the code's answer reads, and the answer of a refusal
-abbrev pub recording : Recording → Answer TestAndTable
-recording r = record { refusal = verdict r.verdict; value = record { test = r.test; table = r.table } }
-
+-- the answer of a refusal, and how the code's answer reads
 abbrev pub refused_both : Refusal → Answer TestAndTable
 refused_both why = refused why blank_both
+
+abbrev pub recording : Result Recording Refusal → Answer TestAndTable
+recording (Ok r) = record { refusal = 0; value = record { test = r.test; table = r.table } }
+recording (Err why) = refused_both why
 
 -- "a cutoff from 1 to 1,000,000"
 abbrev pub IsCutoff : ℕ → Type 0

@@ -8,19 +8,19 @@
 
 ghost use Rattle.std.specs.Prelude.{◌≡◌, ◌≤◌, ◌+◌, length, drop};
 ghost use Rattle.table.specs.Tables.{no_rows, made};
-ghost use Rattle.recorded.specs.Tests.{no_readings, blank_test};
+ghost use Rattle.recorded.specs.Tests.{no_readings};
 ghost use Rattle.file_text.specs.Lines.{lines};
-ghost use Rattle.file_reader.specs.private.Reading.{accepted, refused_file, with_case, read_entries, read_head, read_recorded};
-ghost use Rattle.file_reader.specs.Promises.{TableOfFile, TestOfFile, recording, refused_both, LineOfFile, CommentOfFile, ShownComment};
+ghost use Rattle.file_reader.specs.private.Reading.{refused_file, with_case, read_entries, read_head, read_recorded};
+ghost use Rattle.file_reader.specs.Promises.{TableOfFile, TestOfFile, recording, LineOfFile, CommentOfFile, ShownComment};
 ghost use Rattle.file_reader.specs.Comments.{found, comment_from};
 ghost use Rattle.file_reader.specs.private.Gathering.{Gathers};
 ghost use Rattle.file_reader.specs.private.Stopping.{stop_entries, stop_head, stop_line};
 
-use file_kinds::{EntryLine, FirstLine, HeadLine};
+use file_kinds::{EntryLine, HeadLine};
 use recorded::{Kind, Test};
-use refusals::{Refusal, Verdict};
+use refusals::Refusal;
 use table;
-use table::{Case, Gauge, Made, Table};
+use table::{Case, Gauge, Table};
 
 // 01: "a file at most 65,536" bytes.
 const MOST_FILE: usize = 65536;
@@ -28,68 +28,59 @@ const MOST_FILE: usize = 65536;
 // 02: "a cutoff from 1 to 1,000,000".
 const MOST_CUTOFF: u64 = 1_000_000;
 
-// A recorded test and its table at a cutoff, or a refusal with both blank.
-#[derive(Clone, Copy)]
+// A recorded test and its table at a cutoff.
+#[derive(Clone, Copy, PartialEq, Eq)]
 pub struct Recording {
-    pub verdict: Verdict,
     pub test: Test,
     pub table: Table,
 }
 
-// Where a comment line is in the file, or why it is not shown.
-#[derive(Clone, Copy)]
-pub enum Found {
-    At { start: usize, len: usize },
-    Refused(Refusal),
+// Where a comment line is in the file.
+#[derive(Clone, Copy, Debug, PartialEq, Eq)]
+pub struct Found {
+    pub start: usize,
+    pub len: usize,
 }
 
-// A test, or a refusal with the blank test, and the number of the line that failed.
+// Why a file is refused, and the number of the line that failed.
 #[derive(Clone, Copy)]
-struct Gathered {
-    pub verdict: Verdict,
-    pub test: Test,
+struct Failed {
+    pub why: Refusal,
     pub line: u64,
 }
 
-// The table that a file of pairs holds, or its refusal with the blank table. An integer file is refused with 2.
-pub fn read(file: &[u8]) -> Made
-    ensures { TableOfFile file.now (made result) }
-{
-    let answer = read_recorded(file, false);
-    let verdict = answer.verdict;
-    let test = answer.test;
-    let rows = test.entries;
-    let table = Table {
-        gauges: test.gauges,
-        cases: test.cases,
-        rows: rows,
-    };
-    Made {
-        verdict: verdict,
-        table: table,
+impl From<Failed> for Refusal {
+    ghost from_gives = { λ failed why. why ≡ failed.why };
+
+    fn from(failed: Failed) -> Refusal {
+        failed.why
     }
 }
 
-// The test that a file of either kind holds, with its table at a cutoff; 21, or the file's refusal, with both blank.
-pub fn read_test(file: &[u8], cutoff: u64) -> Recording
+// The table that a file of pairs holds, or its refusal. An integer file is refused with 2.
+pub fn read(file: &[u8]) -> Result<Table, Refusal>
+    ensures { TableOfFile file.now (made result) }
+{
+    let test = read_recorded(file, false)?;
+    let rows = test.entries;
+    Ok(Table {
+        gauges: test.gauges,
+        cases: test.cases,
+        rows,
+    })
+}
+
+// The test that a file of either kind holds, with its table at a cutoff; 21, or the file's refusal.
+pub fn read_test(file: &[u8], cutoff: u64) -> Result<Recording, Refusal>
     ensures { TestOfFile file.now cutoff (recording result) }
 {
     if !table::in_range(cutoff, MOST_CUTOFF) {
-        return refuse_both(Refusal::CutoffRange);
+        return Err(Refusal::CutoffRange);
     }
-    let answer = read_recorded(file, true);
-    let verdict = answer.verdict;
-    let test = answer.test;
-    if let Verdict::Refused(why) = verdict {
-        return refuse_both(why);
-    }
-    let made = recorded::table_at(test, cutoff);
-    let table = made.table;
-    Recording {
-        verdict: Verdict::Accepted,
-        test: test,
-        table: table,
-    }
+    let test = read_recorded(file, true)?;
+    // a test that was read is legal and the cutoff is in range, so that nothing is refused
+    let table = recorded::table_at(test, cutoff).unwrap();
+    Ok(Recording { test, table })
 }
 
 // The number of the line that decides, from 1, for the reader with a cutoff, which takes integer files too, or for
@@ -98,8 +89,10 @@ pub fn read_test(file: &[u8], cutoff: u64) -> Recording
 pub fn locate(file: &[u8], integers: bool) -> u64
     ensures { LineOfFile integers file.now result }
 {
-    let answer = read_recorded(file, integers);
-    answer.line
+    match read_recorded(file, integers) {
+        Ok(_) => 0,
+        Err(failed) => failed.line,
+    }
 }
 
 // The `k`-th comment line of a file, from 1, without its end; the empty part where `comment_at` refuses. No comment
@@ -107,30 +100,23 @@ pub fn locate(file: &[u8], integers: bool) -> u64
 pub fn comment(file: &[u8], k: u64) -> &[u8]
     ensures { ShownComment file.entry k result }
 {
-    let place = comment_at(file, k);
-    let Found::At { start, len } = place else {
+    let Ok(place) = comment_at(file, k) else {
         return &file[..0];
     };
-    &file[start..start + len]
+    &file[place.start..place.start + place.len]
 }
 
 // Where the `k`-th comment line of a file is, or the refusal of the reader of either kind, or 17.
-pub fn comment_at(file: &[u8], k: u64) -> Found
+pub fn comment_at(file: &[u8], k: u64) -> Result<Found, Refusal>
     ensures { CommentOfFile file.now k (found result) }
 {
-    let answer = read_recorded(file, true);
-    let verdict = answer.verdict;
-    let start = 0;
-    let span = file_text::line_at(file, start);
-    let next = span.next;
-    match verdict {
-        Verdict::Refused(why) => Found::Refused(why),
-        Verdict::Accepted => find_comment(file, next, k),
-    }
+    read_recorded(file, true)?;
+    let span = file_text::line_at(file, 0);
+    find_comment(file, span.next, k)
 }
 
 // A file whose first line is the banner of a file of pairs or, where `integers` says so, of an integer file.
-fn read_recorded(file: &[u8], integers: bool) -> Gathered
+fn read_recorded(file: &[u8], integers: bool) -> Result<Test, Failed>
     ensures { Gathers (read_recorded integers file.now) (stop_line integers file.now) result }
 {
     if MOST_FILE < file.len() {
@@ -140,20 +126,20 @@ fn read_recorded(file: &[u8], integers: bool) -> Gathered
     let span = file_text::line_at(file, start);
     let end = span.end;
     let next = span.next;
-    let first = file_kinds::first_line(&file[start..end], integers);
-    let FirstLine::Banner(kind) = first else {
+    let Some(kind) = file_kinds::first_line(&file[start..end], integers) else {
         return refuse(Refusal::NotTheBanner, 1);
     };
     read_head(file, next, kind, 2)
 }
 
 // The lines from a place on, of which the size line is still to come; `number` is the number of the line there.
-fn read_head(file: &[u8], from: usize, kind: Kind, number: u64) -> Gathered
+fn read_head(file: &[u8], from: usize, kind: Kind, number: u64) -> Result<Test, Failed>
     requires { (from ≤ length file.now) × (length file.now ≤ 65536) × (number ≤ from + 2) }
     ensures { Gathers (read_head kind (lines (drop from file.now))) (stop_head kind number (lines (drop from file.now))) result }
 {
     let mut at = from;
     let mut line = number;
+    // By the place and not by an iterator: where the next line starts is known when this one is read, and the laws go by the place.
     while at < file.len() {
         let span = file_text::line_at(file, at);
         let end = span.end;
@@ -185,7 +171,7 @@ fn read_entries(
     cases: Case,
     count: u64,
     number: u64,
-) -> Gathered
+) -> Result<Test, Failed>
     requires { (from ≤ length file.now) × (gauges.0 ≤ 64) × (cases.0 ≤ 64) × (length file.now ≤ 65536) × (number ≤ from + 2) }
     ensures { Gathers (read_entries kind gauges cases count no_rows no_readings (lines (drop from file.now)))
         (stop_entries kind gauges cases count no_rows number (lines (drop from file.now))) result }
@@ -195,6 +181,7 @@ fn read_entries(
     let mut left = count;
     let mut at = from;
     let mut line = number;
+    // By the place and not by an iterator: where the next line starts is known when this one is read, and the laws go by the place.
     while at < file.len() {
         let span = file_text::line_at(file, at);
         let end = span.end;
@@ -230,7 +217,13 @@ fn read_entries(
     if left != 0 {
         return refuse(Refusal::PairCount, line);
     }
-    accept(kind, gauges, cases, rows, values)
+    Ok(Test {
+        kind,
+        gauges: gauges.0,
+        cases: cases.0,
+        entries: rows,
+        readings: values,
+    })
 }
 
 // The row with the bit of a case (01: "bit c-1").
@@ -241,69 +234,21 @@ fn with_case(row: u64, c: Case) -> u64
     row | (1u64 << (c.0 - 1))
 }
 
-// A test that was read, with its last gauge and its last case.
-fn accept(kind: Kind, gauges: Gauge, cases: Case, rows: [u64; 64], values: [i32; 4096]) -> Gathered
-    ensures { Gathers (accepted (record { kind = kind; gauges = gauges.0; cases = cases.0; entries = rows; readings = values })) 0 result }
-{
-    let test = Test {
-        kind: kind,
-        gauges: gauges.0,
-        cases: cases.0,
-        entries: rows,
-        readings: values,
-    };
-    Gathered {
-        verdict: Verdict::Accepted,
-        test: test,
-        line: 0,
-    }
-}
-
-// A refusal, with the blank test and the line that failed.
-fn refuse(why: Refusal, line: u64) -> Gathered
+// A refusal, with the line that failed.
+fn refuse(why: Refusal, line: u64) -> Result<Test, Failed>
     ensures { Gathers (refused_file why) line result }
 {
-    Gathered {
-        verdict: Verdict::Refused(why),
-        test: blank(),
-        line: line,
-    }
-}
-
-// A refusal, with the blank test and the blank table.
-fn refuse_both(why: Refusal) -> Recording
-    ensures { recording result ≡ refused_both why }
-{
-    let test = blank();
-    Recording {
-        verdict: Verdict::Refused(why),
-        test: test,
-        table: table::blank_table(),
-    }
-}
-
-// The test beside a refusal.
-fn blank() -> Test
-    ensures { result ≡ blank_test }
-{
-    let entries = [0u64; 64];
-    let values = [0i32; 4096];
-    Test {
-        kind: Kind::Pattern,
-        gauges: 0,
-        cases: 0,
-        entries: entries,
-        readings: values,
-    }
+    Err(Failed { why, line })
 }
 
 // The `k`-th comment line from a place on.
-fn find_comment(file: &[u8], from: usize, k: u64) -> Found
+fn find_comment(file: &[u8], from: usize, k: u64) -> Result<Found, Refusal>
     requires { from ≤ length file.now }
     ensures { found result ≡ comment_from k from (lines (drop from file.now)) }
 {
     let mut at = from;
     let mut left = k;
+    // By the place and not by an iterator: where the next line starts is known when this one is read, and the laws go by the place.
     while at < file.len() {
         let span = file_text::line_at(file, at);
         let end = span.end;
@@ -314,16 +259,16 @@ fn find_comment(file: &[u8], from: usize, k: u64) -> Found
                 at = next;
             } else {
                 if left == 1 {
-                    return Found::At {
+                    return Ok(Found {
                         start: at,
                         len: end - at,
-                    };
+                    });
                 }
-                return Found::Refused(Refusal::NoSuchComment);
+                return Err(Refusal::NoSuchComment);
             }
         } else {
             at = next;
         }
     }
-    Found::Refused(Refusal::NoSuchComment)
+    Err(Refusal::NoSuchComment)
 }

@@ -131,7 +131,7 @@ pub lines_first_of : (s : List ℕ) → 0 < length s → lines s ≡ record { te
 lines_first_of [] h = absurd (omega arith)
 lines_first_of (b ∷ s) h = lines_first b s
 
-pub end_le : (s : List ℕ) → end_size s ≤ length s
+end_le : (s : List ℕ) → end_size s ≤ length s
 end_le [] = omega arith
 end_le (b ∷ s) = go (eqb b 10) s
   where

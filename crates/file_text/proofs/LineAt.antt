@@ -1,59 +1,16 @@
--- The line at a place of a file. In order: its end, by the bytes that the code tests; where the code's loop finds the line; and for
+-- The line at a place of a file. In order: where the code's loop finds the line; and for
 -- readers that go from line to line, its bounds (`inside`) and the lines from there on (`lines-at`).
-use Prim.Native.Nat.{ℕ, suc, ◌+◌, ◌-◌, ◌≤◌, ◌<◌}
-use mathlib.Core.Path.{◌≡◌, ap, sym, ◌∙◌}
+use Prim.Native.Nat.{ℕ, ◌+◌, ◌-◌, ◌≤◌, ◌<◌, max}
+use mathlib.Core.Path.{◌≡◌, refl, ap, sym, ◌∙◌}
 use mathlib.Core.List.{List, ◌∷◌}
 use native.Mathlib.Omega.{arith}
-use native.Mathlib.Numerals.{add-one}
-use lib.ListN.{length, get_or, take, drop, drop_of_length-le, length-drop}
-use lib.Seq.{drop-cons, drop-drop}
-use borrow.Author.Tests.{ne_eqb, eq-eqb}
+use native.Mathlib.Decide.{dec_lt}
+use lib.ListN.{length, take, drop, drop_of_length-le, length-drop}
+use lib.Seq.{drop-drop}
 use Rattle.file_text.specs.Lines.{lines, span_at}
 use Rattle.file_text.specs.private.ScanSteps.{end_size}
 use Rattle.file_text.specs.declared.Span.{Span}
-use Rattle.file_text.proofs.FirstLine.{
-  line_len,
-  line_size,
-  lines_first_of,
-  len_end_of,
-  len_more_of,
-  size_end_of,
-  size_more_of,
-  end_le,
-  size_le,
-  len_le_size,
-  size_pos,
-  span_is,
-}
-
--- the end of line at a place, by the bytes there
-module _ (f : List ℕ) (at : ℕ) where
-  pub end_past : length f ≤ at → 0 ≡ end_size (drop at f)
-  end_past h = rw (drop_of_length-le f h)
-
-  module _ (h : at < length f) where
-    pub end-lf : get_or f at 0 ≡ 10 → 1 ≡ end_size (drop at f)
-    end-lf a = rw (drop-cons f at 0 h) (rw (eq-eqb (get_or f at 0) 10 a))
-
-    pub end-other : (get_or f at 0 ≡ 10 → ⊥) → (get_or f at 0 ≡ 13 → ⊥) → 0 ≡ end_size (drop at f)
-    end-other a b = rw (drop-cons f at 0 h) (rw (ne_eqb (get_or f at 0) 10 a, ne_eqb (get_or f at 0) 13 b))
-
-    pub end-last : (get_or f at 0 ≡ 10 → ⊥) → get_or f at 0 ≡ 13 → length f ≤ at + 1 → 0 ≡ end_size (drop at f)
-    end-last a b l =
-        let l' : length f ≤ suc at = omega arith in
-        rw (drop-cons f at 0 h) (rw (ne_eqb (get_or f at 0) 10 a, eq-eqb (get_or f at 0) 13 b, drop_of_length-le f l'))
-
-    pub end-cr : (get_or f at 0 ≡ 10 → ⊥) → get_or f at 0 ≡ 13 → at + 1 < length f → (get_or f (at + 1) 0 ≡ 10 → ⊥) → 0 ≡ end_size (drop at f)
-    end-cr a b l d =
-        let l' : suc at < length f = omega arith in
-        let d' : get_or f (suc at) 0 ≡ 10 → ⊥ = rw add-one at d in
-        rw (drop-cons f at 0 h) (rw (ne_eqb (get_or f at 0) 10 a, eq-eqb (get_or f at 0) 13 b, drop-cons f (suc at) 0 l') (rw (ne_eqb (get_or f (suc at) 0) 10 d')))
-
-    pub end-crlf : (get_or f at 0 ≡ 10 → ⊥) → get_or f at 0 ≡ 13 → at + 1 < length f → get_or f (at + 1) 0 ≡ 10 → 2 ≡ end_size (drop at f)
-    end-crlf a b l d =
-        let l' : suc at < length f = omega arith in
-        let d' : get_or f (suc at) 0 ≡ 10 = rw add-one at d in
-        rw (drop-cons f at 0 h) (rw (ne_eqb (get_or f at 0) 10 a, eq-eqb (get_or f at 0) 13 b, drop-cons f (suc at) 0 l') (rw (eq-eqb (get_or f (suc at) 0) 10 d')))
+use Rattle.file_text.proofs.FirstLine.{line_len, line_size, lines_first_of, len_end_of, len_more_of, size_end_of, size_more_of, size_le, len_le_size, size_pos, span_is}
 
 -- the line at a place: its end is there, it goes on, or the file ends
 span_of : {a b c d : ℕ} → a ≡ c → b ≡ d → ◌≡◌ {A = Span} (record { end = a; next = b }) (record { end = c; next = d })
@@ -61,7 +18,7 @@ span_of p q = λ i. record { end = p i; next = q i }
 
 -- S is the line that the loop looks for
 module _ (f : List ℕ) (at : ℕ) (S : Span) where
-  pub span_past : span_at f at ≡ S → length f ≤ at → record { end = at; next = at } ≡ S
+  span_past : span_at f at ≡ S → length f ≤ at → record { end = at; next = at } ≡ S
   unfolding line_len line_size
   span_past q h = rw (drop_of_length-le f h) (span_of (omega arith) (omega arith)) ∙ (sym (span_is f at) ∙ q)
 
@@ -77,8 +34,14 @@ module _ (f : List ℕ) (at : ℕ) (S : Span) where
         ∙ rw (← drop-drop 1 at f) (span_of (omega (arith, len_more_of (drop at f) n (omega arith))) (omega (arith, size_more_of (drop at f) n (omega arith))))
         ∙ (sym (span_is f at) ∙ q)
 
-pub end_fits : (f : List ℕ) (at e : ℕ) → e ≡ end_size (drop at f) → at < length f → at + e ≤ length f
-end_fits f at e p h = omega (arith, end_le (drop at f), length-drop at f)
+-- the file ends: ahead of the place, or behind it and the loop has come to it
+pub span_last : (f : List ℕ) (at i : ℕ) → span_at f i ≡ span_at f at → length f ≤ i → (at ≤ length f → i ≤ length f) → (e : ℕ) → e ≡ max at (length f)
+    → record { end = e; next = e } ≡ span_at f at
+span_last f at i q h k e m = go (dec_lt at (length f))
+  where
+    go : Dec (at < length f) → record { end = e; next = e } ≡ span_at f at
+    go (yes l) = let n : e ≡ i = omega arith in rw n (span_past f i (span_at f at) q h)
+    go (no l) = let n : e ≡ at = omega arith in rw n (span_past f at (span_at f at) refl (omega arith))
 
 -- the bounds of a line
 pub record Inside (f : List ℕ) (at end next : ℕ) : Type 0 where

@@ -1,5 +1,7 @@
 -- How the answer of `fields_of` reads: each case (`fields_say_lem`), a line of each kind (`fields_said`), and that no two answers read alike
 -- (`fields_say_injective`), so that the reading determines the answer (`fields_are`).
+--
+-- Pins, which nothing else cites: `fields_are`.
 use Prim.Native.Nat.{ℕ}
 use mathlib.Core.Path.{◌≡◌, refl}
 use mathlib.Core.List.{List, [], ◌∷◌}

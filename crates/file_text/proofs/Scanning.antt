@@ -1,8 +1,7 @@
 -- The fields of a line from a place on, as the code tests its bytes. In order: one byte of the line, by its kind; what the bytes of a
--- turn make of the line from there on; the bound of a number of at most nine digits; what each answer of the field reader says; and
--- the fields of the whole line by the fields found so far.
+-- turn make of the line from there on; and the bound of a number of at most nine digits.
 use Prim.Native.Nat.{ℕ, zero, suc, ◌+◌, ◌-◌, ◌*◌, ◌^◌, ◌≤◌, ◌<◌}
-use mathlib.Core.Path.{◌≡◌, refl, ap, sym, ◌∙◌, subst}
+use mathlib.Core.Path.{◌≡◌, refl, ap, sym, ◌∙◌}
 use mathlib.Core.List.{List, [], ◌∷◌}
 use mathlib.Core.Option.{Option, some, none}
 use mathlib.Core.Bool.{Bool, true, false, ◌&&◌, cond}
@@ -10,15 +9,12 @@ use native.Mathlib.Omega.{arith}
 use native.Mathlib.Numerals.{add-one}
 use native.Mathlib.Nat.{zero-add, suc-add}
 use lib.ListN.{length, get_or, drop, drop_of_length-le}
-use lib.Seq.{drop-cons}
+use lib.Seq.{drop-cons, drop-length}
 use lib.Dec.{ltb, leb}
-use borrow.Author.Tests.{ne_eqb, eq-eqb, lt-ltb, le-leb, lt-leb, leb-true}
+use borrow.Author.Tests.{lt-ltb, leb-true}
 use Rattle.basics.proofs.Clash.{clash}
-use Rattle.file_text.specs.Fields.{scan, close, is_blank, is_digit, digit_of, shape, fields}
-use Rattle.file_text.specs.private.ScanSteps.{rest, Found, FieldSays, FieldAt}
-use Rattle.file_text.specs.declared.Fields.TheVariants.{Blank, Two, Three, Other}
-use Rattle.file_text.specs.declared.Field.{Field}
-use Rattle.file_text.specs.declared.Field.TheVariants.{Number, End, Bad}
+use Rattle.file_text.specs.Fields.{scan, close, is_blank, is_digit, digit_of}
+use Rattle.file_text.specs.private.ScanSteps.{rest}
 
 scan_blank : (k v b : ℕ) (s : List ℕ) → is_blank b ≡ true → scan k v (b ∷ s) ≡ close k v (scan 0 0 s)
 unfolding scan
@@ -31,25 +27,6 @@ scan_step k v b s h d l = rw (h, d, lt-ltb k 9 l, scan)
 scan_bad : (k v b : ℕ) (s : List ℕ) → is_blank b ≡ false → (is_digit b && ltb k 9) ≡ false → scan k v (b ∷ s) ≡ none
 unfolding scan
 scan_bad k v b s h d = rw (h, d, scan)
-
--- a byte, as the code tests it
-pub blank_space : (b : ℕ) → b ≡ 32 → true ≡ is_blank b
-blank_space b h = rw (eq-eqb b 32 h)
-
-pub blank_tab : (b : ℕ) → (b ≡ 32 → ⊥) → b ≡ 9 → true ≡ is_blank b
-blank_tab b g h = rw (ne_eqb b 32 g, eq-eqb b 9 h)
-
-pub blank_none : (b : ℕ) → (b ≡ 32 → ⊥) → (b ≡ 9 → ⊥) → false ≡ is_blank b
-blank_none b g h = rw (ne_eqb b 32 g, ne_eqb b 9 h)
-
-pub digit_low : (b : ℕ) → b < 48 → 10 ≡ digit_of b
-digit_low b h = rw (lt-leb 48 b h)
-
-pub digit_high : (b : ℕ) → 48 ≤ b → 57 < b → 10 ≡ digit_of b
-digit_high b g h = rw (le-leb 48 b g, lt-leb b 57 h)
-
-pub digit_in : (b : ℕ) → 48 ≤ b → b ≤ 57 → b - 48 ≡ digit_of b
-digit_in b g h = rw (le-leb 48 b g, le-leb b 57 h)
 
 -- a byte with a digit's value is that digit
 pub digit_is : (b d : ℕ) → d ≡ digit_of b → d ≤ 9 → (is_digit b ≡ true) × (d ≡ b - 48)
@@ -122,9 +99,9 @@ no_digits (suc k) v h l = absurd (omega arith)
 
 module _ (l : List ℕ) (i k v : ℕ) (S : Option (List ℕ)) (q : scan k v (drop i l) ≡ S) where
   -- the line ends after a field, or after blanks alone
-  pub last_at : length l ≤ i → 0 < k → S ≡ close 1 v (rest l i)
+  pub last_at : length l ≤ i → 0 < k → S ≡ close 1 v (rest l (length l))
   unfolding scan
-  last_at h p = scan_end_at l i k v S q h ∙ close_pos k v (some []) p ∙ rw (drop_of_length-le l h)
+  last_at h p = scan_end_at l i k v S q h ∙ close_pos k v (some []) p ∙ rw (drop-length l)
 
   pub none_at : length l ≤ i → k ≤ 0 → S ≡ some []
   none_at h p = scan_end_at l i k v S q h ∙ ap (λ (n : ℕ). close n v (some [])) k0
@@ -141,59 +118,3 @@ module _ (l : List ℕ) (i k v : ℕ) (S : Option (List ℕ)) (q : scan k v (dro
         let a : k ≡ 0 = omega arith in
         let b : v ≡ 0 = no_digits k v z w in
         rw (a, b) (sym (rw a at (scan-blank-at l i k v S q h t e p)))
-
--- what a known answer says
-pub field_number : {l : List ℕ} {at : ℕ} {x : Field} {v next : ℕ} → FieldAt l at x → x ≡ Number v next → Found l at v next
-field_number {l} {at} h e = subst (FieldSays l at) e h.says
-
-field_end : {l : List ℕ} {at : ℕ} {x : Field} → FieldAt l at x → x ≡ End → rest l at ≡ some []
-field_end {l} {at} h e = subst (FieldSays l at) e h.says
-
-field_bad : {l : List ℕ} {at : ℕ} {x : Field} → FieldAt l at x → x ≡ Bad → rest l at ≡ none
-field_bad {l} {at} h e = subst (FieldSays l at) e h.says
-
--- no number: the line is at its end, or malformed
-unfoldable pub NoNumber : Field → Type 0
-NoNumber (Number v next) = ⊥
-NoNumber End = Unit {0}
-NoNumber Bad = Unit {0}
-
--- no end: a number or malformed
-unfoldable pub NoEnd : Field → Type 0
-NoEnd (Number v next) = Unit {0}
-NoEnd End = ⊥
-NoEnd Bad = Unit {0}
-
--- the answer by what was found so far
-pub fields_blank : {l : List ℕ} {x : Field} → FieldAt l 0 x → x ≡ End → Blank ≡ fields l
-fields_blank h e = rw (field_end h e)
-
-pub fields_none : {l : List ℕ} {x : Field} → FieldAt l 0 x → x ≡ Bad → Other ≡ fields l
-fields_none h e = rw (field_bad h e)
-
-pub fields_one : {l : List ℕ} {a p : ℕ} {x : Field} → Found l 0 a p → FieldAt l p x → NoNumber x → Other ≡ fields l
-unfolding NoNumber
-fields_one {x = Number v next} f h n = absurd n
-fields_one {x = End} f h n = rw (f.equation, h.says)
-fields_one {x = Bad} f h n = rw (f.equation, h.says)
-
-pub fields_two : {l : List ℕ} {a p b q : ℕ} {x : Field} → Found l 0 a p → Found l p b q → FieldAt l q x → x ≡ End → Two a b ≡ fields l
-fields_two f g h e = rw (f.equation, g.equation, field_end h e)
-
-pub fields_two_bad : {l : List ℕ} {a p b q : ℕ} {x : Field} → Found l 0 a p → Found l p b q → FieldAt l q x → x ≡ Bad → Other ≡ fields l
-fields_two_bad f g h e = rw (f.equation, g.equation, field_bad h e)
-
-pub fields_three : {l : List ℕ} {a p b q c r : ℕ} {x : Field} → Found l 0 a p → Found l p b q → Found l q c r → FieldAt l r x → x ≡ End
-    → Three a b c ≡ fields l
-fields_three f g i h e = rw (f.equation, g.equation, i.equation, field_end h e)
-
-pub fields_more : {l : List ℕ} {a p b q c r : ℕ} {x : Field} → Found l 0 a p → Found l p b q → Found l q c r → FieldAt l r x → NoEnd x
-    → Other ≡ fields l
-unfolding NoEnd
-fields_more {l} {a} {p} {b} {q} {c} {r} {x = Number v next} f g i h n = rw (f.equation, g.equation, i.equation, h.says.equation) (go (rest l next))
-  where
-    go : (o : Option (List ℕ)) → Other ≡ shape (close 1 a (close 1 b (close 1 c (close 1 v o))))
-    go none = refl
-    go (some fs) = refl
-fields_more {x = End} f g i h n = absurd n
-fields_more {x = Bad} f g i h n = rw (f.equation, g.equation, i.equation, h.says)

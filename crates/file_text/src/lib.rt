@@ -3,7 +3,7 @@
 // Every public function takes any bytes and any place and refuses nothing; none changes lent memory.
 #![tactic(auto)]
 
-ghost use Rattle.std.specs.Prelude.{◌≡◌, map, ◌≤◌, length, drop};
+ghost use Rattle.std.specs.Prelude.{◌≡◌, map, ◌≤◌, length};
 ghost use Rattle.file_text.specs.Lines.{span_at};
 ghost use Rattle.file_text.specs.Fields.{is_blank, digit_of, fields, fields_say};
 ghost use Rattle.file_text.specs.Bytes.{same_bytes, small as small_of};
@@ -12,7 +12,7 @@ ghost use Rattle.file_text.specs.private.ScanSteps.{end_size, FieldAt};
 // The digits that a field has at most (01: "A field is 1 to 9 digits").
 const MOST_DIGITS: u64 = 9;
 
-// What `digit_of` gives for a byte that is no digit.
+// What `digit_of` gives for a byte that is no digit: a number and no `Option`, as the definition that it promises has it.
 const NO_DIGIT: u64 = 10;
 
 // A line of a file: where its text ends, and where the next line starts.
@@ -43,18 +43,17 @@ enum Field {
 pub fn line_at(file: &[u8], at: usize) -> Span
     ensures { result ≡ span_at file.now at }
 {
-    let mut i = at;
-    while i < file.len() {
-        let e = end_at(file, i);
+    for i in at..file.len() {
+        let e = end_at(&file[i..]);
         if 0 < e {
             return Span {
                 end: i,
                 next: i + e,
             };
         }
-        i += 1;
     }
-    Span { end: i, next: i }
+    let end = at.max(file.len());
+    Span { end, next: end }
 }
 
 // The fields of a line.
@@ -90,32 +89,21 @@ pub fn fields_of(line: &[u8]) -> Fields
 pub fn same_bytes(a: &[u8], b: &[u8]) -> bool
     ensures { result ≡ same_bytes a.now b.now }
 {
-    if a.len() != b.len() {
-        return false;
-    }
-    let mut i = 0;
-    while i < a.len() {
-        if a[i] != b[i] {
-            return false;
-        }
-        i += 1;
-    }
-    true
+    a == b
 }
 
 // Whether a text, its capitals taken as small letters, is another one.
+#[tactic(auto, using(crate::proofs::SmallLetters::small_lengths, crate::proofs::SmallLetters::small_end, crate::proofs::SmallLetters::small_differ, crate::proofs::SmallLetters::small_more))]
 pub fn same_small(a: &[u8], b: &[u8]) -> bool
     ensures { result ≡ same_bytes (map small_of a.now) b.now }
 {
-    if b.len() != a.len() {
+    if a.len() != b.len() {
         return false;
     }
-    let mut i = 0;
-    while i < a.len() {
+    for i in 0..a.len() {
         if small(a[i]) != b[i] {
             return false;
         }
-        i += 1;
     }
     true
 }
@@ -124,63 +112,39 @@ pub fn same_small(a: &[u8], b: &[u8]) -> bool
 pub fn is_blank(b: u8) -> bool
     ensures { result ≡ is_blank b }
 {
-    if b == b' ' {
-        return true;
-    }
-    if b == b'\t' {
-        return true;
-    }
-    false
+    b == b' ' || b == b'\t'
 }
 
 // The value of a digit, `NO_DIGIT` for any other byte.
 pub fn digit_of(b: u8) -> u64
     ensures { result ≡ digit_of b }
 {
-    if b < b'0' {
-        return NO_DIGIT;
+    match b {
+        b'0'..=b'9' => (b - b'0') as u64,
+        _ => NO_DIGIT,
     }
-    if b'9' < b {
-        return NO_DIGIT;
-    }
-    (b - b'0') as u64
 }
 
 // A capital letter, A to Z, as the small one; any other byte as it is.
+#[tactic(auto, unfolding(crate::specs::Bytes::small))]
 fn small(b: u8) -> u8
     ensures { result ≡ small_of b }
 {
-    if b < b'A' {
-        return b;
+    match b {
+        b'A'..=b'Z' => b + 32,
+        _ => b,
     }
-    if b'Z' < b {
-        return b;
-    }
-    b + 32
 }
 
-// The bytes of the end of line at a place: 1 for LF, 2 for CR LF, 0 for none. A CR that no LF follows is an ordinary byte.
-fn end_at(file: &[u8], at: usize) -> usize
-    ensures { result ≡ end_size (drop at file.now) }
+// The bytes of the end of line that comes next: 1 for LF, 2 for CR LF, 0 for none. A CR that no LF follows is an ordinary byte.
+fn end_at(rest: &[u8]) -> usize
+    ensures { result ≡ end_size rest.now }
 {
-    let n = file.len();
-    if n <= at {
-        return 0;
+    match rest {
+        [b'\r', b'\n', ..] => 2,
+        [b'\n', ..] => 1,
+        _ => 0,
     }
-    if file[at] == b'\n' {
-        return 1;
-    }
-    if file[at] != b'\r' {
-        return 0;
-    }
-    let next = at + 1;
-    if n <= next {
-        return 0;
-    }
-    if file[next] != b'\n' {
-        return 0;
-    }
-    2
 }
 
 // The first field from a place on: `k` digits of it are read, and `v` is their number.
@@ -188,31 +152,28 @@ fn field_at(line: &[u8], at: usize) -> Field
     requires { at ≤ length line.now }
     ensures { FieldAt line.now at result }
 {
-    let mut i = at;
     let mut k: u64 = 0;
     let mut v: u64 = 0;
-    while i < line.len() {
+    for i in at..line.len() {
         let b = line[i];
         if is_blank(b) {
             if 0 < k {
                 return Field::Number(v, i + 1);
             }
-            i += 1;
-        } else {
-            if k == MOST_DIGITS {
-                return Field::Bad;
-            }
-            let d = digit_of(b);
-            if 9 < d {
-                return Field::Bad;
-            }
-            v = v * 10 + d;
-            k += 1;
-            i += 1;
+            continue;
         }
+        if k == MOST_DIGITS {
+            return Field::Bad;
+        }
+        let d = digit_of(b);
+        if 9 < d {
+            return Field::Bad;
+        }
+        v = v * 10 + d;
+        k += 1;
     }
     if 0 < k {
-        return Field::Number(v, i);
+        return Field::Number(v, line.len());
     }
     Field::End
 }

@@ -20,9 +20,6 @@ pub record Counting (text : GaugeCase → List ℕ) (total : List GaugeCase) (co
   pub pairs : count + length ps ≡ length total
   pub bytes : size + length (lines_of text ps) ≡ length (lines_of text total)
 
-pub counting_start : {text : GaugeCase → List ℕ} {total : List GaugeCase} → Counting text total 0 0 total
-counting_start = record { pairs = omega arith; bytes = omega arith }
-
 pub counting_row : (text : GaugeCase → List ℕ) (gs : Gauge) (rows : List ℕ) (i : ℕ) {total : List GaugeCase} {count size : ℕ} {t : Totals}
     → Counting text total count size (pairs_at gs rows i) → i < gs.0 → gs.0 ≤ length rows → IsTotals text (row_pairs (gauge_of (i + 1)) 64 1 (get_or rows i 0)) t
     → Counting text total (count + t.count) (size + t.size) (pairs_at gs rows (i + 1))

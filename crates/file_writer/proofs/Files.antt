@@ -11,11 +11,12 @@ use borrow.Author.Tests.{ne_eqb, lt-ltb, le-ltb}
 use Rattle.basics.proofs.Clash.{clash}
 use Rattle.table.specs.Tables.{Legal, table_rows}
 use Rattle.table.proofs.Legality.{row-table_rows}
+use Rattle.std.specs.Prelude.{Result}
 use Rattle.refusals.specs.Answers.{number, Answer, refused}
 use Rattle.refusals.specs.declared.Refusal.{Refusal}
 use Rattle.refusals.specs.declared.Refusal.TheVariants.{BufferTooShort}
 use Rattle.table.specs.declared.Table.{Table}
-use Rattle.refusals.proofs.Answering.{number_pos, number_injective, answer-refused, answer_given}
+use Rattle.refusals.proofs.Answering.{number_pos, answered_injective, answer-refused, answer_given}
 use Rattle.recorded.specs.Tests.{listed}
 use Rattle.recorded.specs.declared.Kind.{Kind}
 use Rattle.recorded.specs.declared.Kind.TheVariants.{Pattern, Integer}
@@ -24,8 +25,6 @@ use Rattle.file_kinds.specs.Banner.{banner_of}
 use Rattle.file_writer.specs.Writing.{written, digits, gauge_of, GaugeCase, pairs, lines_of, write_file, room_refusal, room_answer, room_buffer}
 use Rattle.file_writer.specs.TestFiles.{entry_text, file_of, test_file}
 use Rattle.file_writer.specs.private.StoreSteps.{Wrote, pairs_at, file_bytes, IsTotals, Suits}
-use Rattle.file_writer.specs.declared.Written.{Written}
-use Rattle.file_writer.specs.declared.Written.TheVariants.{Length, Refused}
 use Rattle.file_writer.specs.declared.Totals.{Totals}
 use Rattle.file_writer.proofs.PairLines.{rows_wide}
 use Rattle.file_writer.proofs.Sizes.{file_parts}
@@ -139,8 +138,5 @@ unfolding test_file
 pattern_file t e = ap (λ (k : Kind). file_of k t.readings (listed t)) e ∙ table_file t.readings (listed t)
 
 -- no two answers read alike
-pub written_injective : (r q : Written) → written r ≡ written q → r ≡ q
-written_injective (Length n) (Length m) e = ap Length (ap (λ (a : Answer ℕ). a.value) e)
-written_injective (Length n) (Refused y) e = absurd (omega (arith, ap (λ (a : Answer ℕ). a.refusal) e, number_pos y))
-written_injective (Refused x) (Length m) e = absurd (omega (arith, ap (λ (a : Answer ℕ). a.refusal) e, number_pos x))
-written_injective (Refused x) (Refused y) e = ap Refused (number_injective x y (ap (λ (a : Answer ℕ). a.refusal) e))
+pub written_injective : (r q : Result ℕ Refusal) → written r ≡ written q → r ≡ q
+written_injective = answered_injective 0

@@ -16,7 +16,7 @@ use Rattle.table.specs.declared.Gauge.{Gauge}
 use Rattle.table.specs.declared.Case.{Case}
 use Rattle.recorded.specs.Tests.{reading}
 use Rattle.recorded.specs.declared.Kind.{Kind}
-use Rattle.recorded.specs.declared.Kind.TheVariants.{Pattern, Integer}
+use Rattle.recorded.specs.declared.Kind.TheVariants.{Integer}
 use Rattle.file_writer.specs.Writing.{digits, case_of, GaugeCase, row_pairs, pair_text, lines_of}
 use Rattle.file_writer.specs.TestFiles.{reading_text, value_at, entry_text}
 use Rattle.file_writer.specs.private.StoreSteps.{pair_at, pair_bytes, entry_bytes, reading_bytes, IsTotals, value_bytes}
@@ -48,12 +48,6 @@ reading_short (pos n) h = omega (arith, decimal_width 9 6 n (omega arith))
 reading_short (negsuc n) h = omega (arith, decimal_width 9 6 (suc n) (omega arith))
 
 -- ---- the line of an entry
-pub pattern_line : (kind : Kind) (vs : List ℤ) (g : Gauge) (c : Case) → kind ≡ Pattern → entry_bytes kind vs g c ≡ pair_bytes g c 10
-pattern_line kind vs g c e = ap (λ (k : Kind). entry_bytes k vs g c) e ∙ plain
-  where
-    plain : entry_bytes Pattern vs g c ≡ pair_bytes g c 10
-    plain = simp append_assoc
-
 pub integer_line : (kind : Kind) (vs : List ℤ) (g : Gauge) (c : Case) → kind ≡ Integer
     → entry_bytes kind vs g c ≡ pair_bytes g c 32 ++ reading_bytes (value_at vs (pair_at g c))
 integer_line kind vs g c e = ap (λ (k : Kind). entry_bytes k vs g c) e ∙ read
@@ -76,9 +70,6 @@ lines_few (p ∷ ps) = simp length-append (omega (arith, lines_few ps, decimal-l
 
 -- the totals of a kind's lines, by those of the pairs
 module _ (kind : Kind) (vs : List ℤ) (ps : List GaugeCase) (t : Totals) (h : IsTotals pair_text ps t) where
-  pub pattern_totals : kind ≡ Pattern → IsTotals (entry_text kind vs) ps t
-  pattern_totals e = subst (λ (k : Kind). IsTotals (entry_text k vs) ps t) (sym e) h
-
   pub integer_totals : (more : ℕ) → kind ≡ Integer → more ≡ value_bytes vs ps
       → IsTotals (entry_text kind vs) ps (record { count = t.count; size = t.size + more })
   integer_totals more e m =
@@ -88,9 +79,6 @@ module _ (kind : Kind) (vs : List ℤ) (ps : List GaugeCase) (t : Totals) (h : I
 -- counting: size bytes so far, and the readings of the pairs ps are still to come, of all the pairs total
 pub record Valuing (vs : List ℤ) (total : List GaugeCase) (size : ℕ) (ps : List GaugeCase) : Type 0 where
   pub bytes : size + value_bytes vs ps ≡ value_bytes vs total
-
-pub valuing_start : {vs : List ℤ} {total : List GaugeCase} → Valuing vs total 0 total
-valuing_start = record { bytes = omega arith }
 
 module _ (vs : List ℤ) (g : Gauge) (b k r : ℕ) (e : k ≡ count_trailing_zeros 64 b) (l : Lowest b k) (h : Rest b r) where
   pub valuing_turn : (total : List GaugeCase) (size w : ℕ) → Valuing vs total size (row_pairs g 64 1 b)

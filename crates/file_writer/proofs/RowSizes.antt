@@ -5,7 +5,7 @@ use mathlib.Core.Path.{◌≡◌, refl, ap, sym, ◌∙◌}
 use mathlib.Core.Logic.{⊎_elim}
 use native.Mathlib.Omega.{arith}
 use native.Mathlib.Numerals.{add-one}
-use native.Mathlib.Nat.{pow-suc, add-mul, one-mul, mul-le-mul_right}
+use native.Mathlib.Nat.{pow-suc, add-mul, one-mul}
 use lib.Count.{ones, ones_step, ones-le}
 use lib.Pow.{mod-pow-add}
 use lib.ListN.{length}
@@ -97,11 +97,6 @@ module _ (g : Gauge) (b width count short : ℕ) (l : b < 2 ^ 64) (w : Width g.0
   bytes : length (lines_of pair_text (row_pairs g 64 1 b)) + short ≡ count * (width + 4)
   bytes =
       rw (x, y, w.is, low_is 9 b) (row_bytes g 64 1 b l (omega arith))
-
-  pub row_small : count * (width + 4) ≤ 1024
-  row_small =
-      let n : count ≤ 64 = omega (arith, ones-le 64 b l) in
-      omega (arith, mul-le-mul_right (width + 4) n, w.small)
 
   pub row_short : short ≤ count * (width + 4)
   row_short = omega (arith, bytes)

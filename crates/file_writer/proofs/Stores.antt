@@ -4,13 +4,14 @@ use Prim.Native.Nat.{ℕ, suc, ◌+◌, ◌/◌, ◌%◌, ◌^◌, ◌≤◌, �
 use mathlib.Core.Path.{◌≡◌, refl, ap, sym, ◌∙◌, subst}
 use mathlib.Core.List.{List, [], ◌∷◌, ◌++◌}
 use native.Mathlib.Omega.{arith}
-use native.Mathlib.Numerals.{add-one}
 use native.Mathlib.Nat.{add-zero}
-use lib.ListN.{length, get_or, set, drop, length-append, drop_of_length-le}
-use lib.Seq.{sets, length-sets, drop-cons}
-use Rattle.recorded.specs.declared.Kind.{Kind}
+use lib.ListN.{length, set, length-append}
+use lib.Seq.{sets, length-sets, take-length}
+use borrow.Rule.Slice.PartMut.{put_mid}
+use Rattle.std.proofs.lemmas.Slice.{put_mid-paste}
+use Rattle.std.proofs.lemmas.List.Edits.{sets-eq}
 use Rattle.file_writer.specs.Writing.{digits}
-use Rattle.file_writer.specs.private.StoreSteps.{Wrote, Room, field_bytes, banner_bytes}
+use Rattle.file_writer.specs.private.StoreSteps.{Wrote, field_bytes}
 use Rattle.file_writer.proofs.Decimals.{digits_short, digits_long, width_one, width_two}
 
 sets_append : (l : List ℕ) (i : ℕ) (vs ws : List ℕ) → sets l i (vs ++ ws) ≡ sets (sets l i vs) (i + length vs) ws
@@ -66,21 +67,6 @@ field_one n e h = length-append (digits n) (e ∷ []) ∙ omega (arith, width_on
 pub field_two : (n e : ℕ) → 10 ≤ n → n < 100 → length (field_bytes n e) ≡ 3
 field_two n e k h = length-append (digits n) (e ∷ []) ∙ omega (arith, width_two n k h)
 
--- the banner of a kind that is known
-pub banner_room : (k kind : Kind) (l : List ℕ) → kind ≡ k → Room l 0 (banner_bytes kind) → Room l 0 (banner_bytes k)
-banner_room k kind l e h = subst (λ (x : Kind). Room l 0 (banner_bytes x)) e h
-
-pub banner_wrote : {k kind : Kind} {l m : List ℕ} {r : ℕ} → kind ≡ k → Wrote l 0 (banner_bytes k) m r → Wrote l 0 (banner_bytes kind) m r
-banner_wrote {l = l} {m = m} {r = r} e w = subst (λ (x : Kind). Wrote l 0 (banner_bytes x) m r) (sym e) w
-
--- the room that a front takes, and what is left behind it
-pub front_room : (at n : ℕ) (vs ws : List ℕ) → at + length (vs ++ ws) ≤ n → at + length vs ≤ n
-front_room at n vs ws h = omega (arith, length-append vs ws)
-
-pub rest_room : {l : List ℕ} {at : ℕ} {vs : List ℕ} {m : List ℕ} {next : ℕ} → Wrote l at vs m next
-    → (ws : List ℕ) → at + length (vs ++ ws) ≤ length l → next + length ws ≤ length m
-rest_room {vs = vs} w ws h = omega (arith, w.place, wrote_length w, length-append vs ws)
-
 -- ---- what a loop has still to store
 
 -- what is still to be written: rem at the place p of m ends as total at the place at of l does
@@ -88,9 +74,6 @@ pub record Writing (l : List ℕ) (at : ℕ) (total : List ℕ) (m : List ℕ) (
   pub bytes : sets m p rem ≡ sets l at total
   pub place : p + length rem ≡ at + length total
   pub same : length m ≡ length l
-
-pub writing_start : {l : List ℕ} {at : ℕ} {total : List ℕ} → Writing l at total l at total
-writing_start = record { bytes = refl; place = refl; same = refl }
 
 pub writing_step : {l : List ℕ} {at : ℕ} {total : List ℕ} {m : List ℕ} {p : ℕ} {rem : List ℕ} {vs ws : List ℕ} {o : List ℕ} {q : ℕ}
     → Writing l at total m p rem → rem ≡ vs ++ ws → Wrote m p vs o q → Writing l at total o q ws
@@ -113,13 +96,7 @@ pub writing_room : {l : List ℕ} {at : ℕ} {total : List ℕ} {m : List ℕ} {
     → Writing l at total m p rem → (vs ws : List ℕ) → rem ≡ vs ++ ws → at + length total ≤ length l → p + length vs ≤ length m
 writing_room w vs ws e h = omega (arith, w.place, w.same, ap length e, length-append vs ws)
 
--- the next byte of a run of bytes
-bytes_next : (b : List ℕ) (i : ℕ) → i < length b → drop i b ≡ (get_or b i 0 ∷ []) ++ drop (i + 1) b
-bytes_next b i h = rw (add-one i) (drop-cons b i 0 h)
-
-pub bytes_end : (b : List ℕ) (i : ℕ) → length b ≤ i → drop i b ≡ []
-bytes_end b i h = drop_of_length-le b h
-
-pub bytes_room : {l : List ℕ} {at : ℕ} {m : List ℕ} {p : ℕ} (b : List ℕ) (i : ℕ)
-    → Writing l at b m p (drop i b) → i < length b → at + length b ≤ length l → p < length m
-bytes_room b i w h k = omega (arith, writing_room w (get_or b i 0 ∷ []) (drop (i + 1) b) (bytes_next b i h) k)
+-- ---- a run of bytes, copied
+pub wrote_run : (l : List ℕ) (at k : ℕ) (vs ws : List ℕ) → at + length vs ≤ length l → ws ≡ vs → length vs ≡ k → Wrote l at vs (put_mid at k l ws) (at + length vs)
+wrote_run l at k vs ws h e n =
+    record { bytes = put_mid-paste at k l ws vs (length vs) e n refl ∙ rw (take-length vs) (sym (sets-eq vs l at h)); place = refl }

@@ -1,21 +1,19 @@
 -- The file of a table, and what writing it to a lent buffer does (01, "The file"): "The writer gives banner, size line, then pairs by
 -- gauge and then case: single spaces, no leading zeros, LF everywhere." "It fills the front of the lent buffer, reports the length,
 -- and touches no byte behind." LF is 10, a space is 32, and the digit 0 is 48.
-use Rattle.std.specs.Prelude.{ℕ, zero, suc, ◌+◌, ◌/◌, ◌%◌, List, [], ◌∷◌, ◌++◌, true, false, cond, length, drop, ltb, eqb}
+use Rattle.std.specs.Prelude.{ℕ, zero, suc, ◌+◌, ◌/◌, ◌%◌, List, [], ◌∷◌, ◌++◌, true, false, cond, length, drop, ltb, eqb, Result}
 use Rattle.table.specs.Tables.{table_refusal, table_rows}
-use Rattle.refusals.specs.Answers.{Answer, answer, refused, number}
+use Rattle.refusals.specs.Answers.{Answer, answer, answered, number}
+use Rattle.refusals.specs.declared.Refusal.{Refusal}
 use Rattle.refusals.specs.declared.Refusal.TheVariants.{BufferTooShort}
 use Rattle.table.specs.declared.Gauge.{Gauge}
 use Rattle.table.specs.declared.Case.{Case}
 use Rattle.table.specs.declared.Table.{Table}
 use Rattle.file_kinds.specs.Banner.{banner}
-use Rattle.file_writer.specs.declared.Written.{Written}
-use Rattle.file_writer.specs.declared.Written.TheVariants.{Length, Refused}
 
 -- how the code's answer reads: the length of the file, 0 beside a refusal
-abbrev pub written : Written → Answer ℕ
-written (Length n) = record { refusal = 0; value = n }
-written (Refused why) = refused why 0
+abbrev pub written : Result ℕ Refusal → Answer ℕ
+written = answered 0
 
 -- n in decimal, of at most k digits, with no leading zero (without the count: `digits_short` and `digits_long` in proofs/Decimals.antt)
 unfoldable pub decimal : ℕ → ℕ → List ℕ

@@ -13,7 +13,7 @@ ghost use Rattle.file_writer.specs.private.StoreSteps.{Room, Width, IsTotals, Al
 
 use recorded;
 use recorded::{Kind, Test};
-use refusals::{Refusal, Verdict};
+use refusals::Refusal;
 use table::{Case, Gauge, Table};
 
 // The digit 0; a digit's byte is this and its value.
@@ -25,13 +25,6 @@ const ONE_DIGIT: u64 = 512;
 // The bytes of every file beside its numbers and entries: the banner's line, and two spaces and an LF in the size line.
 const FIXED: u64 = 52;
 
-// The length of the file that was written, or a refusal.
-#[derive(Clone, Copy)]
-pub enum Written {
-    Length(usize),
-    Refused(Refusal),
-}
-
 // How many entries, and how many bytes their lines take.
 #[derive(Clone, Copy)]
 struct Totals {
@@ -40,27 +33,23 @@ struct Totals {
 }
 
 // Writes a table to the front of a buffer and gives the length of its file.
-pub fn write(t: Table, out: &mut [u8]) -> Written
+#[tactic(auto, using(crate::proofs::Files::check_refused))]
+pub fn write(t: Table, out: &mut [u8]) -> Result<usize, Refusal>
     ensures result_value { written result ≡ write_answer t (length out.old) }
     ensures buffer { out.new ≡ buffer_after t out.old }
 {
-    let checked = table::check_table(t);
-    if let Verdict::Refused(why) = checked {
-        return Written::Refused(why);
-    }
+    table::check_table(t)?;
     let none = [0i32; 1];
     write_kind(out, Kind::Pattern, t, &none)
 }
 
 // Writes a recorded test to the front of a buffer, as a file of its kind, and gives the length of that; 10, 11, 20, then 16 are refused.
-pub fn write_test(t: Test, out: &mut [u8]) -> Written
+#[tactic(auto, using(crate::proofs::Files::check_refused))]
+pub fn write_test(t: Test, out: &mut [u8]) -> Result<usize, Refusal>
     ensures result_value { written result ≡ test_answer t (length out.old) }
     ensures buffer { out.new ≡ test_buffer t out.old }
 {
-    let checked = recorded::check_test(t);
-    if let Verdict::Refused(cause) = checked {
-        return Written::Refused(cause);
-    }
+    recorded::check_test(t)?;
     let kind = t.kind;
     let entries = t.entries;
     let readings = t.readings;
@@ -73,7 +62,7 @@ pub fn write_test(t: Test, out: &mut [u8]) -> Written
 }
 
 // Writes a file of a kind, of entries that are the pairs of a table, where the buffer is long enough.
-fn write_kind(out: &mut [u8], kind: Kind, t: Table, readings: &[i32]) -> Written
+fn write_kind(out: &mut [u8], kind: Kind, t: Table, readings: &[i32]) -> Result<usize, Refusal>
     requires { Legal t × Suits kind readings.now }
     ensures result_value { written result ≡ room_answer 0 (file_of kind readings.now t) (length out.old) }
     ensures buffer { out.new ≡ room_buffer 0 (file_of kind readings.now t) out.old }
@@ -82,10 +71,10 @@ fn write_kind(out: &mut [u8], kind: Kind, t: Table, readings: &[i32]) -> Written
     let count = totals.count;
     let size = file_size(kind, t, readings, totals);
     if (out.len() as u64) < size {
-        return Written::Refused(Refusal::BufferTooShort);
+        return Err(Refusal::BufferTooShort);
     }
     let n = put_file(out, kind, t, readings, count);
-    Written::Length(n)
+    Ok(n)
 }
 
 // The entries of a table, counted.
@@ -97,19 +86,12 @@ fn all_totals(kind: Kind, t: Table, readings: &[i32]) -> Totals
     let rows = t.rows;
     let mut count: u64 = 0;
     let mut size: u64 = 0;
-    let mut i: u64 = 0;
-    while i < gauges {
-        let k = i as usize;
-        let row = rows[k];
-        let one = line_totals(kind, Gauge(i + 1), row, readings);
+    for i in 0..gauges {
+        let one = line_totals(kind, Gauge(i + 1), rows[i as usize], readings);
         count += one.count;
         size += one.size;
-        i += 1;
     }
-    Totals {
-        count: count,
-        size: size,
-    }
+    Totals { count, size }
 }
 
 // The entries of a gauge, counted: the lines of its pairs, and in an integer file their readings.
@@ -151,6 +133,7 @@ fn row_readings(g: Gauge, row: u64, readings: &[i32]) -> u64
 {
     let mut size: u64 = 0;
     let mut ahead = row;
+    // The lowest place first: `sets` gives a set's places one by one, by no iterator.
     while ahead != 0 {
         let k = sets::first(ahead) as u64;
         ahead = sets::rest(ahead);
@@ -240,14 +223,9 @@ fn put_bytes(out: &mut [u8], at: usize, bytes: &[u8]) -> usize
     requires { Room out.old at bytes.now }
     ensures { Wrote out.old at bytes.now out.new result }
 {
-    let mut i = 0;
-    let mut p = at;
-    while i < bytes.len() {
-        out[p] = bytes[i];
-        p += 1;
-        i += 1;
-    }
-    p
+    let end = at + bytes.len();
+    out[at..end].copy_from_slice(bytes);
+    end
 }
 
 // Writes the size line, of the last gauge, the last case and the number of pairs.
@@ -274,12 +252,8 @@ fn put_rows(
 {
     let most = gauges.0;
     let mut p = at;
-    let mut i: u64 = 0;
-    while i < most {
-        let k = i as usize;
-        let row = rows[k];
-        p = put_row(out, p, kind, Gauge(i + 1), row, readings);
-        i += 1;
+    for i in 0..most {
+        p = put_row(out, p, kind, Gauge(i + 1), rows[i as usize], readings);
     }
     p
 }
@@ -291,6 +265,7 @@ fn put_row(out: &mut [u8], at: usize, kind: Kind, g: Gauge, row: u64, readings: 
 {
     let mut p = at;
     let mut left = row;
+    // The lowest place first: `sets` gives a set's places one by one, by no iterator.
     while left != 0 {
         let k = sets::first(left) as u64;
         left = sets::rest(left);

@@ -11,16 +11,6 @@ use borrow.Author.Tests.{eq-eqb, ne_eqb, lt-ltb, le-ltb, le-leb, lt-leb}
 use Rattle.sets.specs.Sets.{meet, is_subset, is_proper_subset}
 use Rattle.table.specs.Pairs.{row}
 use Rattle.judge.specs.WidestRows.{narrowed, widest, widest_of}
-use Rattle.judge.specs.private.RowTests.{nested}
-
--- ---- nested
-pub nested_up : (a b : ℕ) (t : Bool) → t ≡ is_subset a b → t ≡ true → true ≡ nested a b
-unfolding nested
-nested_up a b t e d = rw (← e, d)
-
-pub nested_down : (a b : ℕ) (t u : Bool) → t ≡ is_subset a b → t ≡ false → u ≡ is_subset b a → u ≡ nested a b
-unfolding nested
-nested_down a b t u e d f = rw (← e, d) f
 
 -- ---- narrowed
 pub narrow_out : (x a b : ℕ) (t : Bool) → t ≡ is_subset a b → t ≡ false → x ≡ narrowed x a b

@@ -10,7 +10,7 @@ ghost use Rattle.judge.specs.Judging.{Judged};
 ghost use Rattle.judge.specs.WidestRows.{narrowed as narrowed_to, widest_of};
 ghost use Rattle.judge.specs.private.RowTests.{nested as is_nested, nested_with, all_nested, all_widest};
 
-use refusals::{Refusal, Verdict};
+use refusals::Refusal;
 use sets;
 use table;
 use table::{Chain, Table};
@@ -18,48 +18,28 @@ use table::{Chain, Table};
 // The rows that a table and a chain hold.
 const ROWS: usize = Table::MOST_GAUGES as usize;
 
-// What a judge answers. `judgement` in specs/Judging.antt reads it.
-#[derive(Clone, Copy)]
-pub enum Judgement {
-    Yes,
-    No,
-    Refused(Refusal),
-}
-
 // Whether `s` is a chain of `t`.
-pub fn judge_chain(t: Table, s: Chain) -> Judgement
+pub fn judge_chain(t: Table, s: Chain) -> Result<bool, Refusal>
     ensures { Judged (chain_refusal t s) (IsChain (chain_rows s)) result }
 {
-    let checked = table::check_chain(t, s);
-    if let Verdict::Refused(why) = checked {
-        return Judgement::Refused(why);
-    }
+    table::check_chain(t, s)?;
     let pairs = s.rows;
     let n = t.gauges as usize;
-    if all_nested(&pairs, n) {
-        return Judgement::Yes;
-    }
-    Judgement::No
+    Ok(all_nested(&pairs, n))
 }
 
 // Whether `s` is a maximal chain of `t`.
-pub fn judge_maximal(t: Table, s: Chain) -> Judgement
+pub fn judge_maximal(t: Table, s: Chain) -> Result<bool, Refusal>
     ensures { Judged (chain_refusal t s) (IsMaximal (table_rows t) (chain_rows s)) result }
 {
-    let checked = table::check_chain(t, s);
-    if let Verdict::Refused(why) = checked {
-        return Judgement::Refused(why);
-    }
+    table::check_chain(t, s)?;
     let outer = t.rows;
     let rows = s.rows;
     let n = t.gauges as usize;
     if !all_nested(&rows, n) {
-        return Judgement::No;
+        return Ok(false);
     }
-    if all_widest(&outer, &rows, n) {
-        return Judgement::Yes;
-    }
-    Judgement::No
+    Ok(all_widest(&outer, &rows, n))
 }
 
 // The widest that row `i` can be within `most`, among the first `n` rows; `most` where there is no row `i`, or not `n` rows.
@@ -74,10 +54,8 @@ pub fn widest(rows: &[u64; 64], most: u64, i: usize, n: usize) -> u64
     }
     let own = rows[i];
     let mut wide = most;
-    let mut j = 0;
-    while j < n {
+    for j in 0..n {
         wide = narrowed(wide, own, rows[j]);
-        j += 1;
     }
     wide
 }
@@ -87,12 +65,10 @@ fn all_nested(rows: &[u64; 64], n: usize) -> bool
     requires { n ≤ 64 }
     ensures { result ≡ all_nested rows.now n }
 {
-    let mut i = 0;
-    while i < n {
+    for i in 0..n {
         if !nested_with(rows, n, i) {
             return false;
         }
-        i += 1;
     }
     true
 }
@@ -103,12 +79,10 @@ fn nested_with(rows: &[u64; 64], n: usize, i: usize) -> bool
     ensures { result ≡ nested_with rows.now n i }
 {
     let own = rows[i];
-    let mut j = 0;
-    while j < n {
+    for j in 0..n {
         if !nested(own, rows[j]) {
             return false;
         }
-        j += 1;
     }
     true
 }
@@ -117,10 +91,7 @@ fn nested_with(rows: &[u64; 64], n: usize, i: usize) -> bool
 fn nested(a: u64, b: u64) -> bool
     ensures { result ≡ is_nested a b }
 {
-    if sets::subset(a, b) {
-        return true;
-    }
-    sets::subset(b, a)
+    sets::subset(a, b) || sets::subset(b, a)
 }
 
 // Each of the first `n` rows is the widest that the table and the rows above it allow.
@@ -128,13 +99,11 @@ fn all_widest(outer: &[u64; 64], rows: &[u64; 64], n: usize) -> bool
     requires { n ≤ 64 }
     ensures { result ≡ all_widest outer.now rows.now n }
 {
-    let mut i = 0;
-    while i < n {
+    for i in 0..n {
         let most = widest(rows, outer[i], i, n);
         if most != rows[i] {
             return false;
         }
-        i += 1;
     }
     true
 }

@@ -35,9 +35,6 @@ pub record Taken (w : List ℕ) (i n : ℕ) : Type 0 where
   pub capped : n ≡ min value 1000001
   pub whole : number_from value (drop i w) ≡ number_from 0 w
 
-pub taken_none : (w : List ℕ) → Taken w 0 0
-taken_none w = record { value = 0; most = omega arith; capped = omega arith; whole = refl }
-
 module _ (w : List ℕ) (i n d : ℕ) (m : Taken w i n) (h : i < length w) (e : d ≡ digit_of (get_or w i 0)) where
   next : number_from m.value (get_or w i 0 ∷ drop (suc i) w) ≡ number_from 0 w
   next = ap (number_from m.value) (sym (drop-cons w i 0 h)) ∙ m.whole
@@ -54,9 +51,6 @@ module _ (w : List ℕ) (i n d : ℕ) (m : Taken w i n) (h : i < length w) (e : 
         capped = omega (arith, f, m.capped);
         whole = rw (add-one i, x.1) (sym (number_step m.value (get_or w i 0) (drop (suc i) w) x.0) ∙ next);
       }
-
-pub taken_small : (w : List ℕ) (i n : ℕ) → Taken w i n → n ≤ 1000001
-taken_small w i n m = omega (arith, m.capped)
 
 module _ (w : List ℕ) (i n : ℕ) (m : Taken w i n) (h : length w ≤ i) where
   ended : some m.value ≡ number_from 0 w

@@ -8,15 +8,16 @@
 // R-5): then a file of either kind is taken, and the table is that of the test at the cutoff.
 #![tactic(auto)]
 
-ghost use Rattle.std.specs.Prelude.{◌≡◌, ◌+◌, ◌*◌, ◌≤◌, min, length, IfOk};
+ghost use Rattle.std.specs.Prelude.{◌≡◌, ◌+◌, ◌*◌, ◌≤◌, min};
 ghost use Rattle.ladders.specs.Cutoff.{cutoff_of};
 
-use file_text;
 use preference::GaugeOrder;
-use refusals::Verdict;
+use program_input::read_input;
+use refusals::Refusal;
+use runs::GaugeRun;
 use std::env::{Env, FillError};
-use std::io;
-use std::io::{ErrorKind, Read};
+use std::io::ErrorKind;
+use std::{fmt, io};
 use table::Table;
 
 // The greatest cutoff, and the number in place of every one above it.
@@ -24,68 +25,66 @@ const MOST_CUTOFF: u64 = 1_000_000;
 
 const ABOVE: u64 = 1_000_001;
 
-// How a use of the program ended.
-#[derive(Clone, Copy)]
-enum End {
-    Listed,
-    Refused(u64),
-    ReadFailed,
-    WriteFailed,
+// Why the ladders of a file were not all listed.
+#[derive(Clone, Copy, PartialEq, Eq)]
+enum Stop {
+    Refused(Refusal),
+    Reading,
+    Writing,
     Closed,
     Lost,
 }
 
+// In the words of the line that says how the program ended.
+impl fmt::Display for Stop {
+    fn fmt<W: fmt::Write>(&self, f: &mut fmt::Formatter<W>) -> fmt::Result {
+        match self {
+            Stop::Refused(why) => write!(f, "{why}"),
+            Stop::Reading => f.write_str("reading failed"),
+            Stop::Writing => f.write_str("writing failed, the output is not complete"),
+            Stop::Closed => f.write_str("nobody reads"),
+            Stop::Lost => f.write_str("the list is not complete"),
+        }
+    }
+}
+
 fn main(rt: HostRuntime) {
-    let asked = has_argument(&rt, 1);
-    let measured = has_argument(&rt, 2);
     // One byte more than the longest file: a longer input is refused without reading it all.
-    let mut file = [0u8; 65537];
-    let got = read_input(&mut rt.stdin(), &mut file);
-    let end = match got {
-        Err(_) => End::ReadFailed,
-        Ok(n) => answer(&rt, &file[..n], measured),
+    let mut space = [0; 65537];
+    let ended = match read_input(&mut rt.stdin(), &mut space) {
+        Ok(file) => answer(&rt, file),
+        Err(_) => Err(Stop::Reading),
     };
-    say_end(&rt, end, asked);
+    say_end(&rt, ended, has_argument(&rt, 1));
 }
 
 // Whether the program was given an argument of this number, however long; 0 is its own name.
 fn has_argument(rt: &impl Env, number: usize) -> bool {
-    let mut space = [0u8; 1];
+    let mut space = [0; 1];
     match rt.arg(number, &mut space) {
-        Ok(_) => true,
-        Err(FillError::TooLong) => true,
+        Ok(_) | Err(FillError::TooLong) => true,
         Err(FillError::NotPresent) => false,
     }
 }
 
-// Answers a file; with a cutoff one of either kind.
-fn answer(rt: &(impl Env + Print), file: &[u8], measured: bool) -> End {
-    if measured {
-        return answer_test(rt, file);
-    }
-    answer_pairs(rt, file)
-}
-
-// Answers a file of pairs.
-fn answer_pairs(rt: &impl Print, file: &[u8]) -> End {
-    let made = file_reader::read(file);
-    let verdict = made.verdict;
-    let t = made.table;
-    match verdict {
-        Verdict::Refused(why) => refuse(rt, refusals::refusal_number(why)),
-        Verdict::Accepted => list(rt, t),
+// Lists what a file has, or says its refusal: "for a refused file `refused n` with LF" (01).
+fn answer(rt: &(impl Env + Print), file: &[u8]) -> Result<(), Stop> {
+    match table_of(rt, file) {
+        Ok(t) => list(rt, t),
+        Err(why) => {
+            println!(rt; "{why}").map_err(cut_short)?;
+            Err(Stop::Refused(why))
+        }
     }
 }
 
-// Answers a file of either kind, at the cutoff of the second argument.
-fn answer_test(rt: &(impl Env + Print), file: &[u8]) -> End {
-    let got = file_reader::read_test(file, cutoff(rt));
-    let verdict = got.verdict;
-    let t = got.table;
-    match verdict {
-        Verdict::Refused(why) => refuse(rt, refusals::refusal_number(why)),
-        Verdict::Accepted => list(rt, t),
+// The table of a file of pairs; with a second argument that of a file of either kind, at the cutoff that it is.
+fn table_of(rt: &impl Env, file: &[u8]) -> Result<Table, Refusal> {
+    if !has_argument(rt, 2) {
+        return file_reader::read(file);
     }
+    let recording = file_reader::read_test(file, cutoff(rt))?;
+    Ok(recording.table)
 }
 
 // The cutoff that the second argument is. The longest argument that the system hands to a program has a byte less
@@ -103,14 +102,12 @@ fn number(word: &[u8]) -> u64
     ensures { result ≡ cutoff_of word.now }
 {
     let mut n: u64 = 0;
-    let mut i = 0;
-    while i < word.len() {
-        let d = file_text::digit_of(word[i]);
+    for byte in word {
+        let d = file_text::digit_of(*byte);
         if 9 < d {
             return 0;
         }
         n = more(n, d);
-        i += 1;
     }
     if MOST_CUTOFF < n {
         return 0;
@@ -130,97 +127,40 @@ fn more(n: u64, d: u64) -> u64
     next
 }
 
-// Reads until the buffer is full or the input ends, and gives how many bytes there are.
-fn read_input(input: &mut impl Read, file: &mut [u8]) -> io::Result<usize>
-    ensures { IfOk result (λ n. n ≤ length file.new) }
-{
-    let mut have: usize = 0;
-    while have < file.len() {
-        let more = input.read(&mut file[have..])?;
-        if more == 0 {
-            return Ok(have);
-        }
-        have += more;
-    }
-    Ok(have)
-}
-
-// "for a refused file `refused n` with LF" (01).
-fn refuse(rt: &impl Print, n: u64) -> End {
-    match println!(rt; "refused {n}") {
-        Ok(()) => End::Refused(n),
-        Err(error) => cut_short(error),
-    }
-}
-
 // Lists the table's maximal chains in gauge order, the plain one. A proved loop has to end, and the number of ladders
-// is bounded only by 64!: the loop counts its blocks down from a number that no run uses up; if it did, that is said.
-fn list(rt: &impl Print, t: Table) -> End {
-    let started = runs::start_gauges(t, GaugeOrder::plain(t.gauges), false);
-    let mut run = started.run;
-    let mut space = [0u8; 65536];
-    let mut blocks = u64::MAX;
-    while 0 < blocks {
-        let block = blocks::fill(run, &mut space);
-        let used = block.used;
-        let next = block.run;
-        let verdict = block.verdict;
-        if let Verdict::Refused(_) = verdict {
-            return End::Lost;
-        }
-        let end = put(rt, &space, used);
-        let End::Listed = end else {
-            return end;
-        };
+// is bounded only by 64!: the loop makes up to a number of blocks that no run comes to; if one did, that is said.
+fn list(rt: &impl Print, t: Table) -> Result<(), Stop> {
+    let mut run = GaugeRun::start(t, GaugeOrder::plain(t.gauges), false).map_err(|_| Stop::Lost)?;
+    let mut space = [0; 65536];
+    for _ in 0..u64::MAX {
+        let block = blocks::fill(run, &mut space).map_err(|_| Stop::Lost)?;
+        let bytes = space.get(..block.used).ok_or(Stop::Lost)?;
+        rt.write_all(bytes).map_err(cut_short)?;
         if block.over {
-            return End::Listed;
+            return Ok(());
         }
-        run = next;
-        blocks -= 1;
+        run = block.run;
     }
-    End::Lost
-}
-
-// Writes the used part of a block.
-fn put(rt: &impl Print, bytes: &[u8], used: usize) -> End {
-    if bytes.len() < used {
-        return End::Lost;
-    }
-    match rt.write_all(&bytes[..used]) {
-        Ok(()) => End::Listed,
-        Err(error) => cut_short(error),
-    }
+    Err(Stop::Lost)
 }
 
 // The last write failed: nobody reads any more, or it could not be made.
-fn cut_short(error: io::Error) -> End {
+fn cut_short(error: io::Error) -> Stop {
     match error.kind() {
-        ErrorKind::BrokenPipe => End::Closed,
-        _ => End::WriteFailed,
+        ErrorKind::BrokenPipe => Stop::Closed,
+        _ => Stop::Writing,
     }
 }
 
 // Says how it ended; what is no failure only where that was asked for. The library's contracts rule `Lost` out;
 // should it happen all the same, it is said.
-fn say_end(rt: &impl Eprint, end: End, asked: bool) {
-    match end {
-        End::ReadFailed => say(rt, "reading failed", true),
-        End::WriteFailed => say(rt, "writing failed, the output is not complete", true),
-        End::Lost => say(rt, "the list is not complete", true),
-        End::Closed => say(rt, "nobody reads", asked),
-        End::Listed => say(rt, "listed", asked),
-        End::Refused(n) => say_refused(rt, n, asked),
-    }
-}
-
-fn say_refused(rt: &impl Eprint, n: u64, asked: bool) {
-    if asked {
-        let _ = eprintln!(rt; "ladders: refused {n}");
-    }
-}
-
-fn say(rt: &impl Eprint, words: &str, aloud: bool) {
-    if aloud {
-        let _ = eprintln!(rt; "ladders: {words}");
-    }
+fn say_end(rt: &impl Eprint, ended: Result<(), Stop>, asked: bool) {
+    let _ = match ended {
+        Err(stop @ (Stop::Reading | Stop::Writing | Stop::Lost)) => eprintln!(rt;
+            "ladders: {stop}"
+        ),
+        Err(stop) if asked => eprintln!(rt; "ladders: {stop}"),
+        Ok(()) if asked => eprintln!(rt; "ladders: listed"),
+        _ => Ok(()),
+    };
 }

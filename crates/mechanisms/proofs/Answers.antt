@@ -24,11 +24,11 @@ use Rattle.boards.specs.Boards.{board}
 use Rattle.covers.proofs.Covers.{none_smaller}
 use Rattle.covers.proofs.Sides.{least_few}
 use Rattle.covers.proofs.Fewest.{fewest-ladders, first_least_unique}
-use Rattle.mechanisms.specs.Covering.{Reading, cover_outcome_says, fewest, refusal_reading, most_tried, most_side, most_ladders, refusal_of}
+use Rattle.mechanisms.specs.Covering.{Reading, covered, spent, refused, fewest, refusal_reading, most_tried, most_side, most_ladders, refusal_of}
 use Rattle.mechanisms.specs.Covering.{within_budget, by_rule, Searched, Covers}
-use Rattle.mechanisms.specs.declared.CoverOutcome.{CoverOutcome}
-use Rattle.mechanisms.specs.declared.CoverOutcome.TheVariants.{Covered, Spent, Refused}
 use Rattle.mechanisms.specs.declared.Fewest.{Fewest}
+use Rattle.mechanisms.specs.declared.Fewest.TheVariants.{Covered, Spent}
+use Rattle.std.specs.Prelude.{Result, Ok, Err}
 use Rattle.mechanisms.specs.private.Steps.{Lists, Answers}
 
 -- ---- which is refused
@@ -159,18 +159,17 @@ covers_some t size b = go (ℕ_discrete (refusal_of t b (length (chains_in_order
         )
 
 -- ---- no two answers read alike
-replies_injective : (x y : CoverOutcome) → cover_outcome_says x ≡ cover_outcome_says y → x ≡ y
-replies_injective Covered Covered e = refl
-replies_injective Covered Spent e = clash cc
-replies_injective Covered (Refused y) e = clash cc
-replies_injective Spent Covered e = clash cc
-replies_injective Spent Spent e = refl
-replies_injective Spent (Refused y) e = clash cc
-replies_injective (Refused x) Covered e = clash cc
-replies_injective (Refused x) Spent e = clash cc
-replies_injective (Refused x) (Refused y) e = let z : number_of x ≡ number_of y = cc in ap Refused (number_injective x y z)
-
-pub reading_injective : (x y : Fewest) → fewest x ≡ fewest y → x ≡ y
-reading_injective x y e =
-    ap₂ (λ (o : CoverOutcome) (r : Reading). record { outcome = o; number = r.number; tried = r.tried; cover = r.cover })
-    (replies_injective x.outcome y.outcome (ap (λ (r : Reading). r.reply) e)) e
+pub reading_injective : (x y : Result Fewest Refusal) → fewest x ≡ fewest y → x ≡ y
+reading_injective (Ok (Covered a)) (Ok (Covered b)) e =
+    ap (λ (r : Reading). Ok (Covered (record { number = r.number; tried = r.tried; chains = r.cover }))) e
+reading_injective (Ok (Covered a)) (Ok (Spent n)) e = let z : covered ≡ spent = ap (λ (r : Reading). r.reply) e in clash cc
+reading_injective (Ok (Covered a)) (Err y) e = let z : covered ≡ refused (number_of y) = ap (λ (r : Reading). r.reply) e in clash cc
+reading_injective (Ok (Spent m)) (Ok (Covered b)) e = let z : spent ≡ covered = ap (λ (r : Reading). r.reply) e in clash cc
+reading_injective (Ok (Spent m)) (Ok (Spent n)) e = ap (λ (r : Reading). Ok (Spent r.tried)) e
+reading_injective (Ok (Spent m)) (Err y) e = let z : spent ≡ refused (number_of y) = ap (λ (r : Reading). r.reply) e in clash cc
+reading_injective (Err x) (Ok (Covered b)) e = let z : refused (number_of x) ≡ covered = ap (λ (r : Reading). r.reply) e in clash cc
+reading_injective (Err x) (Ok (Spent n)) e = let z : refused (number_of x) ≡ spent = ap (λ (r : Reading). r.reply) e in clash cc
+reading_injective (Err x) (Err y) e =
+    let z : refused (number_of x) ≡ refused (number_of y) = ap (λ (r : Reading). r.reply) e in
+    let n : number_of x ≡ number_of y = cc in
+    ap Err (number_injective x y n)

@@ -1,8 +1,8 @@
 -- The ladders of a small table, as successive calls of the gauge run in plain order hand them out.
 --
 -- In order: one call, a law for each outcome (`hands_given`, `hands_spent`, `hands_end`, `hands_refused`); so many calls that each handed a ladder out
--- (`Listing`), from the fresh start (`listing_fresh`) and one call more (`listing-next`); the end of the list (`listing_ends`), and more ladders
--- than there are places (`listing-more`); the same of the loop that makes the calls (`listing_start`, `listing_turn`, `listing-stops`,
+-- (`Listing`), and one call more (`listing-next`); the end of the list (`listing_ends`), and more ladders
+-- than there are places (`listing-more`); the same of the loop that makes the calls (`listing_turn`, `listing-stops`,
 -- `listing-passes`).
 --
 -- Elsewhere: so many calls of the greatest budget, blocks/proofs/Calls; that they hand out the run's list, `demand3` in lists/proofs/Demand; that this is
@@ -24,7 +24,7 @@ use Rattle.table.specs.Pairs.{Within}
 use Rattle.table.specs.Tables.{Legal, table_rows, padded}
 use Rattle.table.proofs.Legality.{length_rows, row-table_rows, legal_cases}
 use Rattle.table.proofs.Padding.{pad_get_or}
-use Rattle.refusals.specs.Answers.{Answer, answer}
+use Rattle.refusals.specs.Answers.{Answer, answer, number}
 use Rattle.rules.specs.Machine.{State, fresh}
 use Rattle.rules.specs.Calls.{Reply, refused, spent, handed, end, Call, most_budget, answered, handouts}
 use Rattle.rules.proofs.Reports.{only18_by}
@@ -33,7 +33,12 @@ use Rattle.lists.specs.OnTable.{hand_out, move_on, call_on}
 use Rattle.lists.specs.private.Demand.{Demand}
 use Rattle.lists.proofs.Demand.{demand3}
 use Rattle.lists.proofs.Listed.{list_unique}
-use Rattle.runs.specs.Paused.{Value, paused, blank_value}
+use Rattle.std.specs.Prelude.{Result, Ok, Err, IsOk}
+use Rattle.refusals.specs.declared.Refusal.{Refusal}
+use Rattle.refusals.proofs.Answering.{number_pos}
+use Rattle.table.specs.declared.Gauge.{Gauge}
+use Rattle.runs.specs.declared.paused.Run.{Run}
+use Rattle.runs.specs.Paused.{Value, paused, blank_value, start_of}
 use Rattle.preference.specs.Preferences.{preferred_refusal, plain_numbers}
 use Rattle.runs.specs.Calling.{Step, arrangement, by_rules, told, held, PausedAt}
 use Rattle.runs.specs.private.Either.{call_of, CalledOf}
@@ -146,8 +151,13 @@ started t h k d a e =
     ∙ ap (λ (j : List ℕ). cond (eqb (preferred_refusal t t.gauges j) 0) (paused t j false fresh) blank_value) d
     ∙ ap (λ (n : ℕ). cond (eqb n 0) (begin t) blank_value) (plain_started t h.legal).passed
 
-listing_fresh : (t : Table) (boards : List ℕ) → length boards ≡ most_ladders → (v : Value) → v ≡ begin t → Listing t 0 v boards
-listing_fresh t boards size v e = record { few = omega arith; value = e; given = refl; many = refl; size = size }
+pub start_given : (t : Table) → SmallTable t → (k : List ℕ) → k ≡ plain_numbers t.gauges → (w : Result (Run Gauge) Refusal)
+    → start_of (λ x. x.0) w ≡ answer (preferred_refusal t t.gauges k) (paused t k false fresh) blank_value → IsOk w
+start_given t h k d (Ok r) e = refl
+start_given t h k d (Err why) e =
+    let n : number why ≡ preferred_refusal t t.gauges k = ap (λ (x : Answer Value). x.refusal) e in
+    let z : preferred_refusal t t.gauges k ≡ 0 = ap (preferred_refusal t t.gauges) d ∙ (plain_started t h.legal).passed in
+    absurd (omega (arith, number_pos why, n, z))
 
 map_append : (f : List ℕ → ℕ) (a b : List (List ℕ)) → map f (a ++ b) ≡ map f a ++ map f b
 map_append f [] b = refl
@@ -250,9 +260,6 @@ module _ (t : Table) (h : SmallTable t) (n : ℕ) (v : Value) (boards : List ℕ
 pub record ListingFrom (u : Value) (n : ℕ) (v : Value) (boards : List ℕ) : Type 0 where
   pub few : n ≤ most_ladders
   pub on : (t : Table) → SmallTable t → u ≡ begin t → Listing t n v boards
-
-pub listing_start : (u : Value) (boards : List ℕ) → length boards ≡ most_ladders → ListingFrom u 0 u boards
-listing_start u boards size = record { few = omega arith; on = λ t h e. listing_fresh t boards size u e }
 
 module _ (u : Value) (n : ℕ) (v : Value) (boards : List ℕ) (i : ListingFrom u n v boards) (over : Bool) (b : ℕ) (w : Value) (f : Hands v over b w) where
   abbrev Said : Bool → Type 0

@@ -3,24 +3,24 @@
 -- all k is reported, and "spent" is answered exactly when the rule needs more, with the budget as that number and no cover. (18 as before,
 -- then 23: G or L above 8, then 24: more than 1,024 ladders.)").
 --
--- In order: an answer, as the code gives it; the answers that there are; which is refused; the answer for a table and a budget (`Covers`).
+-- In order: an answer; the answers that there are, and how the code gives them; which is refused; the answer for a table and a budget (`Covers`).
 --
 -- Elsewhere: covers, the least number and the first cover, covers/specs/Covers and Fewest, which look at no search; the rule that tells the
 -- ladders tried, covers/specs/Searching; that `Covers` can be met for every table and leaves one answer, `covers_some` and `covers_only` in
 -- proofs/Answers.antt.
-use Rattle.std.specs.Prelude.{◌≡◌, ◌||◌, cond, List, ◌++◌, map, ℕ, ◌-◌, ◌≤◌, ◌<◌, min, eqb, ltb, length, replicate}
+use Rattle.std.specs.Prelude.{◌≡◌, ◌||◌, cond, List, ◌++◌, map, ℕ, ◌-◌, ◌≤◌, ◌<◌, min, eqb, ltb, length, replicate, Result, Ok, Err}
 use Rattle.table.specs.declared.Table.{Table}
 use Rattle.table.specs.declared.Chain.{Chain}
 use Rattle.table.specs.Tables.{table_rows, table_refusal, padded, blank_chain}
 use Rattle.refusals.specs.Answers.{number as number_of}
+use Rattle.refusals.specs.declared.Refusal.{Refusal}
 use Rattle.lists.specs.Lists.{GaugeList}
 use Rattle.pairs.specs.PairOrder.{holds, pairs}
 use Rattle.covers.specs.Covers.{ChainCover}
 use Rattle.covers.specs.Searching.{Outcome, ByRule}
 use Rattle.covers.specs.Fewest.{fewest_ladders, FirstLeast}
-use Rattle.mechanisms.specs.declared.CoverOutcome.{CoverOutcome}
-use Rattle.mechanisms.specs.declared.CoverOutcome.TheVariants.{Covered, Spent, Refused}
 use Rattle.mechanisms.specs.declared.Fewest.{Fewest}
+use Rattle.mechanisms.specs.declared.Fewest.TheVariants.{Covered, Spent}
 
 -- ---- an answer
 pub data CoverReply : Type 0 where
@@ -34,15 +34,6 @@ pub record Reading : Type 0 where
   pub tried : ℕ
   pub cover : List Chain
 
--- how the code's answer reads
-abbrev pub cover_outcome_says : CoverOutcome → CoverReply
-cover_outcome_says Covered = covered
-cover_outcome_says Spent = spent
-cover_outcome_says (Refused x) = refused (number_of x)
-
-abbrev pub fewest : Fewest → Reading
-fewest f = record { reply = cover_outcome_says f.outcome; number = f.number; tried = f.tried; cover = f.cover }
-
 -- ---- the answers that there are
 -- the places of a cover, all blank
 abbrev pub no_chains : List Chain
@@ -55,6 +46,15 @@ refusal_reading n = record { reply = refused n; number = 0; tried = 0; cover = n
 -- "with the budget as that number and no cover"
 abbrev pub spent_at : ℕ → Reading
 spent_at b = record { reply = spent; number = 0; tried = b; cover = no_chains }
+
+-- how the code's answer reads
+abbrev pub fewest_says : Fewest → Reading
+fewest_says (Covered c) = record { reply = covered; number = c.number; tried = c.tried; cover = c.chains }
+fewest_says (Spent tried) = spent_at tried
+
+abbrev pub fewest : Result Fewest Refusal → Reading
+fewest (Ok f) = fewest_says f
+fewest (Err x) = refusal_reading (number_of x)
 
 -- the least number, the ladders tried, and the cover, each ladder as a chain by rows, with blank chains behind it
 abbrev pub chains : Table → List (List ℕ) → List Chain

@@ -4,17 +4,15 @@
 #![tactic(auto)]
 
 ghost use Rattle.std.specs.Prelude.{◌≡◌, ◌≤◌, length, take};
-ghost use Rattle.refusals.specs.Answers.{number};
 ghost use Rattle.runs.specs.Paused.{gauge_value};
-ghost use Rattle.mechanisms.specs.Covering.{fewest, refusal_reading, spent_at, no_chains, most_ladders, Covers};
+ghost use Rattle.mechanisms.specs.Covering.{fewest, fewest_says, no_chains, most_ladders, Covers};
 ghost use Rattle.mechanisms.specs.private.Steps.{SmallTable, Hands, Lists, Ready, Answers, shown};
 
 use boards;
 use cover_search;
 use cover_search::Search;
 use preference::GaugeOrder;
-use refusals::{Refusal, Verdict};
-use runs;
+use refusals::Refusal;
 use runs::{GaugeRun, Outcome};
 use table;
 use table::{Chain, Table};
@@ -30,22 +28,19 @@ const MOST_LADDERS: usize = 1_024;
 // The moves asked of one call of the run: the greatest budget, with which it hands a ladder out or ends.
 const MOVES: u64 = 1_000_000;
 
-// What the search answers.
-#[derive(Clone, Copy)]
-pub enum CoverOutcome {
-    Covered,
-    Spent,
-    Refused(Refusal),
-}
-
-// The least number, the ladders tried, and the cover, with blank chains behind it; where the budget did not do, the budget as the ladders
-// tried; beside a refusal nothing.
-#[derive(Clone, Copy)]
-pub struct Fewest {
-    pub outcome: CoverOutcome,
+// A cover of the least number: how many ladders it has, the ladders tried, and the cover, with blank chains behind it.
+#[derive(Clone, Copy, Debug, PartialEq, Eq)]
+pub struct Cover {
     pub number: u64,
     pub tried: u64,
-    pub cover: [Chain; 8],
+    pub chains: [Chain; 8],
+}
+
+// What the search answers: a cover, or that the budget did not do, with the budget as the ladders tried.
+#[derive(Clone, Copy, Debug, PartialEq, Eq)]
+pub enum Fewest {
+    Covered(Cover),
+    Spent(u64),
 }
 
 // The run after a call, and the board of the ladder that it handed out, or that there was none.
@@ -57,28 +52,25 @@ struct Next {
 }
 
 // The fewest ladders of `t` that hold every pair, by trying at most `budget` ladders.
-pub fn fewest_ladders(t: Table, budget: u64) -> Fewest
+pub fn fewest_ladders(t: Table, budget: u64) -> Result<Fewest, Refusal>
     ensures { Covers t budget (fewest result) }
 {
-    let checked = table::check_table(t);
-    if let Verdict::Refused(why) = checked {
-        return refuse(why);
-    }
+    table::check_table(t)?;
     if MOST_TRIED < budget {
-        return refuse(Refusal::BudgetTooLarge);
+        return Err(Refusal::BudgetTooLarge);
     }
     if MOST_SIDE < t.gauges {
-        return refuse(Refusal::CoverShape);
+        return Err(Refusal::CoverShape);
     }
     if MOST_SIDE < t.cases {
-        return refuse(Refusal::CoverShape);
+        return Err(Refusal::CoverShape);
     }
     let mut ladders = [0u64; 1024];
     let count = list_ladders(t, &mut ladders);
     if MOST_LADDERS < count {
-        return refuse(Refusal::TooManyChains);
+        return Err(Refusal::TooManyChains);
     }
-    search(t, &ladders[..count], budget)
+    Ok(search(t, &ladders[..count], budget))
 }
 
 // The boards of the ladders of `t`, in gauge order, and how many there are; 1,025 where there are more than 1,024.
@@ -87,63 +79,53 @@ fn list_ladders(t: Table, ladders: &mut [u64; 1024]) -> usize
     requires room { length ladders.old ≡ most_ladders }
     ensures { Lists t result ladders.new }
 {
-    let start = runs::start_gauges(t, GaugeOrder::plain(t.gauges), false);
-    let mut run = start.run;
-    let mut n: usize = 0;
-    while n < MOST_LADDERS {
+    // the table was checked and the order is plain, so that nothing is refused
+    let mut run = GaugeRun::start(t, GaugeOrder::plain(t.gauges), false).unwrap();
+    for n in 0..MOST_LADDERS {
         let next = next_ladder(run);
         if next.over {
             return n;
         }
         ladders[n] = next.board;
         run = next.run;
-        n += 1;
     }
     let last = next_ladder(run);
     if last.over {
-        return n;
+        return MOST_LADDERS;
     }
-    n + 1
+    MOST_LADDERS + 1
 }
 
 // One call of the run.
 fn next_ladder(run: GaugeRun) -> Next
     ensures { Hands (gauge_value run) result.over result.board (gauge_value result.run) }
 {
-    let step = runs::run_gauges(run, MOVES);
-    let outcome = step.outcome;
-    let chain = step.chain;
-    let rows = chain.rows;
-    let next = step.next;
-    let board = boards::board_of(&rows);
-    match outcome {
-        Outcome::HandedOut => Next {
-            run: next,
-            board: board,
-            over: false,
+    let last = Next {
+        run,
+        board: 0,
+        over: true,
+    };
+    match run.call(MOVES) {
+        Ok(step) => match step.outcome {
+            Outcome::HandedOut(ladder) => {
+                let rows = ladder.chain.rows;
+                Next {
+                    run: step.next,
+                    board: boards::board_of(&rows),
+                    over: false,
+                }
+            }
+            Outcome::Spent => last,
+            Outcome::End => last,
         },
-        Outcome::Spent => Next {
-            run: next,
-            board: board,
-            over: true,
-        },
-        Outcome::End => Next {
-            run: next,
-            board: board,
-            over: true,
-        },
-        Outcome::Refused(_) => Next {
-            run: next,
-            board: board,
-            over: true,
-        },
+        Err(_) => last,
     }
 }
 
 // The search, where the boards are those of the ladders of `t`.
 fn search(t: Table, ladders: &[u64], budget: u64) -> Fewest
     requires { Ready t ladders.now }
-    ensures { Answers t budget (fewest result) }
+    ensures { Answers t budget (fewest_says result) }
 {
     let rows = t.rows;
     let found = cover_search::least_cover(ladders, boards::board_of(&rows), budget);
@@ -151,53 +133,28 @@ fn search(t: Table, ladders: &[u64], budget: u64) -> Fewest
     let cover = found.cover;
     match search {
         Search::Cover(rest, count) => covered(t.gauges, cover, count, budget - rest),
-        Search::Nothing(_) => spend(budget),
-        Search::Spent => spend(budget),
+        Search::Nothing(_) => Fewest::Spent(budget),
+        Search::Spent => Fewest::Spent(budget),
     }
 }
 
 // A cover: the first `count` boards, as chains of `gauges` rows.
 fn covered(gauges: u64, found: [u64; 8], count: usize, tried: u64) -> Fewest
     requires { count ≤ 8 }
-    ensures { fewest result ≡ shown gauges (take count found) count tried }
+    ensures { fewest_says result ≡ shown gauges (take count found) count tried }
 {
-    let mut cover = no_chains();
-    let mut i: usize = 0;
-    while i < count {
-        cover[i] = boards::chain_of(found[i], gauges);
-        i += 1;
+    let mut chains = no_chains();
+    for i in 0..count {
+        chains[i] = boards::chain_of(found[i], gauges);
     }
-    Fewest {
-        outcome: CoverOutcome::Covered,
+    Fewest::Covered(Cover {
         number: count as u64,
-        tried: tried,
-        cover: cover,
-    }
+        tried,
+        chains,
+    })
 }
 
-// "with the budget as that number and no cover"
-fn spend(budget: u64) -> Fewest
-    ensures { fewest result ≡ spent_at budget }
-{
-    Fewest {
-        outcome: CoverOutcome::Spent,
-        number: 0,
-        tried: budget,
-        cover: no_chains(),
-    }
-}
-
-fn refuse(why: Refusal) -> Fewest
-    ensures { fewest result ≡ refusal_reading (number why) }
-{
-    Fewest {
-        outcome: CoverOutcome::Refused(why),
-        number: 0,
-        tried: 0,
-        cover: no_chains(),
-    }
-}
-
+// The chains of a cover, all blank.
 fn no_chains() -> [Chain; 8]
     ensures { result ≡ no_chains }
 {

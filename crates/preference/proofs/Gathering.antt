@@ -4,16 +4,16 @@
 -- picks by place exactly where they were picks by number (`places-of-picks`), so that a value that represents no
 -- state goes on representing none, and picks by place become picks by number again (`numbers-of-picks`).
 use mathlib.Core.Path.{◌≡◌, refl, sym, ap, ap₂, ◌∙◌}
-use mathlib.Core.Logic.{◌⊎◌, inl, inr, ◌↔◌, ◌≢◌}
+use mathlib.Core.Logic.{◌↔◌, ◌≢◌}
 use mathlib.Core.Bool.{cond}
 use mathlib.Core.List.{List, [], ◌∷◌, map, Memᴰ}
-use Prim.Native.Nat.{ℕ, zero, suc, ◌+◌, ◌-◌, ◌≤◌, ◌<◌, min}
+use Prim.Native.Nat.{ℕ, zero, suc, ◌-◌, ◌≤◌, ◌<◌, min}
 use native.Mathlib.Nat.{not-suc-le-zero, le_of_suc-le-suc, min-eq_left}
 use native.Mathlib.Decide.{ℕ_discrete, dec_le, dec_lt}
 use native.Mathlib.Omega.{arith}
 use lib.Dec.{ltb}
-use lib.ListN.{length, take, get_or, set, length-set, length-map, length-replicate, get_or-eq_default}
-use lib.Seq.{ext_get_or, get_or-take, get_or-set_same, get_or-set_other}
+use lib.ListN.{length, take, get_or, length-map, length-replicate, get_or-eq_default}
+use lib.Seq.{ext_get_or, get_or-take}
 use borrow.Author.Tests.{eq-eqb, ne_eqb, lt-ltb, le-ltb}
 use Rattle.sets.specs.Lists.{tabulate}
 use Rattle.sets.proofs.Tabulated.{length-tabulate, get_or-tabulate}
@@ -68,37 +68,18 @@ pub gathered_none : (rows numbers : List ℕ) → Gathered rows numbers no_rows 
 gathered_none rows numbers =
     record { size = length-replicate {A = ℕ} 64 0; most = omega arith; entry = λ j l. absurd (not-suc-le-zero l); rest = λ j l. zero_none j }
 
-pub gathered_more : (rows numbers out : List ℕ) (i : ℕ) → Gathered rows numbers out i → i < 64 → (v : ℕ) → v ≡ row_numbered rows (get_or numbers i 0)
-    → Gathered rows numbers (set out i v) (i + 1)
-gathered_more rows numbers out i g l v e = record {
-  size = length-set out i v ∙ g.size;
-  most = omega arith;
-  entry = λ j h. entry j h (ℕ_discrete j i);
-  rest = λ j h. get_or-set_other out i j v 0 (λ d. omega (arith, d)) ∙ g.rest j (omega arith);
-}
-  where
-    entry : (j : ℕ) → j < i + 1 → Dec (j ≡ i) → get_or (set out i v) j 0 ≡ row_numbered rows (get_or numbers j 0)
-    entry j h (yes d) =
-        ap (λ (k : ℕ). get_or (set out i v) k 0) d ∙ get_or-set_same out i v 0 (omega (arith, g.size)) ∙ e
-        ∙ ap (λ (k : ℕ). row_numbered rows (get_or numbers k 0)) (sym d)
-    entry j h (no d) = get_or-set_other out i j v 0 d ∙ g.entry j (omega arith)
-
 -- n of them, or all 64 where n is larger
-pub gathered_all : (rows numbers out : List ℕ) (i n : ℕ) → Gathered rows numbers out i → i ≤ n → (n ≤ i) ⊎ (64 ≤ i) → out ≡ padded (gathered n rows numbers)
+pub gathered_all : (rows numbers out : List ℕ) (i n : ℕ) → Gathered rows numbers out i → i ≡ min n 64 → out ≡ padded (gathered n rows numbers)
 unfolding gathered
-gathered_all rows numbers out i n g low high =
+gathered_all rows numbers out i n g all =
     pad_ext out (tabulate f (min n 64)) g.size (omega (arith, length-tabulate f (min n 64))) (λ j. go j (dec_lt j i))
   where
     f : ℕ → ℕ
     f = λ i. row_numbered rows (get_or numbers i 0)
 
-    count : (n ≤ i) ⊎ (64 ≤ i) → min n 64 ≡ i
-    count (inl h) = omega (arith, g.most)
-    count (inr h) = omega (arith, g.most)
-
     go : (j : ℕ) → Dec (j < i) → get_or out j 0 ≡ get_or (tabulate f (min n 64)) j 0
-    go j (yes l) = g.entry j l ∙ sym (get_or-tabulate f (min n 64) j (omega (arith, count high)))
-    go j (no l) = g.rest j (omega arith) ∙ sym (row_past (tabulate f (min n 64)) j (omega (arith, length-tabulate f (min n 64), count high)))
+    go j (yes l) = g.entry j l ∙ sym (get_or-tabulate f (min n 64) j (omega arith))
+    go j (no l) = g.rest j (omega arith) ∙ sym (row_past (tabulate f (min n 64)) j (omega (arith, length-tabulate f (min n 64))))
 
 -- ---- what is gathered
 rows_agree : (l x y : List ℕ) → ((i : ℕ) → Memᴰ i l → row x i ≡ row y i) → arrange l x ≡ arrange l y
@@ -190,38 +171,16 @@ pub record Renumbered (l : List ℕ) (n : ℕ) (k out : List ℕ) (i : ℕ) : Ty
   pub entry : (j : ℕ) → j < i → get_or out j 0 ≡ renumber l n (get_or k j 0)
   pub rest : (j : ℕ) → i ≤ j → get_or out j 0 ≡ get_or k j 0
 
-pub renumbered_none : (l : List ℕ) (n : ℕ) (k : List ℕ) → length k ≡ 64 → Renumbered l n k k 0
-renumbered_none l n k long = record { size = long; most = omega arith; entry = λ j h. absurd (not-suc-le-zero h); rest = λ j h. refl }
-
-pub renumbered_more : (l : List ℕ) (n : ℕ) (k out : List ℕ) (i : ℕ) → Renumbered l n k out i → i < 64 → (v : ℕ) → v ≡ renumber l n (get_or k i 0)
-    → Renumbered l n k (set out i v) (i + 1)
-renumbered_more l n k out i r h v e = record {
-  size = length-set out i v ∙ r.size;
-  most = omega arith;
-  entry = λ j b. entry j b (ℕ_discrete j i);
-  rest = λ j b. get_or-set_other out i j v 0 (λ d. omega (arith, d)) ∙ r.rest j (omega arith);
-}
-  where
-    entry : (j : ℕ) → j < i + 1 → Dec (j ≡ i) → get_or (set out i v) j 0 ≡ renumber l n (get_or k j 0)
-    entry j b (yes d) =
-        ap (λ (x : ℕ). get_or (set out i v) x 0) d ∙ get_or-set_same out i v 0 (omega (arith, r.size)) ∙ e
-        ∙ ap (λ (x : ℕ). renumber l n (get_or k x 0)) (sym d)
-    entry j b (no d) = get_or-set_other out i j v 0 d ∙ r.entry j (omega arith)
-
 -- n of them, or all 64 where n is larger
-pub renumbered_all : (l : List ℕ) (n : ℕ) (k out : List ℕ) (i : ℕ) → Renumbered l n k out i → i ≤ n → (n ≤ i) ⊎ (64 ≤ i) → out ≡ renumbered l n k
+pub renumbered_all : (l : List ℕ) (n : ℕ) (k out : List ℕ) (i : ℕ) → Renumbered l n k out i → i ≡ min n 64 → out ≡ renumbered l n k
 unfolding renumbered entry_of
-renumbered_all l n k out i r low high =
+renumbered_all l n k out i r all =
     ext_get_or 0 out (tabulate (entry_of l n k) 64) (r.size ∙ sym (length-tabulate (entry_of l n k) 64))
     (λ j b. go j (omega (arith, r.size)) (dec_lt j i) ∙ sym (get_or-tabulate (entry_of l n k) 64 j (omega (arith, r.size))))
   where
-    past : (n ≤ i) ⊎ (64 ≤ i) → (j : ℕ) → j < 64 → ¬ (j < i) → n ≤ j
-    past (inl h) j b c = omega arith
-    past (inr h) j b c = absurd (omega arith)
-
     go : (j : ℕ) → j < 64 → Dec (j < i) → get_or out j 0 ≡ entry_of l n k j
     go j b (yes c) = r.entry j c ∙ sym (entry_front l n k j (omega arith))
-    go j b (no c) = r.rest j (omega arith) ∙ sym (entry_rest l n k j (past high j b c))
+    go j b (no c) = r.rest j (omega arith) ∙ sym (entry_rest l n k j (omega arith))
 
 -- ---- what is renumbered
 renumbered_at : (l : List ℕ) (n : ℕ) (k : List ℕ) (i : ℕ) → i < 64 → get_or (renumbered l n k) i 0 ≡ entry_of l n k i

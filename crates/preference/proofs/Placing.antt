@@ -27,9 +27,10 @@ use Rattle.lists.specs.Arrangements.{IsArrangement, place_of}
 use Rattle.lists.specs.private.Arranging.{index_at}
 use Rattle.lists.proofs.Standing.{arrangement_of, index_place, place_below, index_below, index_injective}
 use Rattle.preference.specs.Preferences.{is_preference, order_refusal, preferred_refusal, order_of, numbers_of}
-use Rattle.preference.specs.Placing.{inverse, nowhere, placed_as}
+use Rattle.preference.specs.Placing.{inverse, placed_as}
 use Rattle.preference.specs.private.Testing.{zeros_from}
-use Rattle.preference.specs.declared.Placed.{Placed}
+use Rattle.std.specs.Option.{is_some}
+use Rattle.std.specs.Prelude.{Option, Some, None}
 use Rattle.preference.proofs.Holding.{IsPreference, length_order, order_at, numbers_at_lem, held_of, held_front, zeros_at, zeros_of}
 use Rattle.preference.proofs.Holding.{preference_of, of_preference, zeros_in, none_large}
 
@@ -169,19 +170,18 @@ module _ (n : ℕ) (order places : List ℕ) (i : ℕ) (few : n ≤ 64) (long : 
     held = held_of n order few long (λ j h. (m.range j (omega arith)).0) (zeros_at n order z);
   }
 
-  pub place_done : zeros_from n order ≡ true → record { ok = true; places = places } ≡ placed_as n order
+  pub place_done : zeros_from n order ≡ true → Some places ≡ placed_as n order
   unfolding placed_as
   place_done z =
-      ap (λ (x : List ℕ). record { ok = true; places = x }) marked_places
-      ∙ sym (ap (λ (b : Bool). cond b (record { ok = true; places = numbers_of (inverse (order_of n order)) }) nowhere)
+      ap (λ (x : List ℕ). Some x) marked_places
+      ∙ sym (ap (λ (b : Bool). cond b (Some (numbers_of (inverse (order_of n order)))) None)
       (is_true (is_preference n order) (of_preference n order few long (marked_preference (rw z tt)))))
 
 -- ---- the answers where it is none
-pub none_placed : (n : ℕ) (order : List ℕ) → n ≤ 64 → length order ≡ 64 → ¬ IsPreference n order → (r : Placed) → r ≡ nowhere → r ≡ placed_as n order
+pub none_placed : (n : ℕ) (order : List ℕ) → n ≤ 64 → length order ≡ 64 → ¬ IsPreference n order → None ≡ placed_as n order
 unfolding placed_as
-none_placed n order few long h r e =
-    e
-    ∙ sym (ap (λ (b : Bool). cond b (record { ok = true; places = numbers_of (inverse (order_of n order)) }) nowhere)
+none_placed n order few long h =
+    sym (ap (λ (b : Bool). cond b (Some (numbers_of (inverse (order_of n order)))) None)
     (is_false (is_preference n order) (not_T (is_preference n order) (λ t. h (preference_of n order few long t)))))
 
 pub no_zeros : (n : ℕ) (order : List ℕ) → n ≤ 64 → length order ≡ 64 → (b : Bool) → b ≡ zeros_from n order → b ≡ false → ¬ IsPreference n order
@@ -190,11 +190,10 @@ no_zeros n order few long b e d p =
     let z : zeros_from n order ≡ true = is_true (zeros_from n order) (zeros_in n order t) in
     clash cc
 
-pub too_many : (n : ℕ) (order : List ℕ) → 64 < n → length order ≡ 64 → (r : Placed) → r ≡ nowhere → r ≡ placed_as n order
+pub too_many : (n : ℕ) (order : List ℕ) → 64 < n → length order ≡ 64 → None ≡ placed_as n order
 unfolding placed_as
-too_many n order h long r e =
-    e
-    ∙ sym (ap (λ (b : Bool). cond b (record { ok = true; places = numbers_of (inverse (order_of n order)) }) nowhere)
+too_many n order h long =
+    sym (ap (λ (b : Bool). cond b (Some (numbers_of (inverse (order_of n order)))) None)
     (is_false (is_preference n order) (not_T (is_preference n order) (λ t. none_large n order h long t))))
 
 -- ---- the zeros after it, one after the other
@@ -204,42 +203,35 @@ zeros_fail n order i l h d = sym (is_false (zeros_from n order) (not_T (zeros_fr
 pub zeros_pass : (n : ℕ) (order : List ℕ) (i : ℕ) → 64 ≤ i → ((j : ℕ) → n ≤ j → j < i → get_or order j 0 ≡ 0) → true ≡ zeros_from n order
 zeros_pass n order i h f = sym (is_true (zeros_from n order) (zeros_of n order (λ j l b. f j l (omega arith))))
 
-pub zeros_more : (n : ℕ) (order : List ℕ) (i : ℕ) → ((j : ℕ) → n ≤ j → j < i → get_or order j 0 ≡ 0) → get_or order i 0 ≡ 0
-    → (j : ℕ) → n ≤ j → j < i + 1 → get_or order j 0 ≡ 0
-zeros_more n order i f e j l h = go (ℕ_discrete j i)
-  where
-    go : Dec (j ≡ i) → get_or order j 0 ≡ 0
-    go (yes d) = ap (λ (x : ℕ). get_or order x 0) d ∙ e
-    go (no d) = f j l (omega arith)
-
--- ---- the checks, as verdicts
-module _ (n : ℕ) (order : List ℕ) (r : Placed) (is : r ≡ placed_as n order) where
-  pub ok_is : r.ok ≡ is_preference n order
+-- ---- what place_all answers
+module _ (n : ℕ) (order : List ℕ) (r : Option (List ℕ)) (is : r ≡ placed_as n order) where
+  pub some_is : is_some r ≡ is_preference n order
   unfolding placed_as
-  ok_is = ap (λ (x : Placed). x.ok) is ∙ go (is_preference n order)
+  some_is = ap is_some is ∙ go (is_preference n order)
     where
-      go : (b : Bool) → (cond b (record { ok = true; places = numbers_of (inverse (order_of n order)) }) nowhere).ok ≡ b
+      go : (b : Bool) → is_some (cond b (Some (numbers_of (inverse (order_of n order)))) None) ≡ b
       go true = refl
       go false = refl
 
-  pub order_refused : r.ok ≡ false → 27 ≡ order_refusal n order
-  order_refused e = sym (ap (λ (b : Bool). cond b 0 27) (sym ok_is ∙ e))
-
-  pub order_passes : r.ok ≡ true → 0 ≡ order_refusal n order
-  order_passes e = sym (ap (λ (b : Bool). cond b 0 27) (sym ok_is ∙ e))
-
-  -- and the places, where it is one
-  pub places_are : r.ok ≡ true → (is_preference n order ≡ true) × (r.places ≡ numbers_of (inverse (order_of n order)))
+  -- the places, where it is one
+  pub places_are : {places : List ℕ} → r ≡ Some places → (is_preference n order ≡ true) × (places ≡ numbers_of (inverse (order_of n order)))
   unfolding placed_as
-  places_are e = (sym ok_is ∙ e, ap (λ (x : Placed). x.places) is ∙ go (is_preference n order) (sym ok_is ∙ e))
+  places_are {places} e = go (is_preference n order) (sym some_is ∙ ap is_some e) (sym e ∙ is)
     where
-      go : (b : Bool) → b ≡ true → (cond b (record { ok = true; places = numbers_of (inverse (order_of n order)) }) nowhere).places
-          ≡ numbers_of (inverse (order_of n order))
-      go true d = refl
-      go false d = clash cc
+      go : (b : Bool) → b ≡ true → Some places ≡ cond b (Some (numbers_of (inverse (order_of n order)))) None
+          → (b ≡ true) × (places ≡ numbers_of (inverse (order_of n order)))
+      go true t d = (refl, cc)
+      go false t d = clash cc
 
-  pub places_none : r.ok ≡ false → is_preference n order ≡ false
-  places_none e = sym ok_is ∙ e
+  pub places_none : r ≡ None → is_preference n order ≡ false
+  places_none e = sym some_is ∙ ap is_some e
+
+  -- as a check answers
+  pub order_refused : r ≡ None → 27 ≡ order_refusal n order
+  order_refused e = sym (ap (λ (b : Bool). cond b 0 27) (places_none e))
+
+  pub order_passes : {places : List ℕ} → r ≡ Some places → 0 ≡ order_refusal n order
+  order_passes e = sym (ap (λ (b : Bool). cond b 0 27) (places_are e).0)
 
 module _ (t : Table) (n : ℕ) (k : List ℕ) where
   pub table_first_lem : (m : ℕ) → 0 < m → m ≡ table_refusal t → m ≡ preferred_refusal t n k

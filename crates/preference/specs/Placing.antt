@@ -7,13 +7,11 @@
 --
 -- Elsewhere: that gathered rows are the rows by place, and by the places the rows by number again, and that picks become places and numbers again,
 -- `gathered_array`, `gathered_back`, `places-of-picks` and `numbers-of-picks` in proofs/Gathering.antt.
-use Rattle.std.specs.Prelude.{Bool, true, false, cond, List, ℕ, ◌-◌, min, eqb, ltb, length, get_or}
+use Rattle.std.specs.Prelude.{Bool, cond, Option, Some, None, List, ℕ, ◌-◌, min, eqb, ltb, length, get_or}
 use Rattle.sets.specs.Lists.{tabulate, all_below}
 use Rattle.table.specs.Pairs.{row}
-use Rattle.table.specs.Tables.{no_rows}
 use Rattle.lists.specs.Arrangements.{place_of}
 use Rattle.preference.specs.Preferences.{is_preference, order_of, numbers_of, plain_numbers}
-use Rattle.preference.specs.declared.Placed.{Placed}
 
 -- k is "the arrangement 1, 2, 3 and on" of n numbers
 unfoldable pub is_plain : ℕ → List ℕ → Bool
@@ -24,11 +22,8 @@ abbrev pub inverse : List ℕ → List ℕ
 inverse o = tabulate (place_of o) (length o)
 
 -- the place of each number of the preference k, from 1; of what is no preference of n numbers, none
-abbrev pub nowhere : Placed
-nowhere = record { ok = false; places = no_rows }
-
-unfoldable pub placed_as : ℕ → List ℕ → Placed
-placed_as n k = cond (is_preference n k) (record { ok = true; places = numbers_of (inverse (order_of n k)) }) nowhere
+unfoldable pub placed_as : ℕ → List ℕ → Option (List ℕ)
+placed_as n k = cond (is_preference n k) (Some (numbers_of (inverse (order_of n k)))) None
 
 -- the 64 entries of an array
 unfoldable pub entries : List ℕ → List ℕ

@@ -1,4 +1,4 @@
-// Preferences (02, R-12): the orders that a caller hands in, of gauges and of cases, each a type of its own; refusal
+// Preferences (02, R-12): the orders that a caller hands in, of gauges or of cases, by the type of the side; refusal
 // 27; and the steps around the code that goes by number: rows gathered in the order of a preference, numbers turned
 // into places and back. An order holds 64 numbers, those of an arrangement, the most trusted first, padded with
 // zeros. No function that another crate can call has a `requires`, and none changes lent memory.
@@ -8,72 +8,64 @@ ghost use Rattle.std.specs.Prelude.{◌≡◌, true, ◌+◌, ◌-◌, ◌≤◌
 ghost use Rattle.table.specs.Tables.{padded};
 ghost use Rattle.refusals.specs.Answers.{verdict};
 ghost use Rattle.preference.specs.Preferences.{order_refusal, preferred_refusal, plain_numbers};
-ghost use Rattle.preference.specs.Placing.{is_plain, placed_as, nowhere, row_numbered, gathered, renumber as renumber_by, renumbered};
+ghost use Rattle.preference.specs.Placing.{is_plain, placed_as, row_numbered, gathered, renumber as renumber_by, renumbered};
 ghost use Rattle.preference.specs.private.Testing.{zeros_from, plain_at};
 
-use basics;
-use refusals::{Refusal, Verdict};
+use refusals::Refusal;
+use std::array;
+use std::marker::PhantomData;
 use table;
-use table::Table;
+use table::{Case, Gauge, Table};
 
 // How many numbers an order has room for.
 const MOST: usize = Table::MOST_GAUGES as usize;
 
-// The gauges of a table by number, the most trusted first, padded with zeros.
+// The numbers of a side of a table, its gauges or its cases, the most trusted first, padded with zeros.
 #[derive(Clone, Copy)]
-pub struct GaugeOrder(pub [u8; 64]);
-
-// The cases of a table by number, the most trusted first, padded with zeros.
-#[derive(Clone, Copy)]
-pub struct CaseOrder(pub [u8; 64]);
-
-impl GaugeOrder {
-    // "The arrangement 1, 2, 3 and on" of so many gauges, at most 64.
-    pub fn plain(gauges: u64) -> GaugeOrder
-        ensures { result.0 ≡ plain_numbers gauges }
-    {
-        let numbers = plain_numbers(gauges);
-        GaugeOrder(numbers)
-    }
+pub struct Order<S> {
+    pub numbers: [u8; 64],
+    pub side: PhantomData<S>,
 }
 
-impl CaseOrder {
-    // "The arrangement 1, 2, 3 and on" of so many cases, at most 64.
-    pub fn plain(cases: u64) -> CaseOrder
-        ensures { result.0 ≡ plain_numbers cases }
-    {
-        let numbers = plain_numbers(cases);
-        CaseOrder(numbers)
-    }
-}
+pub type GaugeOrder = Order<Gauge>;
 
-// Where each number of an order is: byte g - 1 is the place of number g, from 1; or not ok, and zeros.
-#[derive(Clone, Copy)]
-pub struct Placed {
-    pub ok: bool,
-    pub places: [u8; 64],
+pub type CaseOrder = Order<Case>;
+
+impl<S> Order<S> {
+    pub fn new(numbers: [u8; 64]) -> Order<S>
+        ensures { result.numbers ≡ numbers }
+    {
+        Order {
+            numbers,
+            side: PhantomData,
+        }
+    }
+
+    // "The arrangement 1, 2, 3 and on" of so many numbers, at most 64.
+    pub fn plain(count: u64) -> Order<S>
+        ensures { result.numbers ≡ plain_numbers count }
+    {
+        Order::new(plain_numbers(count))
+    }
 }
 
 // The checks of a table and then of an order of `n` of its numbers: 10 and 11, then 27.
-pub fn check(t: Table, n: u64, order: [u8; 64]) -> Verdict
+#[tactic(auto, using(refusals::proofs::Answering::number_pos), unfolding(crate::specs::Preferences::preferred_refusal))]
+pub fn check(t: Table, n: u64, order: [u8; 64]) -> Result<(), Refusal>
     ensures { verdict result ≡ preferred_refusal t n order }
 {
-    let checked = table::check_table(t);
-    if let Verdict::Refused(why) = checked {
-        return Verdict::Refused(why);
-    }
+    table::check_table(t)?;
     check_order(order, n as usize)
 }
 
 // 27 for an order that is no arrangement of 1..n.
-fn check_order(order: [u8; 64], n: usize) -> Verdict
+fn check_order(order: [u8; 64], n: usize) -> Result<(), Refusal>
     ensures { verdict result ≡ order_refusal n order }
 {
-    let placed = place_all(order, n);
-    if !placed.ok {
-        return Verdict::Refused(Refusal::NotAnArrangement);
+    match place_all(order, n) {
+        Some(_) => Ok(()),
+        None => Err(Refusal::NotAnArrangement),
     }
-    Verdict::Accepted
 }
 
 // Whether an order is the plain one, 1, 2, 3, .., of `n` numbers. One pass without a way out and in bytes alone,
@@ -83,27 +75,23 @@ pub fn is_plain(order: &[u8; 64], n: usize) -> bool
 {
     let lift = lift_of(n);
     let mut strays: u8 = 0;
-    let mut i: usize = 0;
-    while i < MOST {
+    for i in 0..MOST {
         if order[i] != plain_number(i as u8, lift) {
             strays += 1;
-            i += 1;
-        } else {
-            i += 1;
         }
     }
     strays == 0
 }
 
-// The places of the numbers of an order of 1..n.
-pub fn place_all(order: [u8; 64], n: usize) -> Placed
+// Where each number of an order of 1..n is: byte g - 1 is the place of number g, from 1. What is no such order has no places.
+pub fn place_all(order: [u8; 64], n: usize) -> Option<[u8; 64]>
     ensures { result ≡ placed_as n order }
 {
     if MOST < n {
-        return not_placed();
+        return None;
     }
     if !zeros_from(&order, n) {
-        return not_placed();
+        return None;
     }
     place_first(&order, n)
 }
@@ -114,13 +102,8 @@ pub fn gather(rows: &[u64; 64], numbers: &[u8; 64], n: usize) -> [u64; 64]
     ensures { result ≡ padded (gathered n rows.now numbers.now) }
 {
     let mut out = [0u64; 64];
-    let mut i: usize = 0;
-    while i < n {
-        if MOST <= i {
-            return out;
-        }
+    for i in 0..n.min(MOST) {
         out[i] = row_numbered(rows, numbers[i]);
-        i += 1;
     }
     out
 }
@@ -131,13 +114,8 @@ pub fn renumber(picks: [u8; 64], numbers: &[u8; 64], n: usize) -> [u8; 64]
     ensures { result ≡ renumbered numbers.now n picks }
 {
     let mut out = picks;
-    let mut i: usize = 0;
-    while i < n {
-        if MOST <= i {
-            return out;
-        }
+    for i in 0..n.min(MOST) {
         out[i] = renumber_pick(numbers, n, picks[i]);
-        i += 1;
     }
     out
 }
@@ -155,7 +133,7 @@ pub fn renumber_one(numbers: &[u8; 64], n: usize, g: usize) -> usize
     if MOST < g {
         return 0;
     }
-    basics::index(numbers[g - 1])
+    usize::from(numbers[g - 1])
 }
 
 // The same of a pick.
@@ -190,53 +168,35 @@ pub fn row_numbered(rows: &[u64; 64], number: u8) -> u64
 }
 
 // The places of the first `n` numbers, where they are an arrangement of 1..n.
-fn place_first(order: &[u8; 64], n: usize) -> Placed
+fn place_first(order: &[u8; 64], n: usize) -> Option<[u8; 64]>
     requires { (n ≤ 64) × (length order.now ≡ 64) × (zeros_from n order.now ≡ true) }
     ensures { result ≡ placed_as n order.now }
 {
     let mut places = [0u8; 64];
-    let mut i: usize = 0;
-    while i < n {
-        let g = basics::index(order[i]);
+    for i in 0..n {
+        let g = usize::from(order[i]);
         if g == 0 {
-            return not_placed();
+            return None;
         }
         if n < g {
-            return not_placed();
+            return None;
         }
         if places[g - 1] != 0 {
-            return not_placed();
+            return None;
         }
         places[g - 1] = (i + 1) as u8;
-        i += 1;
     }
-    Placed {
-        ok: true,
-        places: places,
-    }
-}
-
-// No number has a place.
-fn not_placed() -> Placed
-    ensures { result ≡ nowhere }
-{
-    let places = [0u8; 64];
-    Placed {
-        ok: false,
-        places: places,
-    }
+    Some(places)
 }
 
 // Whether the numbers from place `from` on are zeros.
 fn zeros_from(order: &[u8; 64], from: usize) -> bool
     ensures { result ≡ zeros_from from order.now }
 {
-    let mut i = from;
-    while i < MOST {
+    for i in from..MOST {
         if order[i] != 0 {
             return false;
         }
-        i += 1;
     }
     true
 }
@@ -246,13 +206,7 @@ fn plain_numbers(n: u64) -> [u8; 64]
     ensures { result ≡ plain_numbers n }
 {
     let lift = lift_of(n as usize);
-    let mut numbers = [0u8; 64];
-    let mut i: usize = 0;
-    while i < MOST {
-        numbers[i] = plain_number(i as u8, lift);
-        i += 1;
-    }
-    numbers
+    array::from_fn(|i| plain_number(i as u8, lift))
 }
 
 // What lifts the places of the first `n` numbers, at most 64, to less than 128 and every other place to 128 or more.

@@ -23,7 +23,8 @@ use Rattle.sets.proofs.Tests.{and_l}
 use Rattle.table.specs.Pairs.{row, Has}
 use Rattle.table.specs.Tables.{in_range, no_rows, blank_table, made}
 use Rattle.table.specs.declared.Table.{Table}
-use Rattle.table.specs.declared.Made.{Made}
+use Rattle.std.specs.Prelude.{Result}
+use Rattle.refusals.specs.declared.Refusal.{Refusal}
 use Rattle.table.proofs.Places.{same_pairs_rows}
 use Rattle.refusals.specs.Answers.{Answer, verdict}
 use Rattle.recorded.specs.Tests.{reading_of, LegalTest, test_refusal, table_of, cutoff_refusal, table_at}
@@ -71,11 +72,11 @@ legal_claims t ok cutoff l = record {
 }
 
 -- and what `table_at` answers
-pub cutoff_claims : (t : Test) → length t.entries ≡ 64 → length t.readings ≡ 4096 → (cutoff : ℕ) (r : Made) → made r ≡ table_at t cutoff
-    → verdict r.verdict ≡ 0 → CutoffClaims t cutoff r.table.rows
+pub cutoff_claims : (t : Test) → length t.entries ≡ 64 → length t.readings ≡ 4096 → (cutoff : ℕ) (r : Result Table Refusal) → made r ≡ table_at t cutoff
+    → verdict r ≡ 0 → CutoffClaims t cutoff (made r).value.rows
 cutoff_claims t m n cutoff r e v =
     let z : cutoff_refusal t cutoff ≡ 0 = sym (ap (λ (a : Answer Table). a.refusal) e) ∙ v in
-    let is : r.table.rows ≡ (table_of t cutoff).rows =
+    let is : (made r).value.rows ≡ (table_of t cutoff).rows =
     ap (λ (a : Answer Table). a.value.rows) e ∙ ap (λ (k : ℕ). (cond (eqb k 0) (table_of t cutoff) blank_table).rows) z in
     subst (CutoffClaims t cutoff) (sym is) (legal_claims t (test_legal t m n (both t cutoff z).1) cutoff (least t cutoff z))
 
@@ -94,8 +95,8 @@ module _ (t : Test) (cutoff : ℕ) (rows : List ℕ) (claims : CutoffClaims t cu
   zero_pairless k z = claims.listed_zero g c k z
 
 -- two answers of `table_at` on one test
-pub raised_adds_none : (t : Test) (low high : ℕ) (a b : Made) → CutoffClaims t low a.table.rows → made b ≡ table_at t high → low ≤ high
-    → (g c : ℕ) → Has b.table.rows g c → Has a.table.rows g c
+pub raised_adds_none : (t : Test) (low high : ℕ) (a b : Result Table Refusal) → CutoffClaims t low (made a).value.rows → made b ≡ table_at t high → low ≤ high
+    → (g c : ℕ) → Has (made b).value.rows g c → Has (made a).value.rows g c
 raised_adds_none t low high a b claims e h g c p =
     claims.raising high h g c (subst (λ (x : Answer Table). Has x.value.rows g c) e p)
 

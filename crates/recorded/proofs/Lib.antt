@@ -1,6 +1,5 @@
--- Laws of recorded tests: signed words, one turn of each loop, the answers of the checks, the table at a cutoff, legality, the pairs of that table in 02's
+-- Laws of recorded tests: one turn of each loop, the answers of the checks, the table at a cutoff, legality, the pairs of that table in 02's
 -- words, equality.
-pub mod Signs
 pub mod Turns
 pub mod Checking
 pub mod Reaching

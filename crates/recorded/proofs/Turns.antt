@@ -6,13 +6,11 @@ use Prim.Native.Nat.{ℕ, zero, suc, ◌+◌, ◌*◌, ◌/◌, ◌%◌, ◌^◌
 use native.Mathlib.Nat.{pow-suc, one-mul, add-zero}
 use native.Mathlib.Numerals.{add-one}
 use native.Mathlib.Omega.{arith}
-use lib.Dec.{leb}
 use lib.IntN.{ℤ, nat_abs}
 use lib.Pow.{shl_exact, pow_mono}
-use borrow.Author.Tests.{le-leb, lt-leb, eq-eqb, ne_eqb}
-use Rattle.sets.specs.Sets.{bit}
+use borrow.Author.Tests.{le-leb, lt-leb}
 use Rattle.table.specs.Pairs.{row}
-use Rattle.recorded.specs.Tests.{reading, place_fits, fits_at, reaches, set_below, within_at}
+use Rattle.recorded.specs.Tests.{reading, place_fits, fits_at, set_below, within_at}
 
 -- ---- sets of places
 pub set_lt : (f : ℕ → Bool) (n : ℕ) → set_below f n < 2 ^ n
@@ -52,32 +50,15 @@ module _ (f : ℕ → Bool) (s k : ℕ) (b : Below f s k) (h : k < 64) where
 pub below_all_lem : (f : ℕ → Bool) (s k : ℕ) → Below f s k → 64 ≤ k → s ≡ set_below f 64
 below_all_lem f s k b h = let z : k ≡ 64 = omega (arith, b.most) in b.is ∙ ap (set_below f) z
 
--- ---- single places. A signed value that was handed to a callee is read back from its bits: x is what the callee saw, and it is v
-pub fits_zero : (r k m : ℕ) (x v : ℤ) → x ≡ v → m ≡ nat_abs x → m ≡ 0 → true ≡ place_fits r k v
-unfolding place_fits
-fits_zero r k m x v s e z = rw (eq-eqb (nat_abs v) 0 (ap nat_abs (sym s) ∙ sym e ∙ z))
-
-pub fits_bit : (r k m : ℕ) (x v : ℤ) (t : Bool) → x ≡ v → m ≡ nat_abs x → (m ≡ 0 → ⊥) → t ≡ bit r k → t ≡ place_fits r k v
-unfolding place_fits
-fits_bit r k m x v t s e z d = rw (ne_eqb (nat_abs v) 0 (λ y. z (e ∙ ap nat_abs s ∙ y))) d
-
-pub fits_place : (rows : List ℕ) (vs : List ℤ) (p : ℕ) (x : ℤ) (t : Bool) → x ≡ reading vs p → t ≡ place_fits (row rows (p / 64)) (p % 64) x
-    → t ≡ fits_at rows vs p
+-- ---- single places
+pub fits_place : (rows : List ℕ) (vs : List ℤ) (p : ℕ) (t : Bool) → t ≡ place_fits (row rows (p / 64)) (p % 64) (reading vs p) → t ≡ fits_at rows vs p
 unfolding fits_at
-fits_place rows vs p x t s e = e ∙ ap (place_fits (row rows (p / 64)) (p % 64)) s
+fits_place rows vs p t e = e
 
-pub reaches_not : (cutoff r k : ℕ) (v : ℤ) (t : Bool) → t ≡ bit r k → t ≡ false → false ≡ reaches cutoff r k v
-unfolding reaches
-reaches_not cutoff r k v t e f = rw (sym e ∙ f)
-
-pub reaches_by : (cutoff r k m : ℕ) (x v : ℤ) (t : Bool) → t ≡ bit r k → t ≡ true → x ≡ v → m ≡ nat_abs x → leb cutoff m ≡ reaches cutoff r k v
-unfolding reaches
-reaches_by cutoff r k m x v t e f s d = rw (sym e ∙ f, d ∙ ap nat_abs s)
-
-pub within_no : (vs : List ℤ) (p m : ℕ) (x : ℤ) → x ≡ reading vs p → m ≡ nat_abs x → 1000000 < m → false ≡ within_at vs p
+pub within_no : (vs : List ℤ) (p m : ℕ) → m ≡ nat_abs (reading vs p) → 1000000 < m → false ≡ within_at vs p
 unfolding within_at
-within_no vs p m x s e h = sym (lt-leb (nat_abs (reading vs p)) 1000000 (omega (arith, e ∙ ap nat_abs s)))
+within_no vs p m e h = sym (lt-leb (nat_abs (reading vs p)) 1000000 (omega arith))
 
-pub within_yes : (vs : List ℤ) (p m : ℕ) (x : ℤ) → x ≡ reading vs p → m ≡ nat_abs x → m ≤ 1000000 → true ≡ within_at vs p
+pub within_yes : (vs : List ℤ) (p m : ℕ) → m ≡ nat_abs (reading vs p) → m ≤ 1000000 → true ≡ within_at vs p
 unfolding within_at
-within_yes vs p m x s e h = sym (le-leb (nat_abs (reading vs p)) 1000000 (omega (arith, e ∙ ap nat_abs s)))
+within_yes vs p m e h = sym (le-leb (nat_abs (reading vs p)) 1000000 (omega arith))

@@ -2,14 +2,12 @@
 -- listed zero differing from an absent entry, and no cutoff enters. Tests read from pattern files are equal when
 -- shape and entries agree, and never equal an integer one." `EqualTests` is the one place that has this meaning; of
 -- legal tests it is equality of the two values (`equal_value` in proofs/Equal.antt).
-use Rattle.std.specs.Prelude.{◌≡◌, true, false, cond, ◌↔◌, ℕ, eqb}
+use Rattle.std.specs.Prelude.{◌≡◌, Bool, true, false, cond, ◌↔◌, ℕ, eqb, Result}
 use Rattle.table.specs.Pairs.{Has}
-use Rattle.refusals.specs.Answers.{verdict}
+use Rattle.refusals.specs.Answers.{verdict, given}
 use Rattle.refusals.specs.declared.Refusal.{Refusal}
-use Rattle.refusals.specs.declared.Verdict.TheVariants.{Refused}
 use Rattle.recorded.specs.Tests.{reading_of, test_refusal}
 use Rattle.recorded.specs.declared.Test.{Test}
-use Rattle.recorded.specs.declared.Compared.{Compared}
 
 -- two tests are equal: of one kind, of one shape, with the same entries, whatever their readings, and at each entry
 -- the same reading; a pattern test has no reading but 0, so there shape and entries decide
@@ -26,11 +24,7 @@ two_refusal a b = cond (eqb (test_refusal a) 0) (test_refusal b) (test_refusal a
 
 -- the answer: the refusal, and where there is none, whether the tests are equal; "no" beside a refusal. It leaves one
 -- answer (`compared_unique` in proofs/Equal.antt).
-pub record ComparedAs (a b : Test) (r : Compared) : Type 0 where
-  pub refusal : verdict r.verdict ≡ two_refusal a b
-  pub refused : ¬ (two_refusal a b ≡ 0) → r.same ≡ false
-  pub same : two_refusal a b ≡ 0 → (r.same ≡ true) ↔ EqualTests a b
-
--- the answer of a refusal
-abbrev pub compared_no : Refusal → Compared
-compared_no why = record { verdict = Refused why; same = false }
+pub record ComparedAs (a b : Test) (r : Result Bool Refusal) : Type 0 where
+  pub refusal : verdict r ≡ two_refusal a b
+  pub refused : ¬ (two_refusal a b ≡ 0) → given false r ≡ false
+  pub same : two_refusal a b ≡ 0 → (given false r ≡ true) ↔ EqualTests a b

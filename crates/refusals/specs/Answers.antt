@@ -1,6 +1,6 @@
 -- What an entry answers, in 01's words: the number of the refusal, 0 where nothing is refused, and the values beside it, which are
 -- blank on a refusal. Each crate reads its own answers through a definition made of these, and no two answers read alike.
-use Rattle.std.specs.Prelude.{cond, ℕ, eqb}
+use Rattle.std.specs.Prelude.{cond, ℕ, eqb, Result, Ok, Err}
 use Rattle.refusals.specs.declared.Refusal.{Refusal}
 use Rattle.refusals.specs.declared.Refusal.TheVariants.{
   FileTooLong,
@@ -32,8 +32,6 @@ use Rattle.refusals.specs.declared.Refusal.TheVariants.{
   NotAnArrangement,
   SampleInput,
 }
-use Rattle.refusals.specs.declared.Verdict.{Verdict}
-use Rattle.refusals.specs.declared.Verdict.TheVariants.{Accepted, Refused}
 
 -- the number of a refusal in 01, "Refused, by the place of the check", and in 02
 abbrev pub number : Refusal → ℕ
@@ -87,7 +85,14 @@ answer n value blank = record { refusal = n; value = cond (eqb n 0) value blank 
 abbrev pub refused : {A : Type 0} → Refusal → A → Answer A
 refused why blank = record { refusal = number why; value = blank }
 
--- how the code's answers read
-abbrev pub verdict : Verdict → ℕ
-verdict Accepted = 0
-verdict (Refused x) = number x
+-- how the code's answers read: their number, the value that they give, for which `blank` stands on a refusal, and both
+abbrev pub verdict : {A : Type 0} → Result A Refusal → ℕ
+verdict (Ok value) = 0
+verdict (Err why) = number why
+
+abbrev pub given : {A : Type 0} → A → Result A Refusal → A
+given blank (Ok value) = value
+given blank (Err why) = blank
+
+abbrev pub answered : {A : Type 0} → A → Result A Refusal → Answer A
+answered blank result = record { refusal = verdict result; value = given blank result }

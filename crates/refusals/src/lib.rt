@@ -1,83 +1,61 @@
-// The conditions that 01 and its later requests refuse, and the number that each has there. A further refusal is one more name here, in the
-// order of its number; one more line in `refusal_number`, in `number` of specs/Answers.antt and in `named` and `named-number` of
-// proofs/Answering.antt; and two in the proof of `refusal_number`. No function has a `requires`.
+// The conditions that 01 and its later requests refuse, each with the number that it has there. A check answers `Ok` or the refusal, and a
+// refusal goes up by `?`. A further refusal is one more line here, in the order of its number; one more line in `number` of specs/Answers.antt
+// and in `named` and `named-number` of proofs/Answering.antt. No function has a `requires`.
 #![tactic(auto)]
 
 ghost use Rattle.std.specs.Prelude.{◌≡◌};
 ghost use Rattle.refusals.specs.Answers.{number};
 
-// The conditions, in the order of their numbers.
-#[derive(Clone, Copy)]
+use std::error::Error;
+use std::fmt;
+
+// The conditions, each with its number.
+#[derive(Clone, Copy, Debug, PartialEq, Eq)]
 pub enum Refusal {
-    FileTooLong,
-    NotTheBanner,
-    LineTooLong,
-    SizeFields,
-    SizeRange,
-    PairFields,
-    PairRange,
-    PairRepeated,
-    PairCount,
-    TableShape,
-    TableRows,
-    ChainCount,
-    ChainPairs,
-    NotAChain,
-    NotReached,
-    BufferTooShort,
-    NoSuchComment,
-    BudgetTooLarge,
-    PairAbsent,
-    ReadingRange,
-    CutoffRange,
-    PairInChain,
-    CoverShape,
-    TooManyChains,
-    NotMaximal,
-    OtherProposal,
-    NotAnArrangement,
-    SampleInput,
+    FileTooLong = 1,
+    NotTheBanner = 2,
+    LineTooLong = 3,
+    SizeFields = 4,
+    SizeRange = 5,
+    PairFields = 6,
+    PairRange = 7,
+    PairRepeated = 8,
+    PairCount = 9,
+    TableShape = 10,
+    TableRows = 11,
+    ChainCount = 12,
+    ChainPairs = 13,
+    NotAChain = 14,
+    NotReached = 15,
+    BufferTooShort = 16,
+    NoSuchComment = 17,
+    BudgetTooLarge = 18,
+    PairAbsent = 19,
+    ReadingRange = 20,
+    CutoffRange = 21,
+    PairInChain = 22,
+    CoverShape = 23,
+    TooManyChains = 24,
+    NotMaximal = 25,
+    OtherProposal = 26,
+    NotAnArrangement = 27,
+    SampleInput = 28,
 }
 
-// Whether a check passed, and if not, which refusal it was.
-#[derive(Clone, Copy)]
-pub enum Verdict {
-    Accepted,
-    Refused(Refusal),
-}
-
-// The number of a refusal.
-pub fn refusal_number(why: Refusal) -> u64
-    ensures { result ≡ number why }
-{
-    match why {
-        Refusal::FileTooLong => 1,
-        Refusal::NotTheBanner => 2,
-        Refusal::LineTooLong => 3,
-        Refusal::SizeFields => 4,
-        Refusal::SizeRange => 5,
-        Refusal::PairFields => 6,
-        Refusal::PairRange => 7,
-        Refusal::PairRepeated => 8,
-        Refusal::PairCount => 9,
-        Refusal::TableShape => 10,
-        Refusal::TableRows => 11,
-        Refusal::ChainCount => 12,
-        Refusal::ChainPairs => 13,
-        Refusal::NotAChain => 14,
-        Refusal::NotReached => 15,
-        Refusal::BufferTooShort => 16,
-        Refusal::NoSuchComment => 17,
-        Refusal::BudgetTooLarge => 18,
-        Refusal::PairAbsent => 19,
-        Refusal::ReadingRange => 20,
-        Refusal::CutoffRange => 21,
-        Refusal::PairInChain => 22,
-        Refusal::CoverShape => 23,
-        Refusal::TooManyChains => 24,
-        Refusal::NotMaximal => 25,
-        Refusal::OtherProposal => 26,
-        Refusal::NotAnArrangement => 27,
-        Refusal::SampleInput => 28,
+impl Refusal {
+    // The number of a refusal.
+    pub fn number(self) -> u64
+        ensures { result ≡ number self }
+    {
+        self as u64
     }
 }
+
+// A refusal as the programs print it.
+impl fmt::Display for Refusal {
+    fn fmt<W: fmt::Write>(&self, f: &mut fmt::Formatter<W>) -> fmt::Result {
+        write!(f, "refused {}", self.number())
+    }
+}
+
+impl Error for Refusal {}

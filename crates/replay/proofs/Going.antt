@@ -38,10 +38,10 @@ use Rattle.lists.proofs.CandidateTree.{candidate_tree}
 use Rattle.lists.proofs.Replaying.{Stands, stands_none, stands-twin, stands_fewer, twin-needed}
 use Rattle.search.proofs.Within.{yes_no_lem}
 use Rattle.search.proofs.AfterPicks.{full}
-use Rattle.replay.specs.Picked.{array_rows, Picked, Made, not_made, Replays}
+use Rattle.std.specs.Prelude.{Option, Some, None}
+use Rattle.replay.specs.Picked.{array_rows, Picked, Made, Replays}
 use Rattle.replay.specs.private.Steps.{Judges, NoneAgainst}
 use Rattle.replay.specs.declared.Replayed.{Replayed}
-use Rattle.replay.specs.declared.Judged.{Judged}
 use Rattle.replay.proofs.Numbers.{valid_next}
 
 pub full_is : full ≡ 2 ^ 64 - 1
@@ -156,12 +156,12 @@ module _ (n : ℕ) (rows k : List ℕ) where
           positive (no d) = omega arith
 
       pub going_more : (t : Bool) → t ≡ bit u g → t ≡ true → own ≡ bit_and (get_or rows g 0) left → (own ≡ 0 → ⊥)
-          → (j : Judged) → Judges (get_or rows g 0) own before left last g j → j.ok ≡ true → (u' : ℕ) → Without u g u' → Going u' own j.before number (i + 1)
-      going_more t et ht eo ne j d ok u' w = record {
+          → (j : Option ℕ) → Judges (get_or rows g 0) own before left last g j → (b : ℕ) → j ≡ Some b → (u' : ℕ) → Without u g u' → Going u' own b number (i + 1)
+      going_more t et ht eo ne j d b ok u' w = record {
         picks = f.picks ++ (g ∷ []);
         counted = omega (arith, length_snoc f.picks g, f.counted);
         numbers = λ j l. numbered j (dec_lt j i) l;
-        stands = subst (Stands r full (side_inside n rows) (f.picks ++ (g ∷ [])) j.before own) (sym number_is) (stood (ℕ_discrete own left));
+        stands = subst (Stands r full (side_inside n rows) (f.picks ++ (g ∷ [])) b own) (sym number_is) (stood (ℕ_discrete own left));
         unpicked_are = λ h.
             w.bits h ∙ ap (λ (x : Bool). x && not (eqb h g)) (f.unpicked_are h) ∙ bools (ltb h (length r)) (is_in h f.picks) (eqb h g)
             ∙ sym (ap (λ (x : Bool). ltb h (length r) && not x) (is_in_snoc f.picks g h));
@@ -192,26 +192,23 @@ module _ (n : ℕ) (rows k : List ℕ) where
               ap (λ (m : ℕ). get_or k m 0) d ∙ sym en ∙ number_is
               ∙ ap suc (sym (ap (λ (m : ℕ). get_or (f.picks ++ (g ∷ [])) m 0) e ∙ get_or-append_seam f.picks g [] 0))
 
-          low : Dec (own ≡ left) → j.before ⊆ full
-          low (yes e) = rw (d.twin ok e).0 f.before_low
-          low (no e) = rw (d.fewer ok e) f.left_low
+          low : Dec (own ≡ left) → b ⊆ full
+          low (yes e) = rw (d.twin b ok e).0 f.before_low
+          low (no e) = rw (d.fewer b ok e) f.left_low
 
-          stood : Dec (own ≡ left) → Stands r full (side_inside n rows) (f.picks ++ (g ∷ [])) j.before own (suc g)
+          stood : Dec (own ≡ left) → Stands r full (side_inside n rows) (f.picks ++ (g ∷ [])) b own (suc g)
           stood (yes e) =
-              let (eb, (m, y)) = d.twin ok e in
+              let (eb, (m, y)) = d.twin b ok e in
               subst (λ (x : ℕ). Stands r full (side_inside n rows) (f.picks ++ (g ∷ [])) x own (suc g)) (sym eb)
               (stands-twin r full (side_inside n rows) f.picks before left last g own f.stands own_is e below fresh ne (sym (twin-in g below) ∙ m) y)
           stood (no e) =
-              subst (λ (x : ℕ). Stands r full (side_inside n rows) (f.picks ++ (g ∷ [])) x own (suc g)) (sym (d.fewer ok e))
+              subst (λ (x : ℕ). Stands r full (side_inside n rows) (f.picks ++ (g ∷ [])) x own (suc g)) (sym (d.fewer b ok e))
               (stands_fewer r full (side_inside n rows) f.picks before left last g own f.stands own_is e below fresh ne)
 
     -- ---- picks that can have been made have this one right
     module _ (number count : ℕ) (l : i < count) (en : number ≡ get_or k i 0) (q : List ℕ) (h : Picked r k count q) where
       next-number : number ≡ suc (get_or q i 0)
       next-number = en ∙ h.numbers i l
-
-      pub bad-zero : number ≡ 0 → ⊥
-      bad-zero z = omega (arith, next-number)
 
       module _ (g : ℕ) (eg : g ≡ number - 1) where
         valid-more : Valid (candidates r) (f.picks ++ (g ∷ []))
@@ -232,7 +229,7 @@ module _ (n : ℕ) (rows k : List ℕ) where
         pub bad-empty : (own : ℕ) → own ≡ bit_and (get_or rows g 0) left → own ≡ 0 → ⊥
         bad-empty own eo z = cand.filled (rem_is g ∙ sym (eo ∙ own_in g cand.below) ∙ z)
 
-        pub bad-judge : (own : ℕ) → own ≡ bit_and (get_or rows g 0) left → (j : Judged) → Judges (get_or rows g 0) own before left last g j → j.ok ≡ false → ⊥
+        pub bad-judge : (own : ℕ) → own ≡ bit_and (get_or rows g 0) left → (j : Option ℕ) → Judges (get_or rows g 0) own before left last g j → j ≡ None → ⊥
         bad-judge own eo j d hn =
             let (el, bad) = d.no hn in
             let (m, y) = twin-needed r full (side_inside n rows) f.picks before left last g own f.stands (eo ∙ own_in g cand.below) el valid-more in
@@ -281,33 +278,26 @@ pub low_more : (u g u' : ℕ) → Low u → Without u g u' → Low u'
 low_more u g u' f w h b = f h (both (bit u h) (not (eqb h g)) (sym (w.bits h) ∙ b)).0
 
 -- ---- the answers
-pub replays_no : (n : ℕ) (rows k : List ℕ) (count : ℕ) (s : Replayed) → s ≡ not_made → ((p : List ℕ) → Picked (array_rows n rows) k count p → ⊥)
-    → Replays n rows k count s
-replays_no n rows k count s e h = record { yes = λ d. yes_no_lem s.ok d (ap (λ (x : Replayed). x.ok) e); no = λ d. (e, h) }
+pub replays_no : (n : ℕ) (rows k : List ℕ) (count : ℕ) → ((p : List ℕ) → Picked (array_rows n rows) k count p → ⊥) → Replays n rows k count None
+replays_no n rows k count h = record { yes = λ s d. absurd cc; no = λ d. h }
 
-pub replays_yes : (n : ℕ) (rows k : List ℕ) (count : ℕ) (s : Replayed) → s.ok ≡ true → Made (array_rows n rows) k count s → Replays n rows k count s
-replays_yes n rows k count s e h = record { yes = λ d. h; no = λ d. yes_no_lem s.ok e d }
+pub replays_yes : (n : ℕ) (rows k : List ℕ) (count : ℕ) (s : Replayed) → Made (array_rows n rows) k count s → Replays n rows k count (Some s)
+replays_yes n rows k count s h = record { yes = λ q d. let e : s ≡ q = cc in subst (Made (array_rows n rows) k count) e h; no = λ d. absurd cc }
 
-pub replays_unique : (n : ℕ) (rows k : List ℕ) (count : ℕ) (s q : Replayed) → Replays n rows k count s → Replays n rows k count q → s ≡ q
-replays_unique n rows k count s q a b = go s.ok refl q.ok refl
+pub replays_unique : (n : ℕ) (rows k : List ℕ) (count : ℕ) (s q : Option Replayed) → Replays n rows k count s → Replays n rows k count q → s ≡ q
+replays_unique n rows k count None None a b = refl
+replays_unique n rows k count None (Some y) a b = let w = b.yes y refl in absurd (a.no refl w.picks w.given)
+replays_unique n rows k count (Some x) None a b = let m = a.yes x refl in absurd (b.no refl m.picks m.given)
+replays_unique n rows k count (Some x) (Some y) a b = ap Some (one (a.yes x refl) (b.yes y refl))
   where
-    record_is : (s q : Replayed) → s.ok ≡ q.ok → s.unpicked ≡ q.unpicked → s.left ≡ q.left → s ≡ q
-    record_is s q x y z = made_of s.ok q.ok s.unpicked q.unpicked s.left q.left x y z
-      where
-        made_of : (o p : Bool) (u v l m : ℕ) → o ≡ p → u ≡ v → l ≡ m
-            → ◌≡◌ {A = Replayed} (record { ok = o; unpicked = u; left = l }) (record { ok = p; unpicked = v; left = m })
-        made_of o p u v l m x y z = rw (x, y, z)
+    record_is : (u v l m : ℕ) → u ≡ v → l ≡ m → ◌≡◌ {A = Replayed} (record { unpicked = u; left = l }) (record { unpicked = v; left = m })
+    record_is u v l m y z = rw (y, z)
 
-    go : (x : Bool) → s.ok ≡ x → (y : Bool) → q.ok ≡ y → s ≡ q
-    go true d true e =
-        let m = a.yes d in
-        let w = b.yes e in
+    one : Made (array_rows n rows) k count x → Made (array_rows n rows) k count y → x ≡ y
+    one m w =
         let same : m.picks ≡ w.picks =
         same_picks m.picks w.picks count m.given.counted w.given.counted (λ j l. sym (m.given.numbers j l) ∙ w.given.numbers j l) in
-        record_is s q (d ∙ sym e)
-        (eq_of_bits s.unpicked q.unpicked (λ j. m.unpicked j ∙ ap (λ (p : List ℕ). ltb j (length (array_rows n rows)) && not (is_in j p)) same
+        record_is x.unpicked y.unpicked x.left y.left
+        (eq_of_bits x.unpicked y.unpicked (λ j. m.unpicked j ∙ ap (λ (p : List ℕ). ltb j (length (array_rows n rows)) && not (is_in j p)) same
         ∙ sym (w.unpicked j)))
         (m.left ∙ ap (λ (p : List ℕ). common (array_rows n rows) p (lowest 64)) same ∙ sym w.left)
-    go true d false e = absurd ((b.no e).1 (a.yes d).picks (a.yes d).given)
-    go false d true e = absurd ((a.no d).1 (b.yes e).picks (b.yes e).given)
-    go false d false e = (a.no d).0 ∙ sym (b.no e).0

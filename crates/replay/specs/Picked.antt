@@ -3,7 +3,7 @@
 -- number of moves from a fresh start leads to. Arrays are read by place, 64 of them, so each of these says what holds
 -- for every n, every count and any numbers in the arrays; that they leave one answer is `replays_unique` in
 -- proofs/Going.antt.
-use Rattle.std.specs.Prelude.{◌≡◌, true, false, not, ◌&&◌, List, ℕ, suc, ◌<◌, min, ltb, length, get_or}
+use Rattle.std.specs.Prelude.{◌≡◌, not, ◌&&◌, Option, Some, None, List, ℕ, suc, ◌<◌, min, ltb, length, get_or}
 use Rattle.sets.specs.Sets.{bit, meet, lowest}
 use Rattle.sets.specs.Lists.{tabulate}
 use Rattle.table.specs.Pairs.{row}
@@ -31,12 +31,8 @@ pub record Made (r k : List ℕ) (count : ℕ) (s : Replayed) : Type 0 where
   pub unpicked : (j : ℕ) → bit s.unpicked j ≡ (ltb j (length r) && not (is_in j picks))
   pub left : s.left ≡ common r picks (lowest 64)
 
--- what is given beside a no
-abbrev pub not_made : Replayed
-not_made = record { ok = false; unpicked = 0; left = 0 }
-
--- s says whether the first `count` numbers in k are picks that can have been made on the first n rows, and what they
+-- r says whether the first `count` numbers in k are picks that can have been made on the first n rows, and what they
 -- leave
-pub record Replays (n : ℕ) (rows k : List ℕ) (count : ℕ) (s : Replayed) : Type 0 where
-  pub yes : s.ok ≡ true → Made (array_rows n rows) k count s
-  pub no : s.ok ≡ false → (s ≡ not_made) × ((p : List ℕ) → Picked (array_rows n rows) k count p → ⊥)
+pub record Replays (n : ℕ) (rows k : List ℕ) (count : ℕ) (r : Option Replayed) : Type 0 where
+  pub yes : (s : Replayed) → r ≡ Some s → Made (array_rows n rows) k count s
+  pub no : r ≡ None → (p : List ℕ) → Picked (array_rows n rows) k count p → ⊥

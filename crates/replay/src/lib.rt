@@ -3,12 +3,11 @@
 // taken, nothing is refused, and what is lent is only read; the theory is proofs/Replaying.antt of crate `lists`.
 #![tactic(auto)]
 
-ghost use Rattle.std.specs.Prelude.{◌≡◌};
-ghost use Rattle.replay.specs.Picked.{Replays, not_made};
+ghost use Rattle.replay.specs.Picked.{Replays};
 ghost use Rattle.replay.specs.private.Steps.{Judges, Against, NoneAgainst};
 
-use basics;
 use sets;
+use sets::Places;
 use table::Table;
 
 // The picks that there can be.
@@ -17,114 +16,71 @@ const PLACES: usize = Table::MOST_GAUGES as usize;
 // All 64 cases: the left cases before any pick.
 const ALL: u64 = 0xffff_ffff_ffff_ffff;
 
-// Whether picks can have been made, and then the places that are unpicked, and the left cases.
+// After picks that can have been made: the places that are unpicked, and the left cases.
 #[derive(Clone, Copy)]
 pub struct Replayed {
-    pub ok: bool,
     pub unpicked: u64,
     pub left: u64,
 }
 
-// What a pick's own cases say beside the left ones, and the cases before the last picks that left the same.
-#[derive(Clone, Copy)]
-struct Judged {
-    pub ok: bool,
-    pub before: u64,
-}
-
-// Makes the first `count` picks again, on the first `n` rows.
-pub fn replay(rows: &[u64; 64], n: usize, picks: &[u8; 64], count: usize) -> Replayed
+// Makes the first `count` picks again, on the first `n` rows; none where they cannot have been made.
+pub fn replay(rows: &[u64; 64], n: usize, picks: &[u8; 64], count: usize) -> Option<Replayed>
     ensures { Replays n rows.now picks.now count result }
 {
     if PLACES < count {
-        return not_replayed();
+        return None;
     }
     let mut unpicked = sets::lowest(n as u64);
     let mut left = ALL;
     let mut before = ALL;
     let mut last: usize = 0;
-    let mut i: usize = 0;
-    while i < count {
-        let number = basics::index(picks[i]);
+    for i in 0..count {
+        let number = usize::from(picks[i]);
         if number == 0 {
-            return not_replayed();
+            return None;
         }
         let g = number - 1;
         if !sets::has(unpicked, g as u64) {
-            return not_replayed();
+            return None;
         }
         let row = rows[g];
         let own = row & left;
         if own == 0 {
-            return not_replayed();
+            return None;
         }
-        let judged = judge(row, own, before, left, last, g);
-        if !judged.ok {
-            return not_replayed();
-        }
-        before = judged.before;
+        before = judge(row, own, before, left, last, g)?;
         unpicked = sets::without(unpicked, g as u64);
         left = own;
         last = number;
-        i += 1;
     }
     if !none_against(rows, unpicked, left, before, last) {
-        return not_replayed();
+        return None;
     }
-    Replayed {
-        ok: true,
-        unpicked: unpicked,
-        left: left,
-    }
-}
-
-fn not_replayed() -> Replayed
-    ensures { result ≡ not_made }
-{
-    Replayed {
-        ok: false,
-        unpicked: 0,
-        left: 0,
-    }
+    Some(Replayed { unpicked, left })
 }
 
 // A pick that leaves fewer cases starts anew; one that has all left cases has left the same as the last picks, and
-// comes after the last.
-fn judge(row: u64, own: u64, before: u64, left: u64, last: usize, g: usize) -> Judged
+// comes after the last; no other pick can have been made. The answer is the cases before the last picks that left the same.
+fn judge(row: u64, own: u64, before: u64, left: u64, last: usize, g: usize) -> Option<u64>
     ensures { Judges row own before left last g result }
 {
     if own != left {
-        return Judged {
-            ok: true,
-            before: left,
-        };
+        return Some(left);
     }
     if (row & before) != left {
-        return Judged {
-            ok: false,
-            before: 0,
-        };
+        return None;
     }
     if g < last {
-        return Judged {
-            ok: false,
-            before: 0,
-        };
+        return None;
     }
-    Judged {
-        ok: true,
-        before: before,
-    }
+    Some(before)
 }
 
 // No unpicked gauge is against the picks made.
 fn none_against(rows: &[u64; 64], unpicked: u64, left: u64, before: u64, last: usize) -> bool
     ensures { NoneAgainst rows.now unpicked left before last result }
 {
-    let mut rest = unpicked;
-    while rest != 0 {
-        let h = sets::first(rest);
-        rest = sets::rest(rest);
+    for h in Places(unpicked) {
         if against(rows[h], left, before, last, h) {
             return false;
         }

@@ -35,7 +35,7 @@ use Rattle.file_text.specs.Bytes.{small}
 use Rattle.file_text.specs.Lines.{lines}
 use Rattle.file_kinds.specs.Banner.{banner_of, first_line}
 use Rattle.file_kinds.specs.Kinds.{head_line}
-use Rattle.file_kinds.specs.declared.FirstLine.TheVariants.{Banner}
+use Rattle.std.specs.Prelude.{Some as Banner}
 use Rattle.file_kinds.specs.declared.HeadLine.TheVariants.{Size}
 use Rattle.file_reader.specs.private.Reading.{accepted, add_pair, read_entries, read_head, read_lines, read_recorded, pairs_of, read_file, read_test}
 use Rattle.file_writer.specs.Writing.{digits, gauge_of, case_of, GaugeCase, row_pairs, pairs_from, pairs, lines_of, size_text, write_file, room_refusal}

@@ -6,14 +6,13 @@
 --
 -- In order: the number of a side; the value that words read as; the words of a value; the words and the number of an answer.
 use Rattle.std.specs.Prelude.{Bool, true, false, ◌&&◌, ◌||◌, not, cond, List, [], ◌∷◌, ◌++◌, ℕ, eqb, leb}
-use Rattle.refusals.specs.Answers.{number}
 use Rattle.table.specs.declared.Chain.{Chain}
 use Rattle.rules.specs.Machine.{Phase, Down, Handed, Back, Ended}
 use Rattle.rules.specs.Calls.{Reply, refused, spent, handed, end}
 use Rattle.runs.specs.Paused.{Value}
 use Rattle.runs.specs.Calling.{Step}
-use Rattle.runs.specs.declared.Outcome.{Outcome}
-use Rattle.runs.specs.declared.Outcome.TheVariants.{HandedOut, Spent, End, Refused}
+use Rattle.runs.specs.declared.batches.Close.{Close}
+use Rattle.runs.specs.declared.batches.Close.TheVariants.{Full, Spent, End}
 use Rattle.words.specs.Layouts.{word_at, numbers_at, table_at, table_words, chain_words}
 use Rattle.run_words.specs.declared.Mark.{Mark}
 
@@ -67,7 +66,7 @@ value_words k v =
 abbrev pub answer_words : ℕ → ℕ → Chain → List ℕ → List ℕ
 answer_words outcome moves s picks = outcome ∷ (moves ∷ chain_words s) ++ picks
 
--- the number of an outcome, and of its refusal
+-- the number of an answer, and of its refusal
 abbrev pub outcome_number : Reply → ℕ
 outcome_number (refused n) = 0
 outcome_number (handed x) = 1
@@ -80,18 +79,11 @@ refusal_number (handed x) = 0
 refusal_number spent = 0
 refusal_number end = 0
 
--- the same of an outcome as the code has it, before it reads as an answer
-abbrev pub outcome_of : Outcome → ℕ
-outcome_of (Refused why) = 0
-outcome_of HandedOut = 1
-outcome_of Spent = 2
-outcome_of End = 3
-
-abbrev pub refused_of : Outcome → ℕ
-refused_of (Refused why) = number why
-refused_of HandedOut = 0
-refused_of Spent = 0
-refused_of End = 0
+-- the number of how a batch stopped
+abbrev pub close_of : Close → ℕ
+close_of Full = 1
+close_of Spent = 2
+close_of End = 3
 
 abbrev pub step_words : Step → List ℕ
 step_words s = answer_words (outcome_number s.answer) s.moves s.chain s.picks

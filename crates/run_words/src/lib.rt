@@ -1,19 +1,19 @@
 // Paused values and the answers of run calls in words: a value of either side read from a lent slice, put into one,
-// and a call's answer put into one. Either side's value is a `runs::SideRun`; the side's number, its first word, is
-// by the mark that is handed over, and the one place where the sides part. Any words are taken: those that no value
-// of the side has read as a value that no moves lead to. No function has a `requires`.
+// and a call's answer put into one. The number of the side is a value's first word. Any words are taken: those that no
+// value of the side has read as a value that no moves lead to. No function has a `requires`.
 #![tactic(auto)]
 
 ghost use Rattle.std.specs.Prelude.{◌≡◌};
-ghost use Rattle.runs.specs.Paused.{mode_phase};
-ghost use Rattle.runs.specs.Sides.{side_value};
+ghost use Rattle.runs.specs.Paused.{value_of, phase_of as phase_as};
+ghost use Rattle.runs.specs.Calling.{outcome as outcome_of, chain_out, picks_out};
 ghost use Rattle.words.specs.Layouts.{Put};
-ghost use Rattle.run_words.specs.Values.{side_word, value_at, value_words, phase_of, mark_of};
-ghost use Rattle.run_words.specs.Values.{answer_words, refused_of, outcome_of, mark_at, is_value as value_words_of, word_of};
+ghost use Rattle.run_words.specs.Values.{side_word, value_at, value_words, phase_of, mark_of, outcome_number, close_of};
+ghost use Rattle.run_words.specs.Values.{answer_words, mark_at, is_value as value_words_of, word_of};
 
-use refusals;
-use runs::{Mode, Outcome, SideRun};
-use table::Chain;
+use preference::Order;
+use runs::{Close, Outcome, Phase, Picks, Run};
+use table;
+use table::{Chain, Side};
 use words;
 
 // The words of a paused value.
@@ -49,6 +49,13 @@ const BACK: u64 = 2;
 
 const ENDED: u64 = 3;
 
+// The numbers of the outcomes.
+const HANDED_OUT: u64 = 1;
+
+const SPENT: u64 = 2;
+
+const END: u64 = 3;
+
 // Where an answer has its chain and its pick sequence.
 const ANSWER_CHAIN: u16 = 2;
 
@@ -61,36 +68,33 @@ pub struct Mark {
     pub from: u64,
 }
 
-// The run in the words of a slice, a case run or not.
-pub fn side_run_at(w: &[u64], cases: bool) -> SideRun
-    ensures result_value { side_value result ≡ value_at (side_word cases) w.now }
-    ensures mark { result.cases ≡ cases }
+// The run in the words of a slice.
+pub fn run_at<S: Side>(w: &[u64]) -> Run<S>
+    ensures { value_of S.number result ≡ value_at (side_word S.CASES) w.now }
 {
     let table = words::table_at(w, TABLE);
-    let order = words::numbers_at(w, ORDER);
-    let picks = words::numbers_at(w, PICKS);
-    let mark = mark_at(w, side_number(cases));
-    SideRun {
-        cases: cases,
-        table: table,
-        order: order,
-        picks: picks,
+    let order = Order::new(words::numbers_at(w, ORDER));
+    let picks = Picks::new(words::numbers_at(w, PICKS));
+    let mark = mark_at(w, side_number::<S>());
+    Run {
+        table,
+        order,
+        picks,
         count: words::word_at(w, COUNT),
-        mode: mode_of(mark),
+        phase: phase_of(mark),
         omit: words::word_at(w, OMIT) != 0,
     }
 }
 
-// Puts a run over the front of a slice, as a case run or not.
-pub fn put_side_run(out: &mut [u64], p: SideRun, cases: bool)
-    ensures { Put out.old 0 (value_words (side_word cases) (side_value p)) out.new }
+// Puts a run over the front of a slice.
+pub fn put_run<S: Side>(out: &mut [u64], p: Run<S>)
+    ensures { Put out.old 0 (value_words (side_word S.CASES) (value_of S.number p)) out.new }
 {
     let table = p.table;
-    let order = p.order;
-    let picks = p.picks;
-    let mode = p.mode;
-    let mark = mark_of(mode);
-    words::put_word(out, 0, side_number(cases));
+    let order = p.order.numbers;
+    let picks = p.picks.numbers;
+    let mark = mark_of(p.phase);
+    words::put_word(out, 0, side_number::<S>());
     words::put_table(out, TABLE, table);
     words::put_numbers(out, ORDER, order);
     words::put_numbers(out, PICKS, picks);
@@ -100,32 +104,39 @@ pub fn put_side_run(out: &mut [u64], p: SideRun, cases: bool)
     words::put_word(out, OMIT, flag(p.omit));
 }
 
-// The number of the refusal that an outcome is, else 0.
-pub fn refused_number(outcome: Outcome) -> u64
-    ensures { result ≡ refused_of outcome }
+// Puts the answer of a call that is not refused over the front of a slice: its outcome, the moves, the chain and its pick sequence, which are blank where
+// none is handed out.
+pub fn put_outcome<S: Side>(out: &mut [u64], outcome: Outcome<S>, moves: u64)
+    ensures { Put out.old 0 (answer_words (outcome_number (outcome_of outcome)) moves (chain_out outcome) (picks_out outcome)) out.new }
 {
     match outcome {
-        Outcome::Refused(why) => refusals::refusal_number(why),
-        Outcome::HandedOut => 0,
-        Outcome::Spent => 0,
-        Outcome::End => 0,
+        Outcome::HandedOut(ladder) => {
+            let chain = ladder.chain;
+            let picks = ladder.picks.numbers;
+            put_answer(out, HANDED_OUT, moves, chain, picks);
+        }
+        Outcome::Spent => {
+            put_answer(out, SPENT, moves, table::blank_chain(), [0; 64]);
+        }
+        Outcome::End => {
+            put_answer(out, END, moves, table::blank_chain(), [0; 64]);
+        }
     }
 }
 
-// The number of an outcome in an answer, 0 where it is a refusal.
-pub fn outcome_number(outcome: Outcome) -> u64
-    ensures { result ≡ outcome_of outcome }
+// The number of how a batch stopped.
+pub fn close_number(close: Close) -> u64
+    ensures { result ≡ close_of close }
 {
-    match outcome {
-        Outcome::Refused(why) => 0,
-        Outcome::HandedOut => 1,
-        Outcome::Spent => 2,
-        Outcome::End => 3,
+    match close {
+        Close::Full => HANDED_OUT,
+        Close::Spent => SPENT,
+        Close::End => END,
     }
 }
 
 // Puts the answer of a call over the front of a slice.
-pub fn put_answer(out: &mut [u64], outcome: u64, moves: u64, chain: Chain, picks: [u8; 64])
+fn put_answer(out: &mut [u64], outcome: u64, moves: u64, chain: Chain, picks: [u8; 64])
     ensures { Put out.old 0 (answer_words outcome moves chain picks) out.new }
 {
     words::put_word(out, 0, outcome);
@@ -135,13 +146,10 @@ pub fn put_answer(out: &mut [u64], outcome: u64, moves: u64, chain: Chain, picks
 }
 
 // The number of a side, the first word of its paused values.
-fn side_number(cases: bool) -> u64
-    ensures { result ≡ side_word cases }
+fn side_number<S: Side>() -> u64
+    ensures { result ≡ side_word S.CASES }
 {
-    if cases {
-        return CASES;
-    }
-    GAUGES
+    if S::CASES { CASES } else { GAUGES }
 }
 
 // 1 for true and 0 for false.
@@ -192,39 +200,39 @@ fn is_value(w: &[u64], side: u64) -> bool
 }
 
 // The phase that a mark names.
-fn mode_of(mark: Mark) -> Mode
-    ensures { mode_phase result ≡ phase_of mark.phase mark.from }
+fn phase_of<S: Side>(mark: Mark) -> Phase<S>
+    ensures { phase_as S.number result ≡ phase_of mark.phase mark.from }
 {
     if mark.phase == DOWN {
-        return Mode::Down;
+        return Phase::Down;
     }
     if mark.phase == HANDED {
-        return Mode::Handed;
+        return Phase::Handed;
     }
     if mark.phase == ENDED {
-        return Mode::Ended;
+        return Phase::Ended;
     }
-    Mode::Back(mark.from as usize)
+    Phase::Back(S::from_number(mark.from))
 }
 
 // The mark of a phase.
-fn mark_of(mode: Mode) -> Mark
-    ensures { result ≡ mark_of (mode_phase mode) }
+fn mark_of<S: Side>(phase: Phase<S>) -> Mark
+    ensures { result ≡ mark_of (phase_as S.number phase) }
 {
-    match mode {
-        Mode::Down => Mark {
+    match phase {
+        Phase::Down => Mark {
             phase: DOWN,
             from: 0,
         },
-        Mode::Handed => Mark {
+        Phase::Handed => Mark {
             phase: HANDED,
             from: 0,
         },
-        Mode::Back(k) => Mark {
+        Phase::Back(k) => Mark {
             phase: BACK,
-            from: k as u64,
+            from: k.number(),
         },
-        Mode::Ended => Mark {
+        Phase::Ended => Mark {
             phase: ENDED,
             from: 0,
         },

@@ -3,7 +3,7 @@
 use mathlib.Core.Path.{◌≡◌, sym, ap, ◌∙◌, subst, fun_ext}
 use mathlib.Core.Bool.{Bool, true, false, not, cond}
 use mathlib.Core.List.{List}
-use Prim.Native.Nat.{ℕ, suc, ◌+◌, ◌-◌, ◌≤◌, ◌<◌}
+use Prim.Native.Nat.{ℕ, suc, ◌+◌, ◌-◌, ◌<◌}
 use native.Mathlib.Omega.{arith}
 use lib.Bits.{bit_and}
 use lib.Dec.{eqb}
@@ -14,25 +14,16 @@ use Rattle.table.proofs.Padding.{pad_get_or}
 use Rattle.sets.specs.Lists.{all_below}
 use Rattle.rules.specs.Machine.{State, Move, gives, nothing, hands, ends}
 use Rattle.rules.specs.ByNumber.{move}
-use Rattle.rules.specs.Calls.{spent, Call, result, proceed_by, carry_by}
+use Rattle.rules.specs.Calls.{Call, result, proceed_by, carry_by}
 use Rattle.lists.specs.ByNumber.{candidates}
 use Rattle.lists.specs.OnTable.{chain_of}
 use Rattle.runs.specs.private.Working.{Sized, later, Ahead, ComesOut, state_of, Holds, SteppedBy, Stepped, Advanced, apart, hands_over, move_by}
-use Rattle.runs.specs.declared.Outcome.TheVariants.{HandedOut, Spent, End}
+use Rattle.runs.specs.declared.engine.Stop.TheVariants.{HandedOut, End}
 use Rattle.runs.specs.declared.engine.Spot.{Spot}
 use Rattle.runs.specs.declared.engine.Moved.{Moved}
 use Rattle.runs.specs.declared.engine.Moved.TheVariants.{On, Out, Over}
 
 module _ (mv : State → Move) where
-  pub ahead_none : (b : ℕ) (x : State) → Ahead mv b 0 x x
-  ahead_none b x = record {
-    most = omega arith;
-    onward = λ out.
-        let e : b - 0 ≡ b = omega arith in
-        let d : 0 + (carry_by mv out b x).moves ≡ (carry_by mv out b x).moves = omega arith in
-        rw (e, d);
-  }
-
   -- one move of the rest of the budget
   carry_step : (out : List ℕ → List ℕ) (b m : ℕ) (y : State) (o : Move) → m < b → mv y ≡ o
       → carry_by mv out (b - m) y ≡ proceed_by mv out (carry_by mv out (b - (m + 1))) o.given o.next
@@ -57,12 +48,6 @@ module _ (mv : State → Move) where
   ahead_over : {b m : ℕ} {x y : State} (z : State) → Ahead mv b m x y → m < b → mv y ≡ gives ends z → ComesOut mv b x End (m + 1) z
   ahead_over {b} {m} {x} {y} z a l e out =
       a.onward out ∙ ap (later m) (carry_step out b m y (gives ends z) l e)
-
-  ahead_spent : {b m : ℕ} {x y : State} → Ahead mv b m x y → b ≤ m → ComesOut mv b x Spent m y
-  ahead_spent {b} {m} {x} {y} a l out =
-      let d : b - m ≡ 0 = omega arith in
-      let k : m + 0 ≡ m = omega arith in
-      a.onward out ∙ ap (λ (n : ℕ). later m (carry_by mv out n y)) d ∙ ap (λ (n : ℕ). result spent n y) k
 
 -- ---- the core's rule, by what rules 1 to 5 give
 module _ (r w : List ℕ) (y z : State) where
@@ -133,7 +118,3 @@ module _ (n : ℕ) (rows : List ℕ) (omit : Bool) (w : List ℕ) where
 
       pub turn-past : g ≡ false → Holds n rows c k s × Ahead mvs b (m + 1) x (state_of k s)
       turn-past f = (made.1, ahead_more mvs (state_of k s) a l (omit-by (take n rows) w y (state_of k s) made.0 omit (sym asked ∙ f)))
-
-  pub turn_spent : (c k : List ℕ) (b m : ℕ) (x : State) (s : Spot) → Holds n rows c k s → Ahead mvs b m x (state_of k s) → b ≤ m
-      → Advanced mvs n rows c k b x (record { outcome = Spent; moves = m; spot = s })
-  turn_spent c k b m x s h a l = record { comes = ahead_spent mvs a l; holds = h }

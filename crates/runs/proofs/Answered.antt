@@ -7,17 +7,15 @@ use mathlib.Core.List.{List, map}
 use Prim.Native.Nat.{ℕ, suc, ◌<◌}
 use native.Mathlib.Omega.{arith}
 use lib.ListN.{length}
-use Rattle.table.specs.Tables.{blank_table, padded, blank_chain}
+use Rattle.table.specs.Tables.{padded}
 use Rattle.refusals.specs.Answers.{number, answer}
 use Rattle.refusals.specs.declared.Refusal.{Refusal}
-use Rattle.table.specs.declared.Chain.{Chain}
-use Rattle.refusals.proofs.Answering.{answer-refused, answer_given}
+use Rattle.refusals.proofs.Answering.{answer-refused}
 use Rattle.table.specs.declared.Table.{Table}
 use Rattle.rules.specs.Machine.{Phase, State, fresh}
-use Rattle.rules.specs.Calls.{refused}
 use Rattle.lists.specs.Lists.{Side}
 use Rattle.lists.specs.OnTable.{ReachedOn}
-use Rattle.runs.specs.Paused.{Value, numbered, paused, blank_value, no_numbers}
+use Rattle.runs.specs.Paused.{Value, numbered, paused, blank_value}
 use Rattle.runs.specs.Calling.{Step, refusal_step, told, held, value_refusal, PausedAt, Called}
 use Rattle.runs.specs.Omitting.{CalledEither}
 use Rattle.runs.specs.private.Either.{call_of, CalledOf}
@@ -87,22 +85,9 @@ module _ (side : Table → Side) (v : Value) (b : ℕ) (r : Step) where
   pub called_plain : v.omit ≡ false → Called side v b r → CalledOf side v b r
   called_plain e c = record { table = c.table; value = c.value; rules = λ z s p. c.rules e z s p ∙ ap (λ (x : Bool). by_kind x s) (sym e) }
 
--- ---- refusals and fresh starts, as the thin functions put them together
--- the value beside a refusal, of either side
-pub blank_is : (v : Value) (t : Table) → t ≡ blank_table → v ≡ paused t no_numbers false fresh → v ≡ blank_value
-blank_is v t d w = w ∙ ap (λ (y : Table). paused y no_numbers false fresh) d
-
--- a refused step of either side: its chain and its value are blank
-pub refusal_step_lem : (n : ℕ) (c : Chain) (v : Value) → c ≡ blank_chain → v ≡ blank_value
-    → record { answer = refused n; moves = 0; chain = c; picks = no_numbers; next = v } ≡ refusal_step n
-refusal_step_lem n c v e w = rw (e, w)
-
+-- ---- fresh starts
 -- a refused start
 pub start_refused : (x : Refusal) (n : ℕ) (t : Table) (k : List ℕ) (omit : Bool) (v : Value) → number x ≡ n → v ≡ blank_value
     → record { refusal = number x; value = v } ≡ answer n (paused t k omit fresh) blank_value
 start_refused x n t k omit v e w =
     ap (λ (y : Value). record { refusal = number x; value = y }) w ∙ answer-refused x n (paused t k omit fresh) blank_value e
-
-pub start_given : (n : ℕ) (t : Table) (k : List ℕ) (omit : Bool) (v : Value) → n ≡ 0 → v ≡ paused t k omit fresh
-    → record { refusal = 0; value = v } ≡ answer n (paused t k omit fresh) blank_value
-start_given n t k omit v e w = ap (λ (y : Value). record { refusal = 0; value = y }) w ∙ answer_given n (paused t k omit fresh) blank_value e

@@ -20,16 +20,17 @@ use Rattle.lists.specs.Lists.{Side, gauge_side, case_side}
 use Rattle.lists.specs.OnTable.{hand_out, ReachedOn}
 use Rattle.preference.specs.Preferences.{is_preference}
 use Rattle.preference.proofs.Placing.{both_pass, preference_refused}
-use Rattle.runs.specs.Paused.{Value, numbered, paused, blank_value, mode_phase}
+use Rattle.runs.specs.Paused.{Value, numbered, paused, mode_phase}
 use Rattle.runs.specs.Calling.{Step, told, held, value_refusal, Called, Calls, last_value}
 use Rattle.runs.specs.Demand.{handed_sets}
 use Rattle.runs.specs.Omitting.{moves_of, CalledEither, CallsEither}
-use Rattle.runs.specs.Batches.{Ending, denied, Batch, ending, Tale, tale, onward, batch_by, budgets_after, budgets_by}
+use Rattle.runs.specs.Batches.{Ending, denied, Batch, Tale, tale, onward, batch_by, budgets_after, budgets_by}
+use Rattle.runs.specs.private.Listing.{stop_ending}
 use Rattle.runs.specs.Batches.{joined, denial, Denied, given, Comes, batch_on, budgets_on, steps_on, left_over, total, Batched, CarriesBatch}
 use Rattle.runs.specs.private.Working.{Works, placed_move}
 use Rattle.runs.specs.private.Listing.{ladder_of, ladder_for, WentOn, ListsBy, ListsIn}
 use Rattle.runs.specs.private.Sided.{Wants, batch_from}
-use Rattle.runs.specs.declared.Outcome.TheVariants.{Refused}
+use Rattle.runs.specs.declared.engine.Stop.TheVariants.{Refused}
 use Rattle.runs.specs.declared.listing.Tally.{Tally}
 use Rattle.runs.proofs.Padding.{take-padded}
 use Rattle.runs.proofs.Words.{stored_front}
@@ -216,6 +217,12 @@ pub record Listed (side : Table → Side) (v : Value) (b : ℕ) (before k' now :
   pub lists : ListsIn (λ q. moves_of v.table (side v.table) q v.omit) (hand_out (side v.table)) (length before / v.table.gauges)
       (side v.table).count (side v.table).rows v.order v.picks v.count v.phase b before k' now o
 
+pub listed_at : (side : Table → Side) (v : Value) (b : ℕ) (before k' now : List ℕ) (o : Tally) → table_refusal v.table ≡ 0 → (f : Phase) → f ≡ v.phase
+    → ListsIn (λ q. moves_of v.table (side v.table) q v.omit) (hand_out (side v.table)) (length before / v.table.gauges) (side v.table).count
+    (side v.table).rows v.order v.picks v.count f b before k' now o
+    → Listed side v b before k' now o
+listed_at side v b before k' now o z f e h = record { passed = z; lists = rw (← e) h }
+
 pub batched_refused : (side : Table → Side) (v : Value) (b n : ℕ) (before : List ℕ) → n ≡ value_refusal side v → 0 < n → (r : Batch) → r ≡ denial n
     → Batched side v b before r before
 batched_refused side v b n before e l r d = record {
@@ -274,13 +281,13 @@ module _ (side : Table → Side) (v : Value) (b : ℕ) (before k' now : List ℕ
           large = λ y s p l. deny BudgetTooLarge 18 refl ((by_value z).large s (paused_stands side v s p) l);
           rules = λ y s p l.
               let w = (by_value z).moves s (paused_stands side v s p) l in
-              absurd (not_denied mv (hand_out (side t)) room b s (number why) l (ap (λ (u : Tale). u.ending) w.comes ∙ ap ending e));
+              absurd (not_denied mv (hand_out (side t)) room b s (number why) l (ap (λ (u : Tale). u.ending) w.comes ∙ ap stop_ending e));
         }
 
   -- ---- what the calls give
   module _ (c : NotRefused o.outcome) where
     abbrev answer : Batch
-    answer = batch_from v k' o
+    answer = batch_from v (stop_ending o.outcome) k' o
 
     never : (x : Refusal) → o.outcome ≡ Refused x → ⊥
     never x e = c x e
@@ -296,14 +303,15 @@ module _ (side : Table → Side) (v : Value) (b : ℕ) (before k' now : List ℕ
         (given t v.order v.omit (tale e l o.moves y))
     same e lad i ph k l y a x z w = rw (a, x, z, w)
 
-    pub batch-given : (r : Batch) → r ≡ answer → Batched side v b before r now
-    batch-given r e = subst (λ (x : Batch). Batched side v b before x now) (sym e) (go (is_preference n v.order) refl)
+    pub batch-given : (e : Ending) → stop_ending o.outcome ≡ e → (r : Batch) → r ≡ batch_from v e k' o → Batched side v b before r now
+    batch-given e d r w =
+        subst (λ (x : Batch). Batched side v b before x now) (ap (λ (y : Ending). batch_from v y k' o) d ∙ sym w) (go (is_preference n v.order) refl)
       where
         comes : (s : State) → WentOn mv (ReachedOn (side t) q) (hand_out (side t)) room b s before k' now o
             → Comes t v.order v.omit (batch_on side v (length before) b s) before answer now
         comes s w = record {
           says =
-              same (ending o.outcome) o.ladders o.spot.count (mode_phase o.spot.mode) k' w.sets w.to w.counted w.stands.picked
+              same (stop_ending o.outcome) o.ladders o.spot.count (mode_phase o.spot.mode) k' w.sets w.to w.counted w.stands.picked
               w.stands.counted w.stands.phased
               ∙ ap (given t v.order v.omit) (sym w.comes);
           buffer =
@@ -324,7 +332,3 @@ module _ (side : Table → Side) (v : Value) (b : ℕ) (before k' now : List ℕ
           large = λ y s p l. absurd (never BudgetTooLarge ((by_value z).large s (paused_stands side v s p) l).0);
           rules = λ y s p l. comes s ((by_value z).moves s (paused_stands side v s p) l);
         }
-
--- a refused batch of either side: its value is blank
-pub denial_is : (n : ℕ) (v : Value) → v ≡ blank_value → record { ending = denied n; ladders = 0; moves = 0; next = v } ≡ denial n
-denial_is n v e = rw e

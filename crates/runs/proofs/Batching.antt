@@ -1,4 +1,4 @@
--- A batch on a value handed in: from the checks and the calls (`list-refused`, `list-went`), and by place from the
+-- A batch on a value handed in: from the checks and the calls (`list-went`), and by place from the
 -- batch by number (`lists_over`), as Ordering.antt has it for a call: for the plain order (`plain_list`) and for any
 -- other (`arranged_list`).
 use mathlib.Core.Path.{◌≡◌, refl, sym, ap, ap₂, ◌∙◌, subst}
@@ -10,8 +10,9 @@ use lib.ListN.{length, take}
 use lib.Seq.{length-take-le}
 use Rattle.basics.proofs.Clash.{clash}
 use Rattle.table.specs.Tables.{padded}
+use Rattle.std.specs.Prelude.{Result, Ok}
 use Rattle.refusals.specs.declared.Refusal.{Refusal}
-use Rattle.refusals.specs.declared.Refusal.TheVariants.{NotReached, BudgetTooLarge, NotAnArrangement}
+use Rattle.refusals.specs.declared.Refusal.TheVariants.{NotAnArrangement}
 use Rattle.rules.specs.Machine.{Phase, State, Given, nothing, hands, ends, Move}
 use Rattle.rules.specs.ByNumber.{move}
 use Rattle.rules.specs.Calls.{Reply, refused, spent, handed, end, Call, most_budget, call_by}
@@ -25,38 +26,31 @@ use Rattle.lists.proofs.PlacedRuns.{step_hands}
 use Rattle.preference.specs.Preferences.{is_preference, order_of, numbers_of}
 use Rattle.preference.specs.Placing.{inverse, is_plain, gathered, renumbered}
 use Rattle.preference.proofs.PlainOrder.{plain_is, plain_order, plain_passes}
-use Rattle.runs.specs.Batches.{Tale, tale, behind, onward, batch_by, ending}
+use Rattle.runs.specs.Batches.{Tale, tale, behind, onward, batch_by}
+use Rattle.runs.specs.private.Listing.{stop_ending}
 use Rattle.runs.specs.Paused.{mode_phase}
 use Rattle.runs.specs.private.Working.{Sized, state_of, StandsBy, FitsOn, ReachedIn, Opens, hands_over, move_by, placed_move, renumbered_phase}
 use Rattle.runs.specs.private.Listing.{refused_tally, turned_rows, ladder_of, ladder_for, Lists, WentOn, ListsBy, ListsIn}
-use Rattle.runs.specs.declared.Outcome.{Outcome}
-use Rattle.runs.specs.declared.Outcome.TheVariants.{Spent, Refused}
+use Rattle.runs.specs.declared.engine.Stop.{Stop}
+use Rattle.runs.specs.declared.engine.Spot.{Spot}
 use Rattle.runs.specs.declared.engine.Report.{Report}
 use Rattle.runs.specs.declared.listing.Tally.{Tally}
-use Rattle.runs.proofs.SideCalls.{NotRefused}
+use Rattle.runs.proofs.Carrying.{opened_at}
 use Rattle.runs.proofs.Ordering.{Stand, Turned, number_moves, number_keeps, plain_from, plain_stand, plain_moves, plain_turned, same_picks}
 use Rattle.runs.proofs.Ordering.{from_reach, arranged_stand, arranged_moves, arranged-turned, arranged_rows}
 
 -- ---- from the checks
-module _ (n : ℕ) (rows k : List ℕ) (count : ℕ) (f : Phase) (b : ℕ) (c : List ℕ) (o : Report) (h : Opens n rows k count f b c o) where
+module _ (n : ℕ) (rows k : List ℕ) (count : ℕ) (f : Phase) (b : ℕ) (c : List ℕ) (o : Result Spot Refusal) (h : Opens n rows k count f b c o) where
   module _ (mv : State → Move) (out : List ℕ → List ℕ) (room : ℕ) (before : List ℕ) where
-    pub list-refused : (why : Refusal) → o.outcome ≡ Refused why → (k' : List ℕ) (r : Tally) → r ≡ refused_tally why
-        → ListsBy mv (FitsOn (take n rows)) out room k count f b before k' before r
-    list-refused why e k' r d = record {
-      value = λ none. (ap (λ (x : Tally). x.outcome) d ∙ sym e ∙ h.value none, refl);
-      large = λ s y l. (ap (λ (x : Tally). x.outcome) d ∙ sym e ∙ h.large s y l, refl);
-      moves = λ s y l. let z : Spent ≡ Refused why = sym (h.opens s y l).0 ∙ e in clash cc;
-    }
-
-    pub list-went : NotRefused o.outcome → (c' k' now : List ℕ) (r : Tally)
-        → Lists true mv out n rows room b (state_of k o.spot) before c' k' now r → ListsBy mv (FitsOn (take n rows)) out room k count f b before k' now r
-    list-went t c' k' now r w = record {
-      value = λ none. absurd (t NotReached (h.value none));
-      large = λ s y l. absurd (t BudgetTooLarge (h.large s y l));
+    pub list-went : (x : Spot) → o ≡ Ok x → (c' k' now : List ℕ) (r : Tally)
+        → Lists true mv out n rows room b (state_of k x) before c' k' now r → ListsBy mv (FitsOn (take n rows)) out room k count f b before k' now r
+    list-went x e c' k' now r w = record {
+      value = λ none. let d = sym e ∙ h.value none in clash cc;
+      large = λ s y l. let d = sym e ∙ h.large s y l in clash cc;
       moves = λ s y l. record {
         to = state_of k' r.spot;
         sets = w.sets;
-        comes = ap (batch_by mv out room b) (sym (h.opens s y l).1) ∙ w.comes;
+        comes = ap (batch_by mv out room b) (sym (opened_at n rows k count f b c o h x e s y l)) ∙ w.comes;
         counted = w.counted;
         buffer = w.buffer;
         fits = w.fits refl;
@@ -132,7 +126,7 @@ module _ {f : ℕ → ℕ} {good good' : State → Type 0} {mv mv' : State → M
             sets = g.sets;
             comes =
                 ap (batch_by mv' out' room b) (sym q.2) ∙ batch_renamed w u room b q.0 q.1 ∙ ap (renamed_tale f) g.comes
-                ∙ ap₂ (λ (oc : Outcome) (m : ℕ). tale (ending oc) g.sets m (renamed f g.to)) (sym t.same_outcome) (sym t.same_moves);
+                ∙ ap₂ (λ (oc : Stop) (m : ℕ). tale (stop_ending oc) g.sets m (renamed f g.to)) (sym t.same_outcome) (sym t.same_moves);
             counted = e ∙ g.counted;
             buffer = g.buffer;
             fits = g.fits;

@@ -6,10 +6,10 @@ use mathlib.Core.List.{List, [], ◌∷◌, map}
 use Prim.Native.Nat.{ℕ, suc, ◌-◌, ◌≤◌, ◌<◌, min}
 use native.Mathlib.Decide.{ℕ_discrete, dec_lt}
 use native.Mathlib.Omega.{arith}
-use lib.Dec.{not_T, eqb, leb, ltb}
+use lib.Dec.{not_T, ltb}
 use lib.ListN.{length, get_or, take, length-take, get_or-eq_default}
 use lib.Seq.{ext_get_or, get_or-take, length-take-le}
-use borrow.Author.Tests.{lt-ltb, le-ltb, leb-true, leb-false, eqb-true, eqb-false}
+use borrow.Author.Tests.{lt-ltb, le-ltb}
 use Rattle.basics.proofs.Clash.{clash}
 use Rattle.table.proofs.Padding.{pad_get_or, pad_ext}
 use Rattle.sets.specs.Sets.{bit}
@@ -23,13 +23,13 @@ use Rattle.lists.specs.PickSequence.{is_in}
 use Rattle.lists.specs.ByNumber.{candidate, candidates}
 use Rattle.lists.proofs.Candidates.{cand-of, of-cand, mem_candidates, no_candidate, none_candidate}
 use Rattle.lists.proofs.CandidateTree.{candidate_tree}
-use Rattle.search.specs.Finding.{candidate_in, FirstOf, within}
+use Rattle.search.specs.Finding.{candidate_in, within}
 use Rattle.search.proofs.AfterPicks.{After, candidate_wide}
 use Rattle.search.proofs.Within.{row_in, row_out}
 use Rattle.runs.specs.Paused.{numbered, mode_phase}
 use Rattle.runs.specs.private.Working.{Sized, placed, DecidedBy, filled, PhaseIn, StandsFor}
-use Rattle.runs.specs.declared.engine.Mode.{Mode}
-use Rattle.runs.specs.declared.engine.Mode.TheVariants.{Down as mode_down, Handed as mode_handed, Back as mode_back, Ended as mode_ended}
+use Rattle.runs.specs.declared.Phase.{Phase as Stage}
+use Rattle.runs.specs.declared.Phase.TheVariants.{Back as mode_back}
 use Rattle.replay.specs.Picked.{array_rows, Picked, Made}
 use Rattle.replay.specs.declared.Replayed.{Replayed}
 use Rattle.replay.proofs.Going.{rows-length, row_side_lem, picked_few}
@@ -201,25 +201,12 @@ decides_no : {P : Type 0} → ¬ P → DecidedBy P false
 decides_no p = record { yes = λ e. bool_no (sym e); no = λ e. p }
 
 -- ---- the phase
-module _ (u : List ℕ) (left count : ℕ) (m : Mode) where
+module _ (u : List ℕ) (left count : ℕ) (m : Stage ℕ) where
   abbrev Phased : Type 0
   Phased = PhaseIn u left count (mode_phase m)
 
-  as_phase : (o : Mode) → m ≡ o → (b : Bool) → DecidedBy (PhaseIn u left count (mode_phase o)) b → DecidedBy Phased b
-  as_phase o e b d = subst (λ (x : Mode). DecidedBy (PhaseIn u left count (mode_phase x)) b) (sym e) d
-
-  pub phase_down : m ≡ mode_down → DecidedBy Phased true
-  phase_down e = as_phase mode_down e true (decides_yes tt)
-
-  pub phase_handed : m ≡ mode_handed → (g : ℕ) → FirstOf (candidate_in u left 64) 0 64 g → DecidedBy Phased (leb 64 g)
-  phase_handed e g f = as_phase mode_handed e (leb 64 g) (go (leb 64 g) refl)
-    where
-      go : (b : Bool) → leb 64 g ≡ b → DecidedBy ((i : ℕ) → i < 64 → candidate_in u left 64 i ≡ false) b
-      go true d = decides_yes (λ i l. f.least i (omega arith) (omega (arith, leb-true 64 g d)))
-      go false d = decides_no (λ h. bool_no (sym (f.found (leb-false 64 g d)).1 ∙ h g (leb-false 64 g d)))
-
-  pub phase_zero : (k : ℕ) → m ≡ mode_back k → k ≡ 0 → DecidedBy Phased false
-  phase_zero k e z = as_phase (mode_back k) e false (decides_no (λ h. omega (arith, h.0)))
+  as_phase : (o : Stage ℕ) → m ≡ o → (b : Bool) → DecidedBy (PhaseIn u left count (mode_phase o)) b → DecidedBy Phased b
+  as_phase o e b d = subst (λ (x : Stage ℕ). DecidedBy (PhaseIn u left count (mode_phase x)) b) (sym e) d
 
   phase_back : (k : ℕ) → m ≡ mode_back k → (k ≡ 0 → ⊥) → (t : Bool) → t ≡ candidate_in u left 64 (k - 1) → DecidedBy Phased t
   phase_back k e z t d = as_phase (mode_back k) e t (go t d)
@@ -231,10 +218,3 @@ module _ (u : List ℕ) (left count : ℕ) (m : Mode) where
       go : (b : Bool) → b ≡ candidate_in u left 64 (k - 1) → DecidedBy ((1 ≤ k) × (candidate_in u left 64 (k - 1) ≡ true)) b
       go true x = decides_yes (low (ℕ_discrete k 0), sym x)
       go false x = decides_no (λ h. bool_no (sym h.1 ∙ sym x))
-
-  pub phase_ended : m ≡ mode_ended → DecidedBy Phased (eqb count 0)
-  phase_ended e = as_phase mode_ended e (eqb count 0) (go (eqb count 0) refl)
-    where
-      go : (b : Bool) → eqb count 0 ≡ b → DecidedBy (count ≡ 0) b
-      go true d = decides_yes (eqb-true count 0 d)
-      go false d = decides_no (eqb-false count 0 d)

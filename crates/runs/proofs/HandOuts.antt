@@ -31,9 +31,10 @@ use Rattle.lists.proofs.PlacedCandidates.{AllBelow}
 use Rattle.lists.proofs.PlacedSequences.{sequence_placed}
 use Rattle.lists.proofs.PlacedRuns.{hand_out_placed, good_below, Placed, reached_placed}
 use Rattle.conflicts.specs.Omitting.{keeps_of}
-use Rattle.runs.specs.declared.Outcome.{Outcome}
-use Rattle.runs.specs.declared.Outcome.TheVariants.{HandedOut}
-use Rattle.runs.specs.Calling.{outcome, sequence}
+use Rattle.runs.specs.declared.engine.Stop.{Stop}
+use Rattle.runs.specs.declared.engine.Stop.TheVariants.{HandedOut}
+use Rattle.runs.specs.Calling.{sequence}
+use Rattle.runs.specs.private.Working.{stop_reply}
 use Rattle.runs.specs.Omitting.{moves_of}
 
 -- ---- a state that is reached, and Handed
@@ -128,8 +129,8 @@ module _ (t : Table) (s : Side) (o : List ℕ) where
         go (hands p) d ih z = hands_at omit x p d
         go ends d ih z = clash cc
 
-    pub handed_out : (b : ℕ) (x : State) (oc : Outcome) (k : ℕ) (y : State) → oc ≡ HandedOut
-        → carry_by mv out b x ≡ result (outcome oc (out y.picks)) k y → y.phase ≡ Handed
+    pub handed_out : (b : ℕ) (x : State) (oc : Stop) (k : ℕ) (y : State) → oc ≡ HandedOut
+        → carry_by mv out b x ≡ result (stop_reply oc (out y.picks)) k y → y.phase ≡ Handed
     handed_out b x oc k y d e =
         sym (ap (λ (c : Call). c.next.phase) e)
-        ∙ carried b x (out y.picks) (ap (λ (c : Call). c.answer) e ∙ ap (λ (z : Outcome). outcome z (out y.picks)) d)
+        ∙ carried b x (out y.picks) (ap (λ (c : Call). c.answer) e ∙ ap (λ (z : Stop). stop_reply z (out y.picks)) d)

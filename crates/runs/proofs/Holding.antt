@@ -34,7 +34,7 @@ use Rattle.search.proofs.ChainArrays.{chain_pick}
 use Rattle.search.proofs.AfterPicks.{full, Rows, After, after_pick, after_unpick, remains_unpicked}
 use Rattle.runs.specs.Paused.{numbered, mode_phase}
 use Rattle.runs.specs.private.Working.{placed, places_of, state_of, HoldsAt, StandsFor, left_after, NumberAt, spot_down, Stepped}
-use Rattle.runs.specs.declared.engine.Mode.TheVariants.{Back as mode_back}
+use Rattle.runs.specs.declared.Phase.TheVariants.{Back as mode_back}
 use Rattle.runs.specs.declared.engine.Spot.{Spot}
 use Rattle.runs.specs.declared.engine.Moved.TheVariants.{On, Out, Over}
 use Rattle.replay.proofs.Numbers.{length_numbers, places_numbers, numbers_snoc}

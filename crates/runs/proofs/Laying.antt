@@ -16,7 +16,6 @@ use Rattle.lists.specs.Picks.{common}
 use Rattle.lists.specs.ByNumber.{candidates}
 use Rattle.lists.specs.OnTable.{chain_of}
 use Rattle.lists.proofs.Candidates.{Cand, mem_candidates}
-use Rattle.lists.proofs.CandidateTree.{candidate_tree}
 use Rattle.lists.proofs.Remainders.{common_snoc, remainder_left}
 use Rattle.search.proofs.AfterPicks.{full}
 use Rattle.search.proofs.ChainArrays.{chain_none, chain_pick}
@@ -57,9 +56,6 @@ module _ (n : ℕ) (rows c₀ k : List ℕ) (count : ℕ) (z : Sized n rows) (h 
 
     number_is : get_or k i 0 ≡ suc g
     number_is = sym (get_or-take count k i 0 l) ∙ ap (λ (x : List ℕ). get_or x i 0) h.numbers ∙ get_or_numbers h.picks i long
-
-    pub laid-low : i < 64
-    laid-low = omega (arith, long, (candidate_tree r).depth h.picks h.valid, side_length n rows z, z.few)
 
     -- a pick's number, and its place
     pub laid-number : (number : ℕ) → number ≡ get_or k i 0 → (1 ≤ number) × (number - 1 < 64)

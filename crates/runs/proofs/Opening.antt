@@ -1,62 +1,66 @@
 -- The checks of a value handed in, put together as `Opens` says it: which test failed (`open_filled`, `open-replay`, `open-phase`, `open_budget`), or the
 -- spot that holds (`open-spot`); `Passed` is that none failed.
-use mathlib.Core.Path.{◌≡◌, refl, ap, ◌∙◌}
-use mathlib.Core.Bool.{Bool, true, false}
+use mathlib.Core.Path.{◌≡◌, refl, ap, ◌∙◌, subst}
+use mathlib.Core.Bool.{Bool, false}
 use mathlib.Core.List.{List, map}
 use Prim.Native.Nat.{ℕ, ◌-◌, ◌≤◌, ◌<◌}
 use native.Mathlib.Omega.{arith}
 use lib.ListN.{length, take}
+use Rattle.basics.proofs.Clash.{clash}
 use Rattle.table.specs.Tables.{no_rows, padded}
+use Rattle.refusals.specs.declared.Refusal.{Refusal}
 use Rattle.refusals.specs.declared.Refusal.TheVariants.{NotReached, BudgetTooLarge}
 use Rattle.rules.specs.Machine.{Phase, State, at}
 use Rattle.rules.specs.Calls.{most_budget}
 use Rattle.lists.specs.OnTable.{chain_of}
 use Rattle.search.specs.Finding.{within}
 use Rattle.search.proofs.Within.{length-within}
-use Rattle.replay.specs.Picked.{Replays}
+use Rattle.std.specs.Prelude.{Option, Some, None, Result, Ok, Err}
+use Rattle.replay.specs.Picked.{array_rows, Made, Replays}
 use Rattle.replay.specs.declared.Replayed.{Replayed}
 use Rattle.replay.proofs.Numbers.{places_numbers}
 use Rattle.runs.specs.Paused.{mode_phase}
-use Rattle.runs.specs.private.Working.{Sized, placed, places_of, HoldsAt, Laying, DecidedBy, filled, PhaseIn, StandsFor, Opens, refused_report}
-use Rattle.runs.specs.declared.Outcome.TheVariants.{Spent}
-use Rattle.runs.specs.declared.engine.Mode.{Mode}
+use Rattle.runs.specs.private.Working.{Sized, placed, places_of, HoldsAt, Laying, DecidedBy, filled, PhaseIn, StandsFor, Opens, Holds}
+use Rattle.runs.specs.declared.Phase.{Phase as Stage}
 use Rattle.runs.specs.declared.engine.Spot.{Spot}
-use Rattle.runs.specs.declared.engine.Report.{Report}
 use Rattle.runs.proofs.Holding.{stands_unique, state_is, holds_own}
 use Rattle.runs.proofs.Checking.{Front, stands-filled, stands-picked, made_front, no-phase, legal-of}
 
+-- what was given, out of its mark
+pub value_of : {x y : Spot} → ◌≡◌ {A = Result Spot Refusal} (Ok x) (Ok y) → x ≡ y
+value_of e = cc
+
 -- ---- 15
 module _ (n : ℕ) (rows k : List ℕ) (count : ℕ) (f : Phase) (b : ℕ) (z : Sized n rows) (size : length k ≡ 64)
-    (c' : List ℕ) (o : Report) (e : o ≡ refused_report NotReached) where
-  unreached : ((s : State) → StandsFor (take n rows) k count f s → ⊥) → Opens n rows k count f b c' o
+    (c' : List ℕ) where
+  unreached : ((s : State) → StandsFor (take n rows) k count f s → ⊥) → Opens n rows k count f b c' (Err NotReached)
   unreached h = record {
-    value = λ none. ap (λ (x : Report). x.outcome) e;
+    value = λ none. refl;
     large = λ s l. absurd (h s l);
     opens = λ s l. absurd (h s l);
-    holds = λ x. absurd (x NotReached (ap (λ (y : Report). y.outcome) e));
+    holds = λ x e. clash cc;
   }
 
-  pub open_filled : (t : ℕ) → t ≡ filled k 64 → ¬ (t ≡ count) → Opens n rows k count f b c' o
+  pub open_filled : (t : ℕ) → t ≡ filled k 64 → ¬ (t ≡ count) → Opens n rows k count f b c' (Err NotReached)
   open_filled t d x = unreached (λ s l. x (d ∙ stands-filled n rows k count f z size s l))
 
-  module _ (s : Replayed) (d : Replays n rows k count s) where
-    pub open-replay : s.ok ≡ false → Opens n rows k count f b c' o
-    open-replay x = unreached (λ y l. (d.no x).1 y.picks (stands-picked n rows k count f z size y l))
+  module _ (r : Option Replayed) (d : Replays n rows k count r) where
+    pub open-replay : r ≡ None → Opens n rows k count f b c' (Err NotReached)
+    open-replay x = unreached (λ y l. d.no x y.picks (stands-picked n rows k count f z size y l))
 
-    pub open-phase : s.ok ≡ true → (t : Bool) → DecidedBy (PhaseIn (within s.unpicked rows) s.left count f) t → t ≡ false → Opens n rows k count f b c' o
-    open-phase ok t p x =
-        unreached (no-phase n rows k count f z size (within s.unpicked rows) s.left (made_front n rows k count f z size s (d.yes ok)) (p.no x))
+    pub open-phase : (s : Replayed) → r ≡ Some s → (t : Bool) → DecidedBy (PhaseIn (within s.unpicked rows) s.left count f) t → t ≡ false → Opens n rows k count f b c' (Err NotReached)
+    open-phase s ok t p x =
+        unreached (no-phase n rows k count f z size (within s.unpicked rows) s.left (made_front n rows k count f z size s (d.yes s ok)) (p.no x))
 
 -- ---- every test passed
-pub record Passed (n : ℕ) (rows k : List ℕ) (count : ℕ) (m : Mode) (s : Replayed) : Type 0 where
+pub record Passed (n : ℕ) (rows k : List ℕ) (count : ℕ) (m : Stage ℕ) (s : Replayed) : Type 0 where
   pub sized : Sized n rows
   pub places : length k ≡ 64
   pub full : filled k 64 ≡ count
-  pub replays : Replays n rows k count s
-  pub ok : s.ok ≡ true
+  pub made : Made (array_rows n rows) k count s
   pub phase : PhaseIn (within s.unpicked rows) s.left count (mode_phase m)
 
-module _ (n : ℕ) (rows k : List ℕ) (count : ℕ) (m : Mode) (b : ℕ) (s : Replayed) (h : Passed n rows k count m s) where
+module _ (n : ℕ) (rows k : List ℕ) (count : ℕ) (m : Stage ℕ) (b : ℕ) (s : Replayed) (h : Passed n rows k count m s) where
   abbrev r : List ℕ
   r = take n rows
 
@@ -67,7 +71,7 @@ module _ (n : ℕ) (rows k : List ℕ) (count : ℕ) (m : Mode) (b : ℕ) (s : R
   u = within s.unpicked rows
 
   front : Front r u k count s.left
-  front = made_front n rows k count f h.sized h.places s (h.replays.yes h.ok)
+  front = made_front n rows k count f h.sized h.places s h.made
 
   from : State
   from = at front.picks (placed f)
@@ -76,12 +80,12 @@ module _ (n : ℕ) (rows k : List ℕ) (count : ℕ) (m : Mode) (b : ℕ) (s : R
   unfolding from
   legal = legal-of n rows k count f h.sized h.places u s.left front h.full h.phase
 
-  pub open_budget : (c' : List ℕ) (o : Report) → o ≡ refused_report BudgetTooLarge → most_budget < b → Opens n rows k count f b c' o
-  open_budget c' o e l = record {
+  pub open_budget : (c' : List ℕ) → most_budget < b → Opens n rows k count f b c' (Err BudgetTooLarge)
+  open_budget c' l = record {
     value = λ none. absurd (none from legal);
-    large = λ x y w. ap (λ (q : Report). q.outcome) e;
+    large = λ x y w. refl;
     opens = λ x y w. absurd (omega arith);
-    holds = λ x. absurd (x BudgetTooLarge (ap (λ (y : Report). y.outcome) e));
+    holds = λ x e. clash cc;
   }
 
   -- ---- the spot
@@ -104,10 +108,10 @@ module _ (n : ℕ) (rows k : List ℕ) (count : ℕ) (m : Mode) (b : ℕ) (s : R
       fits = legal.fits;
     }
 
-    pub open-spot : b ≤ most_budget → Opens n rows k count f b c (record { outcome = Spent; moves = 0; spot = spot })
+    pub open-spot : b ≤ most_budget → Opens n rows k count f b c (Ok spot)
     open-spot l = record {
       value = λ none. absurd (none from legal);
       large = λ x y w. absurd (omega arith);
-      opens = λ x y w. (refl, state_is standing ∙ stands_unique r k count f from x legal y);
-      holds = λ x. (l, holds_own standing);
+      opens = λ x y w. (spot, refl, state_is standing ∙ stands_unique r k count f from x legal y);
+      holds = λ x e. (l, subst (Holds n rows c k) (value_of e) (holds_own standing));
     }

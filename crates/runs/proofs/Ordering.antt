@@ -47,11 +47,12 @@ use Rattle.preference.proofs.Holding.{IsPreference, preference_of}
 use Rattle.preference.proofs.Gathering.{gathered_is, gathered_array, gathered_back, place_entry, number_entry, places-of-picks, numbers-of-picks}
 use Rattle.preference.proofs.PlainOrder.{plain_is, plain_order, plain_passes}
 use Rattle.runs.specs.Paused.{numbered, mode_phase}
-use Rattle.runs.specs.Calling.{outcome}
+use Rattle.runs.specs.Calling.{}
+use Rattle.runs.specs.private.Working.{stop_reply}
 use Rattle.runs.specs.private.Working.{Sized, apart, hands_over, move_by, StandsBy, WentBy, CarriesBy, FitsOn, CarriesOn, placed_move, ReachedIn}
 use Rattle.runs.specs.private.Working.{renumbered_phase, InOrder, refused_report}
 use Rattle.refusals.specs.declared.Refusal.TheVariants.{NotAnArrangement}
-use Rattle.runs.specs.declared.Outcome.{Outcome}
+use Rattle.runs.specs.declared.engine.Stop.{Stop}
 use Rattle.runs.specs.declared.engine.Report.{Report}
 use Rattle.runs.proofs.Padding.{take-padded}
 
@@ -95,7 +96,7 @@ module _ {f : ℕ → ℕ} {good good' : State → Type 0} {mv mv' : State → M
                 ap (carry_by mv' out b) (sym q.2)
                 ∙ carry-renamed w (any_out f good mv out) b q.0 q.1
                 ∙ ap (renamed_call f) (g.comes (λ x. out (map f x)))
-                ∙ ap₂ (λ (oc : Outcome) (m : ℕ). result (outcome oc (out (map f g.to.picks))) m (renamed f g.to)) (sym t.same_outcome)
+                ∙ ap₂ (λ (oc : Stop) (m : ℕ). result (stop_reply oc (out (map f g.to.picks))) m (renamed f g.to)) (sym t.same_outcome)
                 (sym t.same_moves);
             chained = t.chains g.to g.stands.fits g.chained;
             stands = t.stands g.to g.stands;

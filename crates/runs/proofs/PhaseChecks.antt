@@ -1,6 +1,5 @@
--- The checks of a value by a run call without a budget, which makes no move (`spent-at`): what its outcome says where the call is refused, where the phase
--- does not fit, and where nothing is refused (`call-refuses`, `phase-refuses`, `nothing-refuses`); and the checks at one phase (`checks_at`, of Down and Handed
--- `checks_down` and `checks_handed`). What a refused number and what 0 say: `never-at`, `passes_at`, `some_at`.
+-- The checks of a value by a run call without a budget, which makes no move (`spent-at`): what its outcome says where the call is refused
+-- (`call-refuses`); and the checks at one phase (`checks_at`, of Down and Handed `checks_down` and `checks_handed`). What a refused number and what 0 say: `never-at`, `passes_at`, `some_at`.
 use mathlib.Core.Path.{◌≡◌, refl, sym, ap, ◌∙◌, subst}
 use mathlib.Core.Bool.{Bool, true, false}
 use mathlib.Core.List.{List}
@@ -9,22 +8,17 @@ use native.Mathlib.Decide.{ℕ_discrete}
 use native.Mathlib.Omega.{arith}
 use Rattle.basics.proofs.Clash.{clash}
 use Rattle.table.specs.declared.Table.{Table}
-use Rattle.refusals.specs.Answers.{number}
-use Rattle.refusals.specs.declared.Refusal.{Refusal}
 use Rattle.rules.specs.Machine.{Phase, Down, Handed, Back, Ended, State, at}
 use Rattle.rules.specs.Calls.{refused, spent, Call}
 use Rattle.rules.proofs.Calls.{within_by}
 use Rattle.lists.specs.Lists.{Side}
 use Rattle.lists.specs.OnTable.{hand_out}
 use Rattle.runs.specs.Paused.{Value, numbered}
-use Rattle.runs.specs.Calling.{Step, outcome, told, held, value_refusal, PausedAt}
+use Rattle.runs.specs.Calling.{Step, told, held, value_refusal, PausedAt}
 use Rattle.runs.specs.Omitting.{moves_of}
 use Rattle.runs.specs.Sides.{ChecksAt}
 use Rattle.runs.specs.private.Either.{CalledOf}
 use Rattle.runs.specs.private.Checks.{is_down, is_handed, ChecksPhase}
-use Rattle.runs.specs.declared.Outcome.{Outcome}
-use Rattle.runs.specs.declared.Outcome.TheVariants.{HandedOut, Spent, End, Refused}
-use Rattle.runs.proofs.SideCalls.{NotRefused}
 
 module _ (side : Table → Side) (v : Value) where
   abbrev t : Table
@@ -33,8 +27,8 @@ module _ (side : Table → Side) (v : Value) where
   abbrev Passes : Type 0
   Passes = value_refusal side v ≡ 0
 
-  -- ---- a call without a budget, whose answer is that of the outcome o
-  module _ (r : Step) (called : CalledOf side v 0 r) (o : Outcome) (w : List ℕ) (says : r.answer ≡ outcome o w) (fits : Bool) where
+  -- ---- a call without a budget
+  module _ (r : Step) (called : CalledOf side v 0 r) (fits : Bool) where
     spent-at : Passes → (s : State) → PausedAt side v s → r.answer ≡ spent
     spent-at z s p =
         ap (λ (x : Step). x.answer) (called.rules z s p)
@@ -47,52 +41,15 @@ module _ (side : Table → Side) (v : Value) where
     never_both : (n : ℕ) {P : Type 0} → r.answer ≡ refused n → r.answer ≡ spent → P
     never_both n a b = clash cc
 
-    pub call-refuses : (x : Refusal) → o ≡ Refused x → ChecksPhase side v fits (number x)
-    call-refuses x d =
-        let e : r.answer ≡ refused (number x) = says ∙ ap (λ (y : Outcome). outcome y w) d in
-        let none : Passes → (s : State) → PausedAt side v s → ⊥ = λ z s p. never_both (number x) e (spent-at z s p) in
-        let n15 : Passes → number x ≡ 15 = λ z. by_number (number x) 15 e (ap (λ (y : Step). y.answer) (called.value z (none z))) in record {
-          table = λ l. by_number (number x) (value_refusal side v) e (ap (λ (y : Step). y.answer) (called.table l));
+    pub call-refuses : (n : ℕ) → r.answer ≡ refused n → ChecksPhase side v fits n
+    call-refuses n e =
+        let none : Passes → (s : State) → PausedAt side v s → ⊥ = λ z s p. never_both n e (spent-at z s p) in
+        let n15 : Passes → n ≡ 15 = λ z. by_number n 15 e (ap (λ (y : Step). y.answer) (called.value z (none z))) in record {
+          table = λ l. by_number n (value_refusal side v) e (ap (λ (y : Step). y.answer) (called.table l));
           value = λ z n. n15 z;
           other = λ f z. n15 z;
           stands = λ f z s p. absurd (none z s p);
         }
-
-    module _ (k : NotRefused o) where
-      unrefused : (n : ℕ) → r.answer ≡ refused n → ⊥
-      unrefused n e = go o k (sym says ∙ e)
-        where
-          go : (y : Outcome) → NotRefused y → outcome y w ≡ refused n → ⊥
-          go HandedOut m d = clash cc
-          go Spent m d = clash cc
-          go End m d = clash cc
-          go (Refused x) m d = absurd (m x refl)
-
-      passes : Passes
-      passes = go (ℕ_discrete (value_refusal side v) 0)
-        where
-          go : Dec Passes → Passes
-          go (yes e) = e
-          go (no e) = absurd (unrefused (value_refusal side v) (ap (λ (x : Step). x.answer) (called.table (omega arith))))
-
-      some : Passes → ((s : State) → PausedAt side v s → ⊥) → ⊥
-      some z none = unrefused 15 (ap (λ (x : Step). x.answer) (called.value z none))
-
-      pub phase-refuses : fits ≡ false → ChecksPhase side v fits 15
-      phase-refuses f = record {
-        table = λ l. absurd (omega (arith, passes));
-        value = λ z n. refl;
-        other = λ e z. refl;
-        stands = λ e z s p. let y : true ≡ false = sym e ∙ f in clash cc;
-      }
-
-      pub nothing-refuses : fits ≡ true → ChecksPhase side v fits 0
-      nothing-refuses f = record {
-        table = λ l. absurd (omega (arith, passes));
-        value = λ z n. absurd (some z n);
-        other = λ e z. let y : true ≡ false = sym f ∙ e in clash cc;
-        stands = λ e z s p. refl;
-      }
 
   -- ---- at the phase f, which `is` tells from the others
   checks_at : (is : Phase → Bool) (f : Phase) → is (numbered f) ≡ true → ((g : Phase) → is (numbered g) ≡ true → g ≡ f) → (n : ℕ) (fits : Bool)

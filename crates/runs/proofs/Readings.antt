@@ -1,8 +1,11 @@
 -- The contracts leave one answer: no two steps are what `CalledEither` says of one value and budget (`called_unique`), nor, where the run omits
--- nothing, what `Called` says (`called_plain_unique`), and no two structs of the code
--- read alike. For `Called` two steps that are not different are equal, since each field of a step is decided.
+-- nothing, what `Called` says (`called_plain_unique`), and no two answers of the code read alike (`side_value_injective`,
+-- `side_start_injective`, `side_step_injective`). For `Called` two steps that are not different are equal, since each field of a step is decided.
 --
--- Pins, which nothing else cites: `called_plain_unique`, `side_start_injective`, `side_step_injective`.
+-- Pins, which nothing else cites: `called_plain_unique`, `gauge_started_injective`, `case_started_injective`, `gauge_step_injective`,
+-- `case_step_injective`, `gauge_call_unique`, `case_call_unique`.
+use Rattle.std.specs.Prelude.{Result, Ok, Err}
+use Rattle.refusals.specs.declared.Refusal.{Refusal}
 use mathlib.Core.Path.{◌≡◌, refl, sym, ap, ap₂, ◌∙◌}
 use mathlib.Core.Bool.{Bool, false}
 use mathlib.Core.List.{List, [], ◌∷◌, List-discrete}
@@ -10,35 +13,27 @@ use Prim.Native.Nat.{ℕ}
 use native.Mathlib.Decide.{ℕ_discrete}
 use native.Mathlib.Omega.{arith}
 use lib.ListN.{get_or}
-use Rattle.table.specs.Tables.{chain_rows}
-use Rattle.refusals.specs.Answers.{Answer as Reading}
+use Rattle.basics.proofs.Clash.{clash}
+use Rattle.refusals.specs.Answers.{Answer as Reading, number as number_of}
 use Rattle.table.specs.declared.Table.{Table}
 use Rattle.table.specs.declared.Chain.{Chain}
-use Rattle.refusals.specs.declared.Verdict.{Verdict}
-use Rattle.refusals.proofs.Answering.{named, named-number, verdict_injective}
-use Rattle.rules.specs.Machine.{Phase, Down, Handed, Back, Ended, State}
+use Rattle.refusals.proofs.Answering.{named, named-number, number_pos}
+use Rattle.rules.specs.Machine.{State}
 use Rattle.rules.specs.Calls.{Reply, refused, spent, handed, end}
 use Rattle.lists.specs.Lists.{Side, gauge_side, case_side}
-use Rattle.runs.specs.declared.gauges.Phase.TheVariants.{Down as gauge_down, Handed as gauge_handed, Back as gauge_back, Ended as gauge_ended}
-use Rattle.runs.specs.declared.gauges.Phase.{Phase as GaugePhase}
-use Rattle.runs.specs.declared.cases.CasePhase.TheVariants.{Down as case_down, Handed as case_handed, Back as case_back, Ended as case_ended}
-use Rattle.runs.specs.declared.cases.CasePhase.{CasePhase}
-use Rattle.runs.specs.declared.gauges.GaugeRun.{GaugeRun}
-use Rattle.runs.specs.declared.cases.CaseRun.{CaseRun}
-use Rattle.runs.specs.declared.gauges.GaugeStart.{GaugeStart}
-use Rattle.runs.specs.declared.cases.CaseStart.{CaseStart}
-use Rattle.runs.specs.declared.gauges.GaugeStep.{GaugeStep}
-use Rattle.runs.specs.declared.cases.CaseStep.{CaseStep}
-use Rattle.runs.specs.declared.Outcome.{Outcome}
-use Rattle.runs.specs.declared.Outcome.TheVariants.{HandedOut, Spent, End, Refused}
-use Rattle.runs.specs.declared.engine.Mode.{Mode}
-use Rattle.runs.specs.declared.engine.Mode.TheVariants.{Down as mode_down, Handed as mode_handed, Back as mode_back, Ended as mode_ended}
-use Rattle.runs.specs.declared.side.SideRun.{SideRun}
-use Rattle.runs.specs.declared.side.SideStart.{SideStart}
-use Rattle.runs.specs.declared.side.SideStep.{SideStep}
-use Rattle.runs.specs.Sides.{side_value, side_start, side_step}
-use Rattle.runs.specs.Paused.{Value, mode_phase, gauge_phase, case_phase, gauge_value, case_value, gauge_start, case_start}
-use Rattle.runs.specs.Calling.{Step, outcome, gauge_step, case_step, value_refusal, PausedAt, Called}
+use Rattle.table.specs.declared.Gauge.{Gauge}
+use Rattle.table.specs.declared.Case.{Case}
+use Rattle.preference.specs.declared.Order.{Order}
+use Rattle.runs.specs.declared.Phase.{Phase as Stage}
+use Rattle.runs.specs.declared.Phase.TheVariants.{Down as down, Handed as stage_handed, Back as back, Ended as ended}
+use Rattle.runs.specs.declared.paused.Picks.{Picks}
+use Rattle.runs.specs.declared.paused.Run.{Run}
+use Rattle.runs.specs.declared.paused.Ladder.{Ladder}
+use Rattle.runs.specs.declared.paused.Outcome.{Outcome}
+use Rattle.runs.specs.declared.paused.Outcome.TheVariants.{HandedOut, Spent, End}
+use Rattle.runs.specs.declared.paused.Step.{Step as CallStep}
+use Rattle.runs.specs.Paused.{Value, phase_of, value_of, gauge_value, start_of}
+use Rattle.runs.specs.Calling.{Step, outcome, chain_out, picks_out, step_of, value_refusal, PausedAt, Called}
 use Rattle.runs.specs.Omitting.{CalledEither}
 use Rattle.runs.specs.private.Either.{CalledOf}
 use Rattle.runs.proofs.Answered.{called_of_both, called_plain}
@@ -104,157 +99,128 @@ called_unique side v b r q a c = of_unique side v b r q (called_of_both side v b
 pub called_plain_unique : (side : Table → Side) (v : Value) (b : ℕ) (r q : Step) → v.omit ≡ false → Called side v b r → Called side v b q → r ≡ q
 called_plain_unique side v b r q e a c = of_unique side v b r q (called_plain side v b r e a) (called_plain side v b q e c)
 
--- ---- no two answers read alike: what is read gives the answer back
-injective : {A B : Type 0} (read : A → B) (back : B → A) → ((x : A) → back (read x) ≡ x) → (x y : A) → read x ≡ read y → x ≡ y
-injective read back h x y e = sym (h x) ∙ ap back e ∙ h y
+-- ---- no two answers read alike, of a side whose numbers are its own
+number_injective : (x y : Refusal) → number_of x ≡ number_of y → x ≡ y
+number_injective x y e = sym (named-number x) ∙ ap named e ∙ named-number y
 
-outcome_of : Reply → Outcome
-outcome_of (refused n) = Refused (named n)
-outcome_of spent = Spent
-outcome_of (handed x) = HandedOut
-outcome_of end = End
+order_same : {S : Type 0} (o r : Order S) → o.numbers ≡ r.numbers → o ≡ r
+order_same o r e = ap (λ (k : List ℕ). record { numbers = k; side = o.side }) e
 
-outcome_of_lem : (o : Outcome) (x : List ℕ) → outcome_of (outcome o x) ≡ o
-unfolding outcome_of
-outcome_of_lem HandedOut x = refl
-outcome_of_lem Spent x = refl
-outcome_of_lem End x = refl
-outcome_of_lem (Refused y) x = ap Refused (named-number y)
+pub picks_same : {S : Type 0} (o r : Picks S) → o.numbers ≡ r.numbers → o ≡ r
+picks_same o r e = ap (λ (k : List ℕ). record { numbers = k; side = o.side }) e
 
--- ---- the gauge run
-gauge_phase_of : Phase → GaugePhase
-gauge_phase_of Down = gauge_down
-gauge_phase_of Handed = gauge_handed
-gauge_phase_of (Back g) = gauge_back (record { 0 = g })
-gauge_phase_of Ended = gauge_ended
+module _ {S : Type 0} (n : S → ℕ) (own : (x y : S) → n x ≡ n y → x ≡ y) where
+  phase_injective : (f g : Stage S) → phase_of n f ≡ phase_of n g → f ≡ g
+  phase_injective down down e = refl
+  phase_injective down stage_handed e = clash cc
+  phase_injective down (back y) e = clash cc
+  phase_injective down ended e = clash cc
+  phase_injective stage_handed down e = clash cc
+  phase_injective stage_handed stage_handed e = refl
+  phase_injective stage_handed (back y) e = clash cc
+  phase_injective stage_handed ended e = clash cc
+  phase_injective (back x) down e = clash cc
+  phase_injective (back x) stage_handed e = clash cc
+  phase_injective (back x) (back y) e = let d : n x ≡ n y = cc in ap back (own x y d)
+  phase_injective (back x) ended e = clash cc
+  phase_injective ended down e = clash cc
+  phase_injective ended stage_handed e = clash cc
+  phase_injective ended (back y) e = clash cc
+  phase_injective ended ended e = refl
 
-gauge_phase_of_lem : (f : GaugePhase) → gauge_phase_of (gauge_phase f) ≡ f
-unfolding gauge_phase_of
-gauge_phase_of_lem gauge_down = refl
-gauge_phase_of_lem gauge_handed = refl
-gauge_phase_of_lem (gauge_back g) = refl
-gauge_phase_of_lem gauge_ended = refl
+  run_same : (t u : Table) (k l : Order S) (p q : Picks S) (c d : ℕ) (f g : Stage S) (a b : Bool) → t ≡ u → k ≡ l → p ≡ q → c ≡ d → f ≡ g → a ≡ b
+      → ◌≡◌ {A = Run S} (record { table = t; order = k; picks = p; count = c; phase = f; omit = a })
+      (record { table = u; order = l; picks = q; count = d; phase = g; omit = b })
+  run_same t u k l p q c d f g a b x y z w v o = rw (x, y, z, w, v, o)
 
-abbrev gauge_run_of : Value → GaugeRun
-gauge_run_of v = record {
-  table = v.table;
-  order = record { 0 = v.order };
-  picks = record { 0 = v.picks };
-  count = v.count;
-  phase = gauge_phase_of v.phase;
-  omit = v.omit;
-}
+  pub side_value_injective : (p q : Run S) → value_of n p ≡ value_of n q → p ≡ q
+  side_value_injective p q e =
+      run_same p.table q.table p.order q.order p.picks q.picks p.count q.count p.phase q.phase p.omit q.omit
+      (ap (λ (v : Value). v.table) e)
+      (order_same p.order q.order (ap (λ (v : Value). v.order) e))
+      (picks_same p.picks q.picks (ap (λ (v : Value). v.picks) e))
+      (ap (λ (v : Value). v.count) e)
+      (phase_injective p.phase q.phase (ap (λ (v : Value). v.phase) e))
+      (ap (λ (v : Value). v.omit) e)
 
-gauge_run_of_lem : (p : GaugeRun) → gauge_run_of (gauge_value p) ≡ p
-gauge_run_of_lem p =
-    ap (λ (f : GaugePhase). record { table = p.table; order = p.order; picks = p.picks; count = p.count; phase = f; omit = p.omit })
-    (gauge_phase_of_lem p.phase)
+  pub side_start_injective : (s z : Result (Run S) Refusal) → start_of n s ≡ start_of n z → s ≡ z
+  side_start_injective (Ok p) (Ok q) e = ap Ok (side_value_injective p q (ap (λ (a : Reading Value). a.value) e))
+  side_start_injective (Ok p) (Err y) e =
+      let d : 0 ≡ number_of y = ap (λ (a : Reading Value). a.refusal) e in absurd (omega (arith, d, number_pos y))
+  side_start_injective (Err x) (Ok q) e =
+      let d : number_of x ≡ 0 = ap (λ (a : Reading Value). a.refusal) e in absurd (omega (arith, d, number_pos x))
+  side_start_injective (Err x) (Err y) e = ap Err (number_injective x y (ap (λ (a : Reading Value). a.refusal) e))
 
-pub gauge_value_injective : (p q : GaugeRun) → gauge_value p ≡ gauge_value q → p ≡ q
-gauge_value_injective = injective gauge_value gauge_run_of gauge_run_of_lem
+  ladder_same : (k l : Ladder S) → k.chain ≡ l.chain → k.picks ≡ l.picks → k ≡ l
+  ladder_same k l d e = ap₂ (λ (c : Chain) (p : Picks S). record { chain = c; picks = p }) d e
 
-pub gauge_started_injective : (s z : GaugeStart) → gauge_start s ≡ gauge_start z → s ≡ z
-gauge_started_injective s z e =
-    ap₂ (λ (v : Verdict) (p : GaugeRun). record { verdict = v; run = p })
-    (verdict_injective s.verdict z.verdict (ap (λ (a : Reading Value). a.refusal) e))
-    (gauge_value_injective s.run z.run (ap (λ (a : Reading Value). a.value) e))
+  outcome_injective : (o p : Outcome S) → outcome o ≡ outcome p → chain_out o ≡ chain_out p → picks_out o ≡ picks_out p → o ≡ p
+  outcome_injective (HandedOut k) (HandedOut l) e d f = ap HandedOut (ladder_same k l d (picks_same k.picks l.picks f))
+  outcome_injective (HandedOut k) Spent e d f = clash cc
+  outcome_injective (HandedOut k) End e d f = clash cc
+  outcome_injective Spent (HandedOut l) e d f = clash cc
+  outcome_injective Spent Spent e d f = refl
+  outcome_injective Spent End e d f = clash cc
+  outcome_injective End (HandedOut l) e d f = clash cc
+  outcome_injective End Spent e d f = clash cc
+  outcome_injective End End e d f = refl
 
-pub gauge_step_injective : (r q : GaugeStep) → gauge_step r ≡ gauge_step q → r ≡ q
-gauge_step_injective = injective gauge_step
-    (λ s. record { outcome = outcome_of s.answer; moves = s.moves; chain = s.chain; picks = record { 0 = s.picks }; next = gauge_run_of s.next })
-    (λ r. ap₂ (λ (o : Outcome) (p : GaugeRun). record { outcome = o; moves = r.moves; chain = r.chain; picks = r.picks; next = p })
-    (outcome_of_lem r.outcome (chain_rows r.chain)) (gauge_run_of_lem r.next))
+  never_refused : (o : Outcome S) (k : ℕ) {P : Type 0} → outcome o ≡ refused k → P
+  never_refused (HandedOut l) k e = clash cc
+  never_refused Spent k e = clash cc
+  never_refused End k e = clash cc
 
--- ---- the case run
-case_phase_of : Phase → CasePhase
-case_phase_of Down = case_down
-case_phase_of Handed = case_handed
-case_phase_of (Back c) = case_back (record { 0 = c })
-case_phase_of Ended = case_ended
+  call_same : (o p : Outcome S) (k l : ℕ) (r q : Run S) → o ≡ p → k ≡ l → r ≡ q
+      → ◌≡◌ {A = CallStep S} (record { outcome = o; moves = k; next = r }) (record { outcome = p; moves = l; next = q })
+  call_same o p k l r q x y z = rw (x, y, z)
 
-case_phase_of_lem : (f : CasePhase) → case_phase_of (case_phase f) ≡ f
-unfolding case_phase_of
-case_phase_of_lem case_down = refl
-case_phase_of_lem case_handed = refl
-case_phase_of_lem (case_back c) = refl
-case_phase_of_lem case_ended = refl
+  pub side_step_injective : (r q : Result (CallStep S) Refusal) → step_of n r ≡ step_of n q → r ≡ q
+  side_step_injective (Ok r) (Ok q) e =
+      ap Ok
+      (call_same r.outcome q.outcome r.moves q.moves r.next q.next
+      (outcome_injective r.outcome q.outcome (ap (λ (s : Step). s.answer) e) (ap (λ (s : Step). s.chain) e) (ap (λ (s : Step). s.picks) e))
+      (ap (λ (s : Step). s.moves) e)
+      (side_value_injective r.next q.next (ap (λ (s : Step). s.next) e)))
+  side_step_injective (Ok r) (Err y) e = never_refused r.outcome (number_of y) (ap (λ (s : Step). s.answer) e)
+  side_step_injective (Err x) (Ok q) e = never_refused q.outcome (number_of x) (sym (ap (λ (s : Step). s.answer) e))
+  side_step_injective (Err x) (Err y) e =
+      let d : refused (number_of x) ≡ refused (number_of y) = ap (λ (s : Step). s.answer) e in
+      let f : number_of x ≡ number_of y = cc in ap Err (number_injective x y f)
 
-abbrev case_run_of : Value → CaseRun
-case_run_of v = record {
-  table = v.table;
-  order = record { 0 = v.order };
-  picks = record { 0 = v.picks };
-  count = v.count;
-  phase = case_phase_of v.phase;
-  omit = v.omit;
-}
+  -- so a run call has one answer
+  call_unique : (side : Table → Side) (v : Value) (b : ℕ) (r q : Result (CallStep S) Refusal) → CalledEither side v b (step_of n r)
+      → CalledEither side v b (step_of n q)
+      → r ≡ q
+  call_unique side v b r q a c = side_step_injective r q (called_unique side v b (step_of n r) (step_of n q) a c)
 
-case_run_of_lem : (p : CaseRun) → case_run_of (case_value p) ≡ p
-case_run_of_lem p =
-    ap (λ (f : CasePhase). record { table = p.table; order = p.order; picks = p.picks; count = p.count; phase = f; omit = p.omit })
-    (case_phase_of_lem p.phase)
+-- ---- of each side
+pub gauge_own : (x y : Gauge) → x.0 ≡ y.0 → x ≡ y
+gauge_own x y e = ap (λ (k : ℕ). record { 0 = k }) e
 
-pub case_value_injective : (p q : CaseRun) → case_value p ≡ case_value q → p ≡ q
-case_value_injective = injective case_value case_run_of case_run_of_lem
+pub case_own : (x y : Case) → x.0 ≡ y.0 → x ≡ y
+case_own x y e = ap (λ (k : ℕ). record { 0 = k }) e
 
-pub case_started_injective : (s z : CaseStart) → case_start s ≡ case_start z → s ≡ z
-case_started_injective s z e =
-    ap₂ (λ (v : Verdict) (p : CaseRun). record { verdict = v; run = p })
-    (verdict_injective s.verdict z.verdict (ap (λ (a : Reading Value). a.refusal) e))
-    (case_value_injective s.run z.run (ap (λ (a : Reading Value). a.value) e))
+pub gauge_value_injective : (p q : Run Gauge) → gauge_value p ≡ gauge_value q → p ≡ q
+gauge_value_injective = side_value_injective (λ x. x.0) gauge_own
 
-pub case_step_injective : (r q : CaseStep) → case_step r ≡ case_step q → r ≡ q
-case_step_injective = injective case_step
-    (λ s. record { outcome = outcome_of s.answer; moves = s.moves; chain = s.chain; picks = record { 0 = s.picks }; next = case_run_of s.next })
-    (λ r. ap₂ (λ (o : Outcome) (p : CaseRun). record { outcome = o; moves = r.moves; chain = r.chain; picks = r.picks; next = p })
-    (outcome_of_lem r.outcome (chain_rows r.chain)) (case_run_of_lem r.next))
+pub gauge_call_unique : (v : Value) (b : ℕ) (r q : Result (CallStep Gauge) Refusal) → CalledEither gauge_side v b (step_of (λ x. x.0) r)
+    → CalledEither gauge_side v b (step_of (λ x. x.0) q)
+    → r ≡ q
+gauge_call_unique = call_unique (λ x. x.0) gauge_own gauge_side
 
--- ---- either side, where the marks are the same: with its clause `mark` a contract determines the whole struct
-mode_of : Phase → Mode
-mode_of Down = mode_down
-mode_of Handed = mode_handed
-mode_of (Back k) = mode_back k
-mode_of Ended = mode_ended
+pub case_call_unique : (v : Value) (b : ℕ) (r q : Result (CallStep Case) Refusal) → CalledEither case_side v b (step_of (λ x. x.0) r)
+    → CalledEither case_side v b (step_of (λ x. x.0) q)
+    → r ≡ q
+case_call_unique = call_unique (λ x. x.0) case_own case_side
 
-mode_of_lem : (m : Mode) → mode_of (mode_phase m) ≡ m
-unfolding mode_of
-mode_of_lem mode_down = refl
-mode_of_lem mode_handed = refl
-mode_of_lem (mode_back k) = refl
-mode_of_lem mode_ended = refl
+pub gauge_started_injective : (s z : Result (Run Gauge) Refusal) → start_of (λ x. x.0) s ≡ start_of (λ x. x.0) z → s ≡ z
+gauge_started_injective = side_start_injective (λ x. x.0) gauge_own
 
-abbrev side_run_of : Bool → Value → SideRun
-side_run_of b v =
-    record { cases = b; table = v.table; order = v.order; picks = v.picks; count = v.count; mode = mode_of v.phase; omit = v.omit }
+pub case_started_injective : (s z : Result (Run Case) Refusal) → start_of (λ x. x.0) s ≡ start_of (λ x. x.0) z → s ≡ z
+case_started_injective = side_start_injective (λ x. x.0) case_own
 
-side_run_of_lem : (p : SideRun) → side_run_of p.cases (side_value p) ≡ p
-side_run_of_lem p =
-    ap (λ (m : Mode). record { cases = p.cases; table = p.table; order = p.order; picks = p.picks; count = p.count; mode = m; omit = p.omit })
-    (mode_of_lem p.mode)
+pub gauge_step_injective : (r q : Result (CallStep Gauge) Refusal) → step_of (λ x. x.0) r ≡ step_of (λ x. x.0) q → r ≡ q
+gauge_step_injective = side_step_injective (λ x. x.0) gauge_own
 
-pub side_value_injective : (p q : SideRun) → p.cases ≡ q.cases → side_value p ≡ side_value q → p ≡ q
-side_value_injective p q d e = sym (side_run_of_lem p) ∙ ap₂ side_run_of d e ∙ side_run_of_lem q
-
-pub side_start_injective : (s z : SideStart) → s.run.cases ≡ z.run.cases → side_start s ≡ side_start z → s ≡ z
-side_start_injective s z d e =
-    ap₂ (λ (v : Verdict) (p : SideRun). record { verdict = v; run = p })
-    (verdict_injective s.verdict z.verdict (ap (λ (a : Reading Value). a.refusal) e))
-    (side_value_injective s.run z.run d (ap (λ (a : Reading Value). a.value) e))
-
-abbrev side_step_of : Bool → Step → SideStep
-side_step_of b s = record { outcome = outcome_of s.answer; moves = s.moves; chain = s.chain; picks = s.picks; next = side_run_of b s.next }
-
-side_step_of_lem : (r : SideStep) → side_step_of r.next.cases (side_step r) ≡ r
-side_step_of_lem r =
-    ap₂ (λ (o : Outcome) (p : SideRun). record { outcome = o; moves = r.moves; chain = r.chain; picks = r.picks; next = p })
-    (outcome_of_lem r.outcome (chain_rows r.chain)) (side_run_of_lem r.next)
-
-pub side_step_injective : (r q : SideStep) → r.next.cases ≡ q.next.cases → side_step r ≡ side_step q → r ≡ q
-side_step_injective r q d e = sym (side_step_of_lem r) ∙ ap₂ side_step_of d e ∙ side_step_of_lem q
-
--- ---- so a run call has one answer
-pub gauge_call_unique : (v : Value) (b : ℕ) (r q : GaugeStep) → CalledEither gauge_side v b (gauge_step r) → CalledEither gauge_side v b (gauge_step q) → r ≡ q
-gauge_call_unique v b r q a c = gauge_step_injective r q (called_unique gauge_side v b (gauge_step r) (gauge_step q) a c)
-
-pub case_call_unique : (v : Value) (b : ℕ) (r q : CaseStep) → CalledEither case_side v b (case_step r) → CalledEither case_side v b (case_step q) → r ≡ q
-case_call_unique v b r q a c = case_step_injective r q (called_unique case_side v b (case_step r) (case_step q) a c)
+pub case_step_injective : (r q : Result (CallStep Case) Refusal) → step_of (λ x. x.0) r ≡ step_of (λ x. x.0) q → r ≡ q
+case_step_injective = side_step_injective (λ x. x.0) case_own

@@ -27,15 +27,16 @@ use Rattle.runs.specs.Paused.{Value, numbered, paused, mode_phase, no_numbers}
 use Rattle.preference.specs.Preferences.{is_preference}
 use Rattle.preference.proofs.Holding.{preference_of}
 use Rattle.preference.proofs.Placing.{both_pass, preference_refused, table_first_lem}
-use Rattle.runs.specs.Calling.{Step, outcome, refusal_step, sequence, arrangement, by_rules, told, held, Called}
+use Rattle.runs.specs.Calling.{Step, refusal_step, sequence, arrangement, by_rules, told, held, Called}
+use Rattle.runs.specs.private.Working.{stop_reply}
 use Rattle.runs.specs.Demand.{CarriesDemand}
 use Rattle.runs.specs.private.Either.{call_of, CalledOf}
 use Rattle.runs.specs.Omitting.{moves_of}
 use Rattle.runs.specs.Omitting.{CalledEither, CarriesOmits}
 use Rattle.runs.specs.private.Sided.{Reports}
-use Rattle.runs.specs.private.Working.{refused_report, StandsBy, WentBy, CarriesBy, InOrder, next_of, step_by}
-use Rattle.runs.specs.declared.Outcome.{Outcome}
-use Rattle.runs.specs.declared.Outcome.TheVariants.{HandedOut, Spent, End, Refused}
+use Rattle.runs.specs.private.Working.{StandsBy, WentBy, CarriesBy, InOrder, next_of, step_by}
+use Rattle.runs.specs.declared.engine.Stop.{Stop}
+use Rattle.runs.specs.declared.engine.Stop.TheVariants.{HandedOut, Spent, End, Refused}
 use Rattle.runs.specs.declared.engine.Report.{Report}
 use Rattle.runs.proofs.Padding.{take-padded}
 use Rattle.runs.proofs.Answered.{called_both, stands_paused, paused_stands, called_refused}
@@ -44,10 +45,10 @@ use Rattle.runs.proofs.HandOuts.{sequence_of_lem, handed_out}
 use Rattle.runs.proofs.Demands.{Starts, carries_demand, carries_omits}
 
 -- an outcome that is no refusal, and one that is no hand-out
-abbrev pub NotRefused : Outcome → Type 0
+abbrev pub NotRefused : Stop → Type 0
 NotRefused o = (why : Refusal) → o ≡ Refused why → ⊥
 
-abbrev pub NotHanded : Outcome → Type 0
+abbrev pub NotHanded : Stop → Type 0
 NotHanded o = o ≡ HandedOut → ⊥
 
 -- the report of moves as the public answer
@@ -60,10 +61,10 @@ handed_with t order omit o k rows picks = record {
   next = next_of t order omit o k;
 }
 
-by_moves : (t : Table) (s : Side) (order : List ℕ) (omit : Bool) (o : Report) (k rows x : List ℕ) (y : State) (oc : Outcome)
+by_moves : (t : Table) (s : Side) (order : List ℕ) (omit : Bool) (o : Report) (k rows x : List ℕ) (y : State) (oc : Stop)
     → (oc ≡ HandedOut → (rows ≡ padded x) × (length x ≡ t.gauges) × (k ≡ sequence s (arrangement s order) x))
     → next_of t order omit o k ≡ paused t order omit y
-    → step_by t order omit o k rows oc ≡ by_rules t s order omit (outcome oc x) o.moves y
+    → step_by t order omit o k rows oc ≡ by_rules t s order omit (stop_reply oc x) o.moves y
 by_moves t s order omit o k rows x y HandedOut e w =
     let (a, n, q) = e refl in ap (handed_with t order omit o k rows) q ∙ rw (a, w, take-padded x t.gauges (sym n))
 by_moves t s order omit o k rows x y Spent e w = rw w
@@ -93,7 +94,7 @@ module _ (side : Table → Side) (v : Value) (b : ℕ) (c' k' : List ℕ) (o : R
   mv = moves_of t (side t) q v.omit
 
   -- the step that the report o gives
-  abbrev step : List ℕ → Outcome → Step
+  abbrev step : List ℕ → Stop → Step
   step rows oc = step_by t v.order v.omit o k' rows oc
 
   -- ---- the preference is none
@@ -183,13 +184,13 @@ module _ (side : Table → Side) (v : Value) (b : ℕ) (c' k' : List ℕ) (o : R
         (rw ef (sym (ap (step rows) e)))
 
     call-other : (c : Chain) → c ≡ blank_chain → NotRefused o.outcome → NotHanded o.outcome
-        → CalledOf side v b (record { answer = outcome o.outcome (chain_rows c); moves = o.moves; chain = c; picks = no_numbers; next = next })
+        → CalledOf side v b (record { answer = stop_reply o.outcome (chain_rows c); moves = o.moves; chain = c; picks = no_numbers; next = next })
     call-other c ec moved other =
         call_answer [] (λ e. absurd (other e))
-        (record { answer = outcome o.outcome (chain_rows c); moves = o.moves; chain = c; picks = no_numbers; next = next }) (as_step o.outcome moved other)
+        (record { answer = stop_reply o.outcome (chain_rows c); moves = o.moves; chain = c; picks = no_numbers; next = next }) (as_step o.outcome moved other)
       where
-        as_step : (oc : Outcome) → NotRefused oc → NotHanded oc
-            → ◌≡◌ {A = Step} (record { answer = outcome oc (chain_rows c); moves = o.moves; chain = c; picks = no_numbers; next = next })
+        as_step : (oc : Stop) → NotRefused oc → NotHanded oc
+            → ◌≡◌ {A = Step} (record { answer = stop_reply oc (chain_rows c); moves = o.moves; chain = c; picks = no_numbers; next = next })
             (step [] oc)
         as_step HandedOut a d = absurd (d refl)
         as_step Spent a d = rw (ec, ef)
@@ -240,22 +241,11 @@ module _ (side : Table → Side) (v : Value) (b : ℕ) (c' k' : List ℕ) (o : R
         (by_table _ (λ w x n. clash cc) (λ z. call-handed side v b c' k' o (worked z) f ef rows e (ladder (legal z))))
 
     pub told-other : (c : Chain) → c ≡ blank_chain → NotRefused o.outcome → NotHanded o.outcome
-        → CalledOf side v b (record { answer = outcome o.outcome (chain_rows c); moves = o.moves; chain = c; picks = no_numbers; next = after })
+        → CalledOf side v b (record { answer = stop_reply o.outcome (chain_rows c); moves = o.moves; chain = c; picks = no_numbers; next = after })
     told-other c d moved other =
         by_table _ (λ w x n. absurd (moved w x)) (λ z. call-other side v b c' k' o (worked z) f ef c d moved other)
 
 -- ---- what it is told: its table's refusal, or what the core gives
-module _ (side : Table → Side) (v : Value) (b : ℕ) (c' k' : List ℕ) (o : Report) where
-  pub table_reported : (why : Refusal) → o ≡ refused_report why → number why ≡ table_refusal v.table → Reports side v b c' k' o
-  table_reported why d e = record {
-    table = λ l. (why, (ap (λ (x : Report). x.outcome) d, e));
-    rules = λ z. absurd (omega (arith, number_pos why, e));
-  }
-
-  pub core_reported : table_refusal v.table ≡ 0 → (f : Phase) → f ≡ v.phase → (k : List ℕ) → k ≡ v.picks
-      → InOrder (λ q. moves_of v.table (side v.table) q v.omit) (side v.table).count (side v.table).rows v.order k v.count f b c' k' o
-      → Reports side v b c' k' o
-  core_reported z f e k d h = record { table = λ l. absurd (omega arith); rules = λ y. rw (← e, ← d) h }
 
 -- an answer that is what `CalledOf` says is what both kinds of run promise, and carries on demand 3, and what is
 -- promised of the runs that omit

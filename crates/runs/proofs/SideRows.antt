@@ -1,36 +1,26 @@
 -- Both sides by the mark of a run, for the core's calls: how many rows the side has, what they are, which pairs are
--- wanted on it and what is handed out; and that what the core gives at a mark it gives at an equal one (`calls_at_lem`).
+-- wanted on it and what is handed out.
 use mathlib.Core.Path.{◌≡◌, refl}
-use mathlib.Core.Bool.{Bool, true, false, not}
+use mathlib.Core.Bool.{Bool, true, false}
 use mathlib.Core.List.{List}
 use Prim.Native.Nat.{ℕ, min}
-use lib.ListN.{length}
-use Rattle.basics.proofs.Clash.{clash}
 use Rattle.refusals.specs.Answers.{Answer}
 use Rattle.table.specs.Tables.{Legal, padded}
 use Rattle.table.specs.declared.Table.{Table}
 use Rattle.transpose.specs.Transposing.{transpose}
 use Rattle.transpose.specs.Places.{places}
 use Rattle.essentials.specs.Answers.{GivesEssentials}
-use Rattle.rules.specs.Machine.{Phase}
 use Rattle.lists.specs.OnTable.{hand_out}
-use Rattle.runs.specs.Paused.{Value}
-use Rattle.runs.specs.Batches.{Ending, Batched, CarriesBatch}
 use Rattle.runs.specs.Sides.{side_of}
 use Rattle.runs.specs.private.Working.{Sized, Works}
 use Rattle.runs.specs.private.Listing.{ladder_for}
-use Rattle.runs.specs.private.Sided.{table_of, Wants, CallsSide}
-use Rattle.runs.specs.declared.engine.Report.{Report}
-use Rattle.runs.specs.declared.sided.Shape.{Shape}
+use Rattle.runs.specs.private.Sided.{table_of, Wants}
 use Rattle.runs.proofs.Sides.{gauge_works, case_works}
 use Rattle.runs.proofs.Wanting.{gauge_wants, case-wants}
 use Rattle.runs.proofs.BatchSides.{gauge_out, case_out}
 
 pub cases_counted : (m : Bool) (g c : ℕ) → m ≡ true → (rows : List ℕ) → c ≡ (side_of m (table_of g c rows)).count
 cases_counted m g c e rows = rw e refl
-
-pub gauges_counted : (m : Bool) (g c : ℕ) → m ≡ false → (rows : List ℕ) → g ≡ (side_of m (table_of g c rows)).count
-gauges_counted m g c e rows = rw e refl
 
 module _ (m : Bool) (t : Table) (l : Legal t) where
   pub turned_works : m ≡ true → (R : List ℕ) → R ≡ padded (transpose (min t.cases 64) (places t.gauges t.rows))
@@ -52,21 +42,6 @@ pub side_out : (m : Bool) (t : Table) → Legal t → (order p : List ℕ)
 side_out false t l order p = gauge_out t l order p
 side_out true t l order p = case_out t l order p
 
--- nothing is asked of the pairs of a run that does not omit
-pub none_wanted : {P : Type 0} (omit : Bool) → not omit ≡ true → omit ≡ true → P
-none_wanted false n e = clash cc
-none_wanted true n e = clash cc
-
 -- the rows of the side, for as many as there are
 pub sized_as : {n : ℕ} (m : Bool) (t : Table) (R : List ℕ) → n ≡ (side_of m t).count → Works (side_of m t) (side_of m t).count R → Sized n R
 sized_as m t R e w = rw e w.sized
-
--- a batch by the types of a side: at an equal mark and value, with a next value that reads the same
-pub batched_as : {m x : Bool} {u v y z : Value} (b : ℕ) (before now : List ℕ) (e : Ending) (l k : ℕ) {A : Type 0} → m ≡ x → u ≡ v → z ≡ y
-    → Batched (side_of m) u b before (record { ending = e; ladders = l; moves = k; next = y }) now × (CarriesBatch (side_of m) u (length before) b × A)
-    → Batched (side_of x) v b before (record { ending = e; ladders = l; moves = k; next = z }) now × CarriesBatch (side_of x) v (length before) b
-batched_as b before now e l k i j n h = rw (← i, ← j, n) (h.0, h.1.0)
-
-pub calls_at_lem : {m x : Bool} → m ≡ x → (h : Shape) (rows : List ℕ) {order k : List ℕ} {count : ℕ} {f : Phase} {b : ℕ} {c k' : List ℕ} {o : Report}
-    → CallsSide x h rows order k count f b c k' o → CallsSide m h rows order k count f b c k' o
-calls_at_lem e h rows d = rw e d

@@ -31,8 +31,8 @@ use Rattle.sets.proofs.Tests.{is_false}
 use Rattle.lists.specs.PickSequence.{is_in}
 use Rattle.runs.specs.Paused.{numbered, mode_phase}
 use Rattle.runs.specs.private.Working.{Sized, placed, state_of, HoldsAt, Holds, TakesBack, NumberAt, left_after, spot_down, Stepped}
-use Rattle.runs.specs.declared.engine.Mode.{Mode}
-use Rattle.runs.specs.declared.engine.Mode.TheVariants.{Down as mode_down, Handed as mode_handed, Back as mode_back, Ended as mode_ended}
+use Rattle.runs.specs.declared.Phase.{Phase as Stage}
+use Rattle.runs.specs.declared.Phase.TheVariants.{Down as mode_down, Handed as mode_handed, Back as mode_back, Ended as mode_ended}
 use Rattle.runs.specs.declared.engine.Spot.{Spot}
 use Rattle.runs.specs.declared.engine.Moved.{Moved}
 use Rattle.runs.specs.declared.engine.Moved.TheVariants.{On, Out, Over}
@@ -197,10 +197,10 @@ module _ (n : ℕ) (rows c k : List ℕ) (s : Spot) (z : Sized n rows) (h : Hold
     -- Down
     module _ (e : s.mode ≡ mode_down) where
       down_is : move (candidates side) now ≡ down now.picks (head? (candidates side now.picks))
-      down_is = ap (λ (m : Mode). move (candidates side) (at now.picks (placed (mode_phase m)))) e
+      down_is = ap (λ (m : Stage ℕ). move (candidates side) (at now.picks (placed (mode_phase m)))) e
 
       down-valid : Valid (candidates side) now.picks
-      down-valid = subst (λ (m : Mode). Fits (candidates side) now.picks (placed (mode_phase m))) e h.fits
+      down-valid = subst (λ (m : Stage ℕ). Fits (candidates side) now.picks (placed (mode_phase m))) e h.fits
 
       pub down-room : g < 64 → (s.count < 64) × (g < 64)
       down-room l = (omega (arith, h.counted, room side u' c k (side_rows n rows z) s now h down-valid g (found l)), l)
@@ -235,10 +235,10 @@ module _ (n : ℕ) (rows c k : List ℕ) (s : Spot) (z : Sized n rows) (h : Hold
     -- Back from the gauge whose number is `from`
     module _ (e : s.mode ≡ mode_back from) where
       back_is : move (candidates side) now ≡ back now.picks (head? (above (from - 1) (candidates side now.picks)))
-      back_is = ap (λ (m : Mode). move (candidates side) (at now.picks (placed (mode_phase m)))) e
+      back_is = ap (λ (m : Stage ℕ). move (candidates side) (at now.picks (placed (mode_phase m)))) e
 
       back_fits : Fits (candidates side) now.picks (Back (from - 1))
-      back_fits = subst (λ (m : Mode). Fits (candidates side) now.picks (placed (mode_phase m))) e h.fits
+      back_fits = subst (λ (m : Stage ℕ). Fits (candidates side) now.picks (placed (mode_phase m))) e h.fits
 
       number-low : from ≡ suc (from - 1)
       number-low = go now.phase (sym (ap mode_phase e) ∙ h.phased)
@@ -266,22 +266,15 @@ module _ (n : ℕ) (rows c k : List ℕ) (s : Spot) (z : Sized n rows) (h : Hold
           ∙ ap (λ (q : List ℕ). back now.picks (head? q))
           (above-none side now.picks u' s.left (side_rows n rows z) h.after from g f (from - 1) number-low l)
 
-  -- Handed: the last pick is taken back
-  pub handed_is : s.mode ≡ mode_handed → move (candidates side) now ≡ take_back (cut_last now.picks)
-  handed_is e = ap (λ (m : Mode). move (candidates side) (at now.picks (placed (mode_phase m)))) e
-
   -- Ended: end again
   ended_over : s.mode ≡ mode_ended → Stepped n rows c k (move (candidates side) now) (Over s)
   ended_over e = record { says = (ended, h) }
     where
       phase-is : now.phase ≡ Ended
-      phase-is = ap (λ (m : Mode). placed (mode_phase m)) e
+      phase-is = ap (λ (m : Stage ℕ). placed (mode_phase m)) e
 
       ended : move (candidates side) now ≡ gives ends now
       ended = ap (λ (f : Phase). move (candidates side) (at now.picks f)) phase-is ∙ sym (ap (λ (f : Phase). gives ends (at now.picks f)) phase-is)
 
 pub stepped_as : (n : ℕ) (rows c k : List ℕ) (m o : Move) (r : Moved) → m ≡ o → Stepped n rows c k o r → Stepped n rows c k m r
 stepped_as n rows c k m o r e h = subst (λ (y : Move). Stepped n rows c k y r) (sym e) h
-
-pub takes_back : (m o : Mode) → m ≡ o → TakesBack (mode_phase o) → TakesBack (mode_phase m)
-takes_back m o e t = subst (λ (y : Mode). TakesBack (mode_phase y)) (sym e) t

@@ -17,8 +17,10 @@ use Rattle.rules.specs.Machine.{State, Move}
 use Rattle.rules.specs.Calls.{Call, most_budget}
 use Rattle.rules.proofs.Calls.{within_by}
 use Rattle.lists.specs.OnTable.{chain_of}
-use Rattle.runs.specs.Calling.{outcome}
-use Rattle.runs.specs.Batches.{Tale, tale, behind, onward, batch_by, joined, ending, Ending}
+use Rattle.runs.specs.Calling.{}
+use Rattle.runs.specs.private.Working.{stop_reply}
+use Rattle.runs.specs.Batches.{Tale, tale, behind, onward, batch_by, joined, Ending}
+use Rattle.runs.specs.private.Listing.{stop_ending}
 use Rattle.table.proofs.Padding.{pad_length, pad_get_or}
 use Rattle.table.proofs.Places.{row_past}
 use Rattle.sets.proofs.Tabulated.{length-tabulate, get_or-tabulate}
@@ -28,8 +30,8 @@ use Rattle.runs.specs.private.Working.{Sized, Holds, state_of, ComesOut, Advance
 use Rattle.runs.specs.declared.engine.Spot.{Spot}
 use Rattle.runs.specs.declared.engine.Report.{Report}
 use Rattle.runs.specs.private.Listing.{turned_rows, numbered_rows, ladder_of, ladder_for, Puts, Hands, words_of, written_in, Lists, Sofar}
-use Rattle.runs.specs.declared.Outcome.{Outcome}
-use Rattle.runs.specs.declared.Outcome.TheVariants.{HandedOut, Spent, End, Refused}
+use Rattle.runs.specs.declared.engine.Stop.{Stop}
+use Rattle.runs.specs.declared.engine.Stop.TheVariants.{HandedOut, Spent, End, Refused}
 use Rattle.runs.proofs.Padding.{take-padded}
 use Rattle.runs.proofs.SideCalls.{NotHanded}
 use Rattle.runs.proofs.Carrying.{carry_most}
@@ -75,9 +77,6 @@ module _ (n g : ℕ) (before : List ℕ) (at : ℕ) (now rows : List ℕ) (room 
   turned_words : now ≡ stored before at (transpose (min g 64) (places n rows))
   turned_words = w.fits (omega (arith, turned_size))
 
-  pub turned_length : length now ≡ length before
-  turned_length = ap length turned_words ∙ length-sets before at (transpose (min g 64) (places n rows))
-
   turns_is : (c pl : List ℕ) (p : Bool) → rows ≡ numbered_rows p pl n c → Hands true p c pl n g before at now
   unfolding ladder_of
   turns_is c pl p e = record { words = turned_words ∙ ap (stored before at) ladder; size = ap length (sym ladder) ∙ turned_size }
@@ -94,28 +93,8 @@ module _ (n g : ℕ) (before : List ℕ) (at : ℕ) (now rows : List ℕ) (room 
 -- ---- calls
 module _ (mv : State → Move) (out : List ℕ → List ℕ) where
   -- a call makes at most its budget of moves
-  comes_most : (b : ℕ) (x : State) (o : Outcome) (m : ℕ) (y : State) → ComesOut mv b x o m y → m ≤ b
+  comes_most : (b : ℕ) (x : State) (o : Stop) (m : ℕ) (y : State) → ComesOut mv b x o m y → m ≤ b
   comes_most b x o m y e = subst (λ (n : ℕ). n ≤ b) (ap (λ (c : Call). c.moves) (e out)) (carry_most mv out b x)
-
-  written_none : (writing : Bool) (before : List ℕ) → before ≡ written_in writing before []
-  written_none true before = refl
-  written_none false before = refl
-
-  pub sofar_none : (writing : Bool) (g k b : ℕ) (x : State) (before : List ℕ) → (writing ≡ true → words_of g k ≤ length before)
-      → Sofar writing mv out g k b x x before before b k 0
-  sofar_none writing g k b x before fits =
-      let t : Tale = batch_by mv out k b x in
-      record {
-        sets = [];
-        most = omega arith;
-        onward = let e : (b - b) + t.moves ≡ t.moves = omega arith in rw e;
-        counted = omega arith;
-        placed = λ w. refl;
-        room = λ w. omega (arith, fits w);
-        buffer = written_none writing before;
-        first = λ e. (refl, refl);
-        once = λ one none. absurd (omega (arith, one, none));
-      }
 
   module _ (writing : Bool) (g k b : ℕ) (x y : State) (before now : List ℕ) (l j place : ℕ) (h : Sofar writing mv out g k b x y before now l j place) where
     room_most : j ≤ k
@@ -137,20 +116,12 @@ module _ (mv : State → Move) (out : List ℕ → List ℕ) where
     pub place-room : writing ≡ true → 0 < j → place + g ≤ length now
     place-room w p = omega (arith, place-fits w p, same_size)
 
-    -- the room is full
-    turn-full : j ≤ 0 → batch_by mv out k b x ≡ tale (ending HandedOut) h.sets (b - l) y
-    turn-full p =
-        let e : j ≡ 0 = omega arith in
-        let d : (b - l) + 0 ≡ b - l = omega arith in
-        h.onward ∙ ap (λ (i : ℕ). behind h.sets (b - l) (batch_by mv out i l y)) e
-        ∙ ap₂ (λ (s : List (List ℕ)) (m : ℕ). tale (ending HandedOut) s m y) (append-nil h.sets) d
-
-    module _ (few : b ≤ most_budget) (p : 0 < j) (oc : Outcome) (m : ℕ) (z : State) (e : ComesOut mv l y oc m z) where
+    module _ (few : b ≤ most_budget) (p : 0 < j) (oc : Stop) (m : ℕ) (z : State) (e : ComesOut mv l y oc m z) where
       less : m ≤ l
       less = comes_most l y oc m z e
 
       -- what the next call answers
-      called : batch_by mv out j l y ≡ onward mv out (batch_by mv out (j - 1)) l (outcome oc (out z.picks)) m z
+      called : batch_by mv out j l y ≡ onward mv out (batch_by mv out (j - 1)) l (stop_reply oc (out z.picks)) m z
       called =
           let d : j ≡ suc (j - 1) = omega arith in
           ap (λ (i : ℕ). batch_by mv out i l y) d
@@ -168,7 +139,7 @@ module _ (mv : State → Move) (out : List ℕ → List ℕ) where
         next-onward =
             h.onward
             ∙ ap (behind h.sets (b - l)) (called
-            ∙ ap (λ (o : Outcome). onward mv out (batch_by mv out (j - 1)) l (outcome o (out z.picks)) m z) q)
+            ∙ ap (λ (o : Stop). onward mv out (batch_by mv out (j - 1)) l (stop_reply o (out z.picks)) m z) q)
             ∙ behind_more (out z.picks) (batch_by mv out (j - 1) (l - m) z)
 
         next-once : k ≡ 1 → j - 1 ≡ 0 → ComesOut mv b x HandedOut (b - (l - m)) z
@@ -176,7 +147,7 @@ module _ (mv : State → Move) (out : List ℕ → List ℕ) where
             let (u, v) = h.first (omega (arith, one, none)) in
             let d : m ≡ b - (l - m) = omega (arith, less, u) in
             subst (λ (a : ℕ). ComesOut mv b x HandedOut a z) d
-            (subst (λ (o : Outcome). ComesOut mv b x o m z) q (subst (λ (a : ℕ). ComesOut mv a x oc m z) u (subst (λ (a : State). ComesOut mv l a oc m z) v e)))
+            (subst (λ (o : Stop). ComesOut mv b x o m z) q (subst (λ (a : ℕ). ComesOut mv a x oc m z) u (subst (λ (a : State). ComesOut mv l a oc m z) v e)))
 
         next-with : (place' : ℕ) (now' : List ℕ) → (writing ≡ true → place' ≡ length (joined (h.sets ++ (out z.picks ∷ []))))
             → (writing ≡ true → place' + words_of g (j - 1) ≤ length before) → now' ≡ written_in writing before (joined (h.sets ++ (out z.picks ∷ [])))
@@ -217,7 +188,7 @@ module _ (mv : State → Move) (out : List ℕ → List ℕ) where
             not_written t = let a : ◌≡◌ {A = Bool} false true = sym w ∙ t in clash cc
 
       -- a call that hands nothing out
-      turn-stop : (oc ≡ HandedOut → ⊥) → batch_by mv out k b x ≡ tale (ending oc) h.sets (b - (l - m)) z
+      turn-stop : (oc ≡ HandedOut → ⊥) → batch_by mv out k b x ≡ tale (stop_ending oc) h.sets (b - (l - m)) z
       turn-stop never = h.onward ∙ ap (behind h.sets (b - l)) called ∙ last oc never
         where
           same : (f : Ending) → tale f (h.sets ++ []) ((b - l) + m) z ≡ tale f h.sets (b - (l - m)) z
@@ -225,13 +196,13 @@ module _ (mv : State → Move) (out : List ℕ → List ℕ) where
               let d : (b - l) + m ≡ b - (l - m) = omega (arith, less, h.most) in
               ap₂ (λ (s : List (List ℕ)) (i : ℕ). tale f s i z) (append-nil h.sets) d
 
-          last : (o : Outcome) → (o ≡ HandedOut → ⊥)
-              → behind h.sets (b - l) (onward mv out (batch_by mv out (j - 1)) l (outcome o (out z.picks)) m z)
-              ≡ tale (ending o) h.sets (b - (l - m)) z
+          last : (o : Stop) → (o ≡ HandedOut → ⊥)
+              → behind h.sets (b - l) (onward mv out (batch_by mv out (j - 1)) l (stop_reply o (out z.picks)) m z)
+              ≡ tale (stop_ending o) h.sets (b - (l - m)) z
           last HandedOut r = absurd (r refl)
-          last Spent r = same (ending Spent)
-          last End r = same (ending End)
-          last (Refused w) r = same (ending (Refused w))
+          last Spent r = same (stop_ending Spent)
+          last End r = same (stop_ending End)
+          last (Refused w) r = same (stop_ending (Refused w))
 
 -- ---- as the loop has it: the ladders of the chain at a spot that holds
 pub holds_size : (n : ℕ) (rows c k : List ℕ) (s : Spot) → Sized n rows → Holds n rows c k s → length c ≡ 64
@@ -288,15 +259,3 @@ module _ (writing : Bool) (mv : State → Move) (turning plain : Bool) (pl : Lis
             subst (λ (m : ℕ). ComesOut mv b x r.outcome m (state_of k r.spot)) d
             (subst (λ (m : ℕ). ComesOut mv m x r.outcome r.moves (state_of k r.spot)) u
             (subst (λ (z : State). ComesOut mv l z r.outcome r.moves (state_of k r.spot)) v a.comes))
-
-  pub loop_full : (c k : List ℕ) (s : Spot) → Holds n rows c k s → Sofar writing mv out g room b x (state_of k s) before now l j place → j ≤ 0
-      → Lists writing mv out n rows room b x before c k now (record { outcome = HandedOut; ladders = room; moves = b - l; spot = s })
-  loop_full c k s d h p = record {
-    sets = h.sets;
-    comes = turn-full mv out writing g room b x (state_of k s) before now l j place h p;
-    counted = omega (arith, h.counted);
-    buffer = h.buffer;
-    fits = λ w. omega (arith, h.placed w, h.room w);
-    holds = d;
-    one = λ e. h.once e (omega arith);
-  }

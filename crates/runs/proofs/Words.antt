@@ -6,7 +6,9 @@ use native.Mathlib.Nat.{not-suc-le-zero, le_of_suc-le-suc, add-zero, add-suc, su
 use native.Mathlib.Numerals.{add-one}
 use native.Mathlib.Omega.{arith}
 use lib.ListN.{length, take, drop, get_or, set, length-append}
-use lib.Seq.{sets as stored, sets-eq, length-sets}
+use lib.Seq.{sets as stored, sets-eq, take-length, length-take-le}
+use borrow.Rule.Slice.PartMut.{put_mid}
+use Rattle.std.proofs.lemmas.Slice.{put_mid-paste}
 use Rattle.runs.specs.Batches.{joined}
 use Rattle.runs.specs.private.Listing.{words_of, Puts}
 
@@ -19,19 +21,21 @@ pub stored_append : (l : List ℕ) (a : ℕ) (vs us : List ℕ) → stored l a (
 stored_append l a [] us = rw add-zero
 stored_append l a (v ∷ vs) us = rw (add-suc, ← suc-add) (stored_append (set l a v) (suc a) vs us)
 
-pub puts_none : {l : List ℕ} {a : ℕ} → Puts l a [] l
-puts_none = record { words = refl }
-
-pub puts_length : {l : List ℕ} {a : ℕ} {vs m : List ℕ} → Puts l a vs m → length m ≡ length l
-puts_length {l} {a} {vs} p = ap length p.words ∙ length-sets l a vs
-
 -- one more, as a loop stores it
 pub puts_more : {l : List ℕ} {a : ℕ} (vs : List ℕ) (i : ℕ) {m : List ℕ} → Puts l a (take i vs) m → i < length vs
     → Puts l a (take (i + 1) vs) (set m (a + i) (get_or vs i 0))
 puts_more {l} {a} vs i {m} p h = record { words = ap (λ (x : List ℕ). set x (a + i) (get_or vs i 0)) p.words ∙ sym (rw add-one (stored_suc l a vs i h)) }
 
-pub puts_all : {l : List ℕ} {a : ℕ} (vs : List ℕ) (i n : ℕ) {m : List ℕ} → Puts l a (take i vs) m → i ≤ n → n ≤ i → Puts l a (take n vs) m
-puts_all {l} {a} vs i n {m} p h g = let e : i ≡ n = omega arith in subst (λ (k : ℕ). Puts l a (take k vs) m) e p
+-- the first ones, copied as one run
+pub puts_front : (l : List ℕ) (a k m : ℕ) (vs ws : List ℕ) → ws ≡ take m vs → m ≤ length vs → a + m ≤ length l → k ≡ m → Puts l a (take m vs) (put_mid a k l ws)
+puts_front l a k m vs ws e few room n = record {
+  words =
+      put_mid-paste a k l ws (take m vs) (length (take m vs)) e (size ∙ sym n) refl
+      ∙ rw (take-length (take m vs)) (sym (sets-eq (take m vs) l a (omega (arith, size, room))));
+}
+  where
+    size : length (take m vs) ≡ m
+    size = length-take-le m vs few
 
 -- what is stored at the front
 pub stored_front : (l vs : List ℕ) → length vs ≤ length l → stored l 0 vs ≡ vs ++ drop (length vs) l

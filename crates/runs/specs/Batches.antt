@@ -3,26 +3,24 @@
 -- handed out as have room, or a call hands none out. The value is the one that the last of them returns, so that run
 -- calls and batches of a run may follow one another in any turn.
 --
--- In order: an answer and how the three structs read; the calls of a batch, by any rule for moves (`batch_by`, and
+-- In order: an answer and how the struct reads; the calls of a batch, by any rule for moves (`batch_by`, and
 -- their budgets, `budgets_by`); what a batch answers for every value, every budget and every buffer (`Batched`); its
 -- promise (`CarriesBatch`).
-use Rattle.std.specs.Prelude.{◌≡◌, Bool, true, false, List, [], ◌∷◌, ◌++◌, map, ℕ, zero, suc, ◌+◌, ◌-◌, ◌/◌, ◌≤◌, ◌<◌, length, drop}
+use Rattle.std.specs.Prelude.{◌≡◌, Bool, true, false, List, [], ◌∷◌, ◌++◌, map, ℕ, zero, suc, ◌+◌, ◌-◌, ◌/◌, ◌≤◌, ◌<◌, length, drop, Result, Ok, Err}
 use Rattle.refusals.specs.Answers.{number}
 use Rattle.table.specs.declared.Table.{Table}
 use Rattle.rules.specs.Machine.{State, Move, fresh}
 use Rattle.rules.specs.Calls.{Reply, refused, spent, handed, end, most_budget, call_by, calls_by}
 use Rattle.lists.specs.Lists.{Side}
 use Rattle.lists.specs.OnTable.{hand_out}
-use Rattle.runs.specs.Paused.{Value, paused, blank_value, gauge_value, case_value}
+use Rattle.runs.specs.Paused.{Value, paused, blank_value, value_of}
 use Rattle.runs.specs.Calling.{Step, told, held, value_refusal, PausedAt, Calls, last_value}
 use Rattle.runs.specs.Demand.{handed_sets, RunDemand}
 use Rattle.runs.specs.Omitting.{moves_of, CallsEither, RunOmits}
-use Rattle.runs.specs.declared.Outcome.{Outcome}
-use Rattle.runs.specs.declared.Outcome.TheVariants.{HandedOut, Spent, End, Refused}
-use Rattle.runs.specs.Sides.{side_value}
-use Rattle.runs.specs.declared.batches.SideBatch.{SideBatch}
-use Rattle.runs.specs.declared.batches.GaugeBatch.{GaugeBatch}
-use Rattle.runs.specs.declared.batches.CaseBatch.{CaseBatch}
+use Rattle.refusals.specs.declared.Refusal.{Refusal}
+use Rattle.runs.specs.declared.batches.Close.{Close}
+use Rattle.runs.specs.declared.batches.Close.TheVariants.{Full, Spent, End}
+use Rattle.runs.specs.declared.batches.Batch.{Batch as CallBatch}
 
 -- ---- an answer
 -- how a batch stopped: it was refused, by the number; as many ladders as have room were handed out; the budget was
@@ -40,21 +38,19 @@ pub record Batch : Type 0 where
   pub moves : ℕ
   pub next : Value
 
--- how the three structs read
-abbrev pub ending : Outcome → Ending
-ending HandedOut = full
-ending Spent = used
-ending End = over
-ending (Refused x) = denied (number x)
+-- "A refusal yields its number and nothing else"
+abbrev pub denial : ℕ → Batch
+denial n = record { ending = denied n; ladders = 0; moves = 0; next = blank_value }
 
-abbrev pub side_batch : SideBatch → Batch
-side_batch r = record { ending = ending r.outcome; ladders = r.ladders; moves = r.moves; next = side_value r.next }
+-- how the struct reads, by the numbers of its side
+abbrev pub closing : Close → Ending
+closing Full = full
+closing Spent = used
+closing End = over
 
-abbrev pub gauge_batch : GaugeBatch → Batch
-gauge_batch r = record { ending = ending r.outcome; ladders = r.ladders; moves = r.moves; next = gauge_value r.next }
-
-abbrev pub case_batch : CaseBatch → Batch
-case_batch r = record { ending = ending r.outcome; ladders = r.ladders; moves = r.moves; next = case_value r.next }
+abbrev pub batch_of : {S : Type 0} → (S → ℕ) → Result (CallBatch S) Refusal → Batch
+batch_of n (Ok r) = record { ending = closing r.close; ladders = r.ladders; moves = r.moves; next = value_of n r.next }
+batch_of n (Err why) = denial (number why)
 
 -- ---- the calls of a batch
 -- what they give: how the batch stopped, the sets handed out, in turn, the moves of all calls, and the state after
@@ -102,10 +98,7 @@ abbrev pub joined : List (List ℕ) → List ℕ
 joined [] = []
 joined (x ∷ xs) = x ++ joined xs
 
--- "A refusal yields its number and nothing else": the buffer is as it was
-abbrev pub denial : ℕ → Batch
-denial n = record { ending = denied n; ladders = 0; moves = 0; next = blank_value }
-
+-- a refusal, and the buffer is as it was
 pub record Denied (n : ℕ) (before : List ℕ) (r : Batch) (now : List ℕ) : Type 0 where
   pub says : r ≡ denial n
   pub buffer : now ≡ before

@@ -4,7 +4,7 @@
 -- last unrefused call returned, and `last_value` is the value that such a list leaves.
 --
 -- Elsewhere: demand 3, Demand.antt; the runs that omit (R-2), Omitting.antt.
-use Rattle.std.specs.Prelude.{◌≡◌, Bool, false, List, [], ◌∷◌, map, ℕ, suc, ◌<◌}
+use Rattle.std.specs.Prelude.{◌≡◌, Bool, false, List, [], ◌∷◌, map, ℕ, suc, ◌<◌, Result, Ok, Err}
 use Rattle.table.specs.Tables.{blank_chain, chain_rows, padded}
 use Rattle.refusals.specs.Answers.{number}
 use Rattle.table.specs.declared.Table.{Table}
@@ -15,11 +15,11 @@ use Rattle.lists.specs.Preferred.{pick_seq_by}
 use Rattle.lists.specs.Lists.{Side}
 use Rattle.lists.specs.OnTable.{ReachedOn, call_on}
 use Rattle.preference.specs.Preferences.{preferred_refusal, order_of}
-use Rattle.runs.specs.Paused.{Value, paused, blank_value, gauge_value, case_value, no_numbers}
-use Rattle.runs.specs.declared.Outcome.{Outcome}
-use Rattle.runs.specs.declared.Outcome.TheVariants.{HandedOut, Spent, End, Refused}
-use Rattle.runs.specs.declared.gauges.GaugeStep.{GaugeStep}
-use Rattle.runs.specs.declared.cases.CaseStep.{CaseStep}
+use Rattle.refusals.specs.declared.Refusal.{Refusal}
+use Rattle.runs.specs.Paused.{Value, paused, blank_value, value_of, no_numbers}
+use Rattle.runs.specs.declared.paused.Outcome.{Outcome}
+use Rattle.runs.specs.declared.paused.Outcome.TheVariants.{HandedOut, Spent, End}
+use Rattle.runs.specs.declared.paused.Step.{Step as CallStep}
 
 -- the answer of a call: 01's answer, the moves, the chain by gauge rows, its pick sequence (02, R-6: "Each handed-out
 -- ladder now carries its pick sequence, in the case run that of the cases"), by number in 64 places as a paused value
@@ -31,37 +31,38 @@ pub record Step : Type 0 where
   pub picks : List ℕ
   pub next : Value
 
--- ---- how the two structs read
--- 01's answer for each outcome: a refusal by its number, a hand-out by its rows
-abbrev pub outcome : Outcome → List ℕ → Reply
-outcome HandedOut rows = handed rows
-outcome Spent rows = spent
-outcome End rows = end
-outcome (Refused x) rows = refused (number x)
-
-abbrev pub gauge_step : GaugeStep → Step
-gauge_step r = record {
-  answer = outcome r.outcome (chain_rows r.chain);
-  moves = r.moves;
-  chain = r.chain;
-  picks = r.picks.0;
-  next = gauge_value r.next;
-}
-
-abbrev pub case_step : CaseStep → Step
-case_step r = record {
-  answer = outcome r.outcome (chain_rows r.chain);
-  moves = r.moves;
-  chain = r.chain;
-  picks = r.picks.0;
-  next = case_value r.next;
-}
-
--- ---- what a call answers
 -- "A refusal yields its number and nothing else"
 abbrev pub refusal_step : ℕ → Step
 refusal_step n = record { answer = refused n; moves = 0; chain = blank_chain; picks = no_numbers; next = blank_value }
 
+-- ---- how the struct reads, by the numbers of its side
+-- 01's answer for each outcome, and what is handed out with it
+abbrev pub outcome : {S : Type 0} → Outcome S → Reply
+outcome (HandedOut l) = handed (chain_rows l.chain)
+outcome Spent = spent
+outcome End = end
+
+abbrev pub chain_out : {S : Type 0} → Outcome S → Chain
+chain_out (HandedOut l) = l.chain
+chain_out Spent = blank_chain
+chain_out End = blank_chain
+
+abbrev pub picks_out : {S : Type 0} → Outcome S → List ℕ
+picks_out (HandedOut l) = l.picks.numbers
+picks_out Spent = no_numbers
+picks_out End = no_numbers
+
+abbrev pub step_of : {S : Type 0} → (S → ℕ) → Result (CallStep S) Refusal → Step
+step_of n (Ok r) = record {
+  answer = outcome r.outcome;
+  moves = r.moves;
+  chain = chain_out r.outcome;
+  picks = picks_out r.outcome;
+  next = value_of n r.next;
+}
+step_of n (Err why) = refusal_step (number why)
+
+-- ---- what a call answers
 -- the pick sequence of the set x on the side s under the preference o, "from the ladder alone" (01), by number,
 -- padded with zeros
 abbrev pub sequence : Side → List ℕ → List ℕ → List ℕ

@@ -1,23 +1,19 @@
 -- Paused values (01: "A paused run is a value: the table, the gauges picked so far, and a phase"; 02, R-2: "Whether a
 -- run omits is fixed at its fresh start and kept in its paused value"; R-12: "A paused run keeps its preference"),
--- read from the two structs alike, and the value of a state of rules 1 to 5 on a table. Picks are given by number
+-- read from the struct of either side alike, and the value of a state of rules 1 to 5 on a table. Picks are given by number
 -- from 1, in 64 places padded with zeros, as the preference is; a state of the theory has them by row index from 0. A
 -- value is legal exactly when it is the paused value of a state that some number of moves reaches.
-use Rattle.std.specs.Prelude.{Bool, false, List, map, ℕ, suc, length, replicate}
+use Rattle.std.specs.Prelude.{Bool, false, List, map, ℕ, suc, length, replicate, Result, Ok, Err}
 use Rattle.table.specs.Tables.{padded, blank_table}
-use Rattle.refusals.specs.Answers.{Answer, verdict}
+use Rattle.refusals.specs.Answers.{Answer, refused}
+use Rattle.refusals.specs.declared.Refusal.{Refusal}
 use Rattle.table.specs.declared.Table.{Table}
 use Rattle.rules.specs.Machine.{Phase, Down, Handed, Back, Ended, State}
-use Rattle.runs.specs.declared.gauges.Phase.TheVariants.{Down as gauge_down, Handed as gauge_handed, Back as gauge_back, Ended as gauge_ended}
-use Rattle.runs.specs.declared.gauges.Phase.{Phase as GaugePhase}
-use Rattle.runs.specs.declared.cases.CasePhase.TheVariants.{Down as case_down, Handed as case_handed, Back as case_back, Ended as case_ended}
-use Rattle.runs.specs.declared.cases.CasePhase.{CasePhase}
-use Rattle.runs.specs.declared.engine.Mode.{Mode}
-use Rattle.runs.specs.declared.engine.Mode.TheVariants.{Down as mode_down, Handed as mode_handed, Back as mode_back, Ended as mode_ended}
-use Rattle.runs.specs.declared.gauges.GaugeRun.{GaugeRun}
-use Rattle.runs.specs.declared.cases.CaseRun.{CaseRun}
-use Rattle.runs.specs.declared.gauges.GaugeStart.{GaugeStart}
-use Rattle.runs.specs.declared.cases.CaseStart.{CaseStart}
+use Rattle.table.specs.declared.Gauge.{Gauge}
+use Rattle.table.specs.declared.Case.{Case}
+use Rattle.runs.specs.declared.Phase.{Phase as Stage}
+use Rattle.runs.specs.declared.Phase.TheVariants.{Down as down, Handed as handed, Back as back, Ended as ended}
+use Rattle.runs.specs.declared.paused.Run.{Run}
 
 -- a paused value of either side
 pub record Value : Type 0 where
@@ -48,35 +44,29 @@ no_numbers = replicate 64 0
 abbrev pub blank_value : Value
 blank_value = record { table = blank_table; order = no_numbers; picks = no_numbers; count = 0; phase = Down; omit = false }
 
--- ---- how the two structs read
-abbrev pub gauge_phase : GaugePhase → Phase
-gauge_phase gauge_down = Down
-gauge_phase gauge_handed = Handed
-gauge_phase (gauge_back g) = Back g.0
-gauge_phase gauge_ended = Ended
-
-abbrev pub case_phase : CasePhase → Phase
-case_phase case_down = Down
-case_phase case_handed = Handed
-case_phase (case_back c) = Back c.0
-case_phase case_ended = Ended
+-- ---- how the struct reads, by the numbers of its side
+abbrev pub phase_of : {N : Type 0} → (N → ℕ) → Stage N → Phase
+phase_of n down = Down
+phase_of n handed = Handed
+phase_of n (back x) = Back (n x)
+phase_of n ended = Ended
 
 -- of either side, by number
-abbrev pub mode_phase : Mode → Phase
-mode_phase mode_down = Down
-mode_phase mode_handed = Handed
-mode_phase (mode_back k) = Back k
-mode_phase mode_ended = Ended
+abbrev pub mode_phase : Stage ℕ → Phase
+mode_phase f = phase_of (λ k. k) f
 
-abbrev pub gauge_value : GaugeRun → Value
-gauge_value r = record { table = r.table; order = r.order.0; picks = r.picks.0; count = r.count; phase = gauge_phase r.phase; omit = r.omit }
+abbrev pub value_of : {S : Type 0} → (S → ℕ) → Run S → Value
+value_of n r =
+    record { table = r.table; order = r.order.numbers; picks = r.picks.numbers; count = r.count; phase = phase_of n r.phase; omit = r.omit }
 
-abbrev pub case_value : CaseRun → Value
-case_value r = record { table = r.table; order = r.order.0; picks = r.picks.0; count = r.count; phase = case_phase r.phase; omit = r.omit }
+-- of each side
+abbrev pub gauge_value : Run Gauge → Value
+gauge_value r = value_of (λ g. g.0) r
 
--- how the fresh starts read: 01's number, 0 where nothing is refused, and the value
-abbrev pub gauge_start : GaugeStart → Answer Value
-gauge_start s = record { refusal = verdict s.verdict; value = gauge_value s.run }
+abbrev pub case_value : Run Case → Value
+case_value r = value_of (λ c. c.0) r
 
-abbrev pub case_start : CaseStart → Answer Value
-case_start s = record { refusal = verdict s.verdict; value = case_value s.run }
+-- how a fresh start reads: 01's number, 0 where nothing is refused, and the value
+abbrev pub start_of : {S : Type 0} → (S → ℕ) → Result (Run S) Refusal → Answer Value
+start_of n (Ok r) = record { refusal = 0; value = value_of n r }
+start_of n (Err why) = refused why blank_value

@@ -1,40 +1,16 @@
--- A paused run of either side on plain numbers, with a mark that says of which (`side_of`), and what is promised of
--- it: how it reads, its fresh start, and the answer of its call; and the checks of a value that must be in one phase
--- (`ChecksAt`). What other crates do alike on both sides they say once, over these.
---
--- Elsewhere: what a call answers, Calling.antt, for every side.
+-- The side of a table by its mark (`side_of`), with which what is said of both sides is said once; and the checks of a value that must be in one phase
+-- (`ChecksAt`).
 use Rattle.std.specs.Prelude.{◌≡◌, Bool, true, false, List, ℕ, ◌<◌}
 use Rattle.table.specs.declared.Table.{Table}
-use Rattle.table.specs.Tables.{chain_rows}
-use Rattle.refusals.specs.Answers.{Answer, verdict}
 use Rattle.rules.specs.Machine.{Phase, at}
 use Rattle.lists.specs.Lists.{Side, gauge_side, case_side}
-use Rattle.runs.specs.Paused.{Value, mode_phase}
-use Rattle.runs.specs.Calling.{Step, outcome, value_refusal, PausedAt}
-use Rattle.runs.specs.declared.side.SideRun.{SideRun}
-use Rattle.runs.specs.declared.side.SideStart.{SideStart}
-use Rattle.runs.specs.declared.side.SideStep.{SideStep}
+use Rattle.runs.specs.Paused.{Value}
+use Rattle.runs.specs.Calling.{value_refusal, PausedAt}
 
 -- the side that a mark names: true for the cases
 abbrev pub side_of : Bool → Table → Side
 side_of false = gauge_side
 side_of true = case_side
-
--- ---- how the three structs read
-abbrev pub side_value : SideRun → Value
-side_value r = record { table = r.table; order = r.order; picks = r.picks; count = r.count; phase = mode_phase r.mode; omit = r.omit }
-
-abbrev pub side_start : SideStart → Answer Value
-side_start s = record { refusal = verdict s.verdict; value = side_value s.run }
-
-abbrev pub side_step : SideStep → Step
-side_step r = record {
-  answer = outcome r.outcome (chain_rows r.chain);
-  moves = r.moves;
-  chain = r.chain;
-  picks = r.picks;
-  next = side_value r.next;
-}
 
 -- ---- the checks of a value
 -- n is the number with which the value v is refused where its phase must be f, or 0: 10 and 11 for the table, then 27

@@ -15,8 +15,7 @@ ghost use Rattle.runs.specs.private.Working.{Sized, Holds, Laying, state_of, pla
 ghost use Rattle.runs.specs.private.Working.{left_after, Advanced, DecidedBy, filled as filled_places, PhaseIn, CarriesOn, Opens, refused_report, chain_with};
 ghost use Rattle.runs.specs.private.Working.{move_by, apart as apart_rows, hands_over};
 
-use crate::{Outcome, listing};
-use basics;
+use crate::{Phase, listing};
 use refusals::Refusal;
 use replay;
 use search;
@@ -32,13 +31,13 @@ const PLACES: usize = Table::MOST_GAUGES as usize;
 // All 64 cases: the left cases before any pick.
 const ALL: u64 = 0xffff_ffff_ffff_ffff;
 
-// The phase of a spot; a pick that was taken back is given by its number.
+// How a call or a batch stops.
 #[derive(Clone, Copy)]
-pub enum Mode {
-    Down,
-    Handed,
-    Back(usize),
-    Ended,
+pub enum Stop {
+    HandedOut,
+    Spent,
+    End,
+    Refused(Refusal),
 }
 
 // Where a run is: how many picks, the unpicked gauges, the left cases, and the phase.
@@ -47,7 +46,7 @@ pub struct Spot {
     pub count: usize,
     pub unpicked: u64,
     pub left: u64,
-    pub mode: Mode,
+    pub mode: Phase<usize>,
 }
 
 // One move: it gives nothing, a hand-out, or an end.
@@ -61,7 +60,7 @@ pub enum Moved {
 // What a call gives: its outcome, how many moves it made, and where the run is then.
 #[derive(Clone, Copy)]
 pub struct Report {
-    pub outcome: Outcome,
+    pub outcome: Stop,
     pub moves: u64,
     pub spot: Spot,
 }
@@ -77,19 +76,17 @@ pub fn call(
     chain: &mut [u64; 64],
     picks: &mut [u8; 64],
     count: u64,
-    mode: Mode,
+    mode: Phase<usize>,
     budget: u64,
 ) -> Report
     requires { (Sized n rows.now) × (chain.old ≡ no_rows) × (length picks.old ≡ 64) }
     ensures { CarriesOn (move_by (take n rows.now) omit wanted.now) (take n rows.now) picks.old count
         (mode_phase mode) budget chain.new picks.new result }
 {
-    let opened = open(rows, n, chain, picks, count, mode, budget);
-    let outcome = opened.outcome;
-    if let Outcome::Refused(why) = outcome {
-        return refused(why);
-    }
-    let at = opened.spot;
+    let at = match open(rows, n, chain, picks, count, mode, budget) {
+        Ok(at) => at,
+        Err(why) => return refused(why),
+    };
     let none = [0u8; 64];
     let mut nowhere = [0u64; 1];
     let tally = listing::list_on(
@@ -118,48 +115,40 @@ pub fn call(
     }
 }
 
-// The checks of such a call alone: 15 and 18, or no move, and where the run is. `chain` comes empty, and has then the
-// chain of the picks.
+// The checks of such a call alone: 15 and 18, or where the run is. `chain` comes empty, and has then the chain of the
+// picks.
 pub fn open(
     rows: &[u64; 64],
     n: usize,
     chain: &mut [u64; 64],
     picks: &[u8; 64],
     count: u64,
-    mode: Mode,
+    mode: Phase<usize>,
     budget: u64,
-) -> Report
+) -> Result<Spot, Refusal>
     requires { (Sized n rows.now) × (chain.old ≡ no_rows) × (length picks.now ≡ 64) }
     ensures { Opens n rows.now picks.now count (mode_phase mode) budget chain.new result }
 {
     if filled(picks) != count {
-        return refused(Refusal::NotReached);
+        return Err(Refusal::NotReached);
     }
     let many = count as usize;
-    let seen = replay::replay(rows, n, picks, many);
-    if !seen.ok {
-        return refused(Refusal::NotReached);
-    }
-    let unpicked = seen.unpicked;
-    let left = seen.left;
-    if !phase_fits(rows, unpicked, left, many, mode) {
-        return refused(Refusal::NotReached);
+    let Some(seen) = replay::replay(rows, n, picks, many) else {
+        return Err(Refusal::NotReached);
+    };
+    if !phase_fits(rows, seen.unpicked, seen.left, many, mode) {
+        return Err(Refusal::NotReached);
     }
     if MOST_BUDGET < budget {
-        return refused(Refusal::BudgetTooLarge);
+        return Err(Refusal::BudgetTooLarge);
     }
     lay(rows, n, chain, picks, many);
-    let at = Spot {
+    Ok(Spot {
         count: many,
-        unpicked: unpicked,
-        left: left,
+        unpicked: seen.unpicked,
+        left: seen.left,
         mode: mode,
-    };
-    Report {
-        outcome: Outcome::Spent,
-        moves: 0,
-        spot: at,
-    }
+    })
 }
 
 // The chain with these rows.
@@ -177,13 +166,13 @@ pub fn refused(why: Refusal) -> Report
     ensures { result ≡ refused_report why }
 {
     Report {
-        outcome: Outcome::Refused(why),
+        outcome: Stop::Refused(why),
         moves: 0,
         spot: Spot {
             count: 0,
             unpicked: 0,
             left: 0,
-            mode: Mode::Down,
+            mode: Phase::Down,
         },
     }
 }
@@ -192,33 +181,29 @@ pub fn refused(why: Refusal) -> Report
 fn filled(picks: &[u8; 64]) -> u64
     ensures { result ≡ filled_places picks.now 64 }
 {
-    let mut seen: u8 = 0;
-    let mut i: usize = 0;
-    while i < 64 {
+    let mut seen: u8 = 0; // in bytes, as the places are: a chain's `count` takes 45 ns, and this 2.4
+    for i in 0..PLACES {
         if picks[i] != 0 {
             seen += 1;
-            i += 1;
-        } else {
-            i += 1;
         }
     }
-    seen as u64
+    u64::from(seen)
 }
 
 // The phase goes with the picks: Handed without a candidate, Back from a candidate, Ended without picks.
-fn phase_fits(rows: &[u64; 64], unpicked: u64, left: u64, count: usize, mode: Mode) -> bool
+fn phase_fits(rows: &[u64; 64], unpicked: u64, left: u64, count: usize, mode: Phase<usize>) -> bool
     ensures { DecidedBy (PhaseIn (within unpicked rows.now) left count (mode_phase mode)) result }
 {
     match mode {
-        Mode::Down => true,
-        Mode::Handed => PLACES <= search::next_candidate_of(rows, unpicked, left, 0),
-        Mode::Back(number) => {
+        Phase::Down => true,
+        Phase::Handed => PLACES <= search::next_candidate_of(rows, unpicked, left, 0),
+        Phase::Back(number) => {
             if number == 0 {
                 return false;
             }
             search::is_candidate_of(rows, unpicked, left, number - 1)
         }
-        Mode::Ended => count == 0,
+        Phase::Ended => count == 0,
     }
 }
 
@@ -228,12 +213,10 @@ fn lay(rows: &[u64; 64], n: usize, chain: &mut [u64; 64], picks: &[u8; 64], coun
     ensures { chain.new ≡ padded (chain_of (take n rows.now) (places_of picks.now count)) }
 {
     let mut left = ALL;
-    let mut i: usize = 0;
-    while i < count {
-        let g = basics::index(picks[i]) - 1;
+    for i in 0..count {
+        let g = usize::from(picks[i]) - 1;
         left = rows[g] & left;
         chain[g] = left;
-        i += 1;
     }
 }
 
@@ -255,6 +238,7 @@ pub fn advance(
 {
     let mut spot = at;
     let mut moves: u64 = 0;
+    // a budget is used up, and a hand-out or the end leaves the rest: no index is counted
     while moves < budget {
         let made = step(rows, n, chain, picks, spot);
         match made {
@@ -265,7 +249,7 @@ pub fn advance(
             Moved::Out(next) => {
                 if hands_over(omit, n, wanted, chain) {
                     return Report {
-                        outcome: Outcome::HandedOut,
+                        outcome: Stop::HandedOut,
                         moves: moves + 1,
                         spot: next,
                     };
@@ -275,7 +259,7 @@ pub fn advance(
             }
             Moved::Over(next) => {
                 return Report {
-                    outcome: Outcome::End,
+                    outcome: Stop::End,
                     moves: moves + 1,
                     spot: next,
                 };
@@ -283,13 +267,14 @@ pub fn advance(
         }
     }
     Report {
-        outcome: Outcome::Spent,
+        outcome: Stop::Spent,
         moves: moves,
         spot: spot,
     }
 }
 
 // Whether a chain is handed over: by a run that omits, where it holds a pair that is wanted.
+#[tactic(auto, unfolding(crate::specs::private::Working::hands_over))]
 fn hands_over(omit: bool, n: usize, wanted: &[u64; 64], chain: &[u64; 64]) -> bool
     requires { n ≤ 64 }
     ensures { result ≡ hands_over omit n wanted.now chain.now }
@@ -301,16 +286,15 @@ fn hands_over(omit: bool, n: usize, wanted: &[u64; 64], chain: &[u64; 64]) -> bo
 }
 
 // Whether no row of the chain has a case of the same row that is wanted.
+#[tactic(auto, using(sets::proofs::Tabulated::all_none, sets::proofs::Tabulated::all_more, sets::proofs::Tabulated::all_done), unfolding(crate::specs::private::Working::apart))]
 fn apart(n: usize, wanted: &[u64; 64], chain: &[u64; 64]) -> bool
     requires { n ≤ 64 }
     ensures { result ≡ apart_rows n wanted.now chain.now }
 {
-    let mut i: usize = 0;
-    while i < n {
+    for i in 0..n {
         if chain[i] & wanted[i] != 0 {
             return false;
         }
-        i += 1;
     }
     true
 }
@@ -325,7 +309,7 @@ fn step(rows: &[u64; 64], n: usize, chain: &mut [u64; 64], picks: &mut [u8; 64],
     let unpicked = at.unpicked;
     let left = at.left;
     match mode {
-        Mode::Down => {
+        Phase::Down => {
             let g = search::next_candidate_of(rows, unpicked, left, 0);
             if g < PLACES {
                 return Moved::On(pick(rows, chain, picks, count, unpicked, left, g));
@@ -334,18 +318,18 @@ fn step(rows: &[u64; 64], n: usize, chain: &mut [u64; 64], picks: &mut [u8; 64],
                 count: count,
                 unpicked: unpicked,
                 left: left,
-                mode: Mode::Handed,
+                mode: Phase::Handed,
             })
         }
-        Mode::Handed => take_back(rows, n, chain, picks, at),
-        Mode::Back(from) => {
+        Phase::Handed => take_back(rows, n, chain, picks, at),
+        Phase::Back(from) => {
             let g = search::next_candidate_of(rows, unpicked, left, from);
             if g < PLACES {
                 return Moved::On(pick(rows, chain, picks, count, unpicked, left, g));
             }
             take_back(rows, n, chain, picks, at)
         }
-        Mode::Ended => Moved::Over(at),
+        Phase::Ended => Moved::Over(at),
     }
 }
 
@@ -372,7 +356,7 @@ fn pick(
         count: count + 1,
         unpicked: sets::without(unpicked, g as u64),
         left: own,
-        mode: Mode::Down,
+        mode: Phase::Down,
     }
 }
 
@@ -393,7 +377,7 @@ fn take_back(
             count: 0,
             unpicked: at.unpicked,
             left: ALL,
-            mode: Mode::Ended,
+            mode: Phase::Ended,
         });
     }
     let last = count - 1;
@@ -406,11 +390,12 @@ fn take_back(
         count: last,
         unpicked: sets::with(at.unpicked, g as u64),
         left: left,
-        mode: Mode::Back(number),
+        mode: Phase::Back(number),
     })
 }
 
 // The left cases after the first `count` picks: what the last of them has in the chain, or all.
+#[tactic(auto, unfolding(crate::specs::private::Working::left_after))]
 fn left_after(chain: &[u64; 64], picks: &[u8; 64], count: usize) -> u64
     requires { NumberAt picks.now count }
     ensures { result ≡ left_after chain.now picks.now count }

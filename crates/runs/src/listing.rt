@@ -10,8 +10,8 @@ ghost use Rattle.runs.specs.Paused.{mode_phase};
 ghost use Rattle.runs.specs.private.Working.{Sized, Holds, FitsOn, state_of, move_by, placed_move};
 ghost use Rattle.runs.specs.private.Listing.{refused_tally, ladder_for, Puts, Hands, words_of, Lists, ListsBy, ListsIn};
 
-use crate::engine::{Mode, Spot};
-use crate::{Outcome, engine, ordered};
+use crate::engine::{Spot, Stop};
+use crate::{Phase, engine, ordered};
 use preference;
 use refusals::Refusal;
 use transpose;
@@ -20,7 +20,7 @@ use transpose;
 // then.
 #[derive(Clone, Copy)]
 pub struct Tally {
-    pub outcome: Outcome,
+    pub outcome: Stop,
     pub ladders: u64,
     pub moves: u64,
     pub spot: Spot,
@@ -37,7 +37,7 @@ pub fn call(
     gauges: usize,
     picks: &mut [u8; 64],
     count: u64,
-    mode: Mode,
+    mode: Phase<usize>,
     budget: u64,
     out: &mut [u64],
 ) -> Tally
@@ -51,11 +51,9 @@ pub fn call(
             rows, n, omit, wanted, turning, true, order, gauges, picks, count, mode, budget, out,
         );
     }
-    let placed = preference::place_all(*order, n);
-    if !placed.ok {
+    let Some(places) = preference::place_all(*order, n) else {
         return refused(Refusal::NotAnArrangement);
-    }
-    let places = placed.places;
+    };
     by_place(
         rows, n, order, &places, omit, wanted, turning, gauges, picks, count, mode, budget, out,
     )
@@ -73,7 +71,7 @@ fn by_place(
     gauges: usize,
     picks: &mut [u8; 64],
     count: u64,
-    mode: Mode,
+    mode: Phase<usize>,
     budget: u64,
     out: &mut [u64],
 ) -> Tally
@@ -113,19 +111,20 @@ fn refused(why: Refusal) -> Tally
     ensures { result ≡ refused_tally why }
 {
     Tally {
-        outcome: Outcome::Refused(why),
+        outcome: Stop::Refused(why),
         ladders: 0,
         moves: 0,
         spot: Spot {
             count: 0,
             unpicked: 0,
             left: 0,
-            mode: Mode::Down,
+            mode: Phase::Down,
         },
     }
 }
 
 // The checks, and then the calls.
+#[tactic(auto, using(crate::proofs::Words::words_fit))]
 fn list(
     rows: &[u64; 64],
     n: usize,
@@ -137,7 +136,7 @@ fn list(
     gauges: usize,
     picks: &mut [u8; 64],
     count: u64,
-    mode: Mode,
+    mode: Phase<usize>,
     budget: u64,
     out: &mut [u64],
 ) -> Tally
@@ -147,12 +146,10 @@ fn list(
         count (mode_phase mode) budget out.old picks.new out.new result }
 {
     let mut chain = [0u64; 64];
-    let opened = engine::open(rows, n, &mut chain, picks, count, mode, budget);
-    let outcome = opened.outcome;
-    if let Outcome::Refused(why) = outcome {
-        return refused(why);
-    }
-    let at = opened.spot;
+    let at = match engine::open(rows, n, &mut chain, picks, count, mode, budget) {
+        Ok(at) => at,
+        Err(why) => return refused(why),
+    };
     let room = out.len() / gauges;
     list_on(
         rows, n, omit, wanted, room, true, turning, plain, places, gauges, &mut chain, picks, at,
@@ -191,12 +188,13 @@ pub fn list_on(
     let mut spot = at;
     let mut left = budget;
     let mut place: usize = 0;
+    // the room is used up, and a call that hands none out leaves the rest: no index is counted
     while 0 < room {
         let report = engine::advance(rows, n, omit, wanted, chain, picks, spot, left);
         let outcome = report.outcome;
         let next = report.spot;
         let rest = left - report.moves;
-        let Outcome::HandedOut = outcome else {
+        let Stop::HandedOut = outcome else {
             return Tally {
                 outcome: outcome,
                 ladders: (ladders - room) as u64,
@@ -209,13 +207,11 @@ pub fn list_on(
         if writing {
             hand(turning, plain, chain, places, n, gauges, out, place);
             place += gauges;
-            room -= 1;
-        } else {
-            room -= 1;
         }
+        room -= 1;
     }
     Tally {
-        outcome: Outcome::HandedOut,
+        outcome: Stop::HandedOut,
         ladders: ladders as u64,
         moves: budget - left,
         spot: spot,
@@ -253,18 +249,16 @@ fn hand(
 }
 
 // The first `many` rows, at a place of the buffer.
+#[tactic(auto, using(crate::proofs::Words::puts_front))]
 fn put(rows: &[u64; 64], many: usize, out: &mut [u64], at: usize)
     requires { (at + many ≤ length out.old) × (many ≤ 64) × (length rows.now ≡ 64) }
     ensures { Puts out.old at (take many rows.now) out.new }
 {
-    let mut i: usize = 0;
-    while i < many {
-        out[at + i] = rows[i];
-        i += 1;
-    }
+    out[at..at + many].copy_from_slice(&rows[..many]);
 }
 
 // The first `many` of the rows by number again, straight into the buffer: no array is cleared and copied.
+#[tactic(auto, using(crate::proofs::Words::puts_more, crate::proofs::Turns::gathered_long))]
 fn put_numbered(
     rows: &[u64; 64],
     places: &[u8; 64],
@@ -276,14 +270,13 @@ fn put_numbered(
     requires { (at + many ≤ length out.old) × (many ≤ 64) }
     ensures { Puts out.old at (take many (padded (gathered n rows.now places.now))) out.new }
 {
-    let mut i: usize = 0;
-    while i < many {
+    for i in 0..many {
         out[at + i] = numbered(rows, places, n, i);
-        i += 1;
     }
 }
 
 // The row of index `i` by number; none behind the `n` rows.
+#[tactic(auto, using(crate::proofs::Turns::numbered_row, crate::proofs::Turns::numbered_past))]
 fn numbered(rows: &[u64; 64], places: &[u8; 64], n: usize, i: usize) -> u64
     requires { i < 64 }
     ensures { result ≡ get_or (padded (gathered n rows.now places.now)) i 0 }

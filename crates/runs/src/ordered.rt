@@ -9,8 +9,8 @@ ghost use Rattle.preference.specs.Placing.{inverse, gathered, renumber};
 ghost use Rattle.runs.specs.Paused.{mode_phase};
 ghost use Rattle.runs.specs.private.Working.{Sized, placed_move, InOrder, move_by, CarriesOn, renumbered_phase};
 
-use crate::engine;
-use crate::engine::{Mode, Report, Spot};
+use crate::engine::{Report, Spot};
+use crate::{Phase, engine};
 use preference;
 use refusals::Refusal;
 
@@ -26,7 +26,7 @@ pub fn call(
     chain: &mut [u64; 64],
     picks: &mut [u8; 64],
     count: u64,
-    mode: Mode,
+    mode: Phase<usize>,
     budget: u64,
 ) -> Report
     requires { (Sized n rows.now) × (length order.now ≡ 64) × (length wanted.now ≡ 64) × (chain.old ≡ no_rows) × (length picks.old ≡ 64) }
@@ -58,18 +58,16 @@ fn by_order(
     chain: &mut [u64; 64],
     picks: &mut [u8; 64],
     count: u64,
-    mode: Mode,
+    mode: Phase<usize>,
     budget: u64,
 ) -> Report
     requires { (Sized n rows.now) × (length order.now ≡ 64) × (length wanted.now ≡ 64) × (chain.old ≡ no_rows) × (length picks.old ≡ 64) }
     ensures { InOrder (λ o. placed_move (take n rows.now) o omit wanted.now) n (take n rows.now)
         order.now picks.old count (mode_phase mode) budget chain.new picks.new result }
 {
-    let placed = preference::place_all(*order, n);
-    if !placed.ok {
+    let Some(places) = preference::place_all(*order, n) else {
         return engine::refused(Refusal::NotAnArrangement);
-    }
-    let places = placed.places;
+    };
     by_place(
         rows, n, order, &places, omit, wanted, chain, picks, count, mode, budget,
     )
@@ -86,7 +84,7 @@ fn by_place(
     chain: &mut [u64; 64],
     picks: &mut [u8; 64],
     count: u64,
-    mode: Mode,
+    mode: Phase<usize>,
     budget: u64,
 ) -> Report
     requires { (Sized n rows.now) × (length order.now ≡ 64) × (length wanted.now ≡ 64) × (chain.old ≡ no_rows) × (length picks.old ≡ 64)
@@ -128,7 +126,7 @@ fn call_arranged(
     chain: &mut [u64; 64],
     picks: &mut [u8; 64],
     count: u64,
-    mode: Mode,
+    mode: Phase<usize>,
     budget: u64,
 ) -> Report
     requires { (Sized n rows.now) × (chain.old ≡ no_rows) × (length picks.old ≡ 64) }
@@ -143,13 +141,13 @@ fn call_arranged(
 }
 
 // A mode with the number of a pick that was taken back as the array has it.
-pub fn renumbered(numbers: &[u8; 64], n: usize, mode: Mode) -> Mode
+pub fn renumbered(numbers: &[u8; 64], n: usize, mode: Phase<usize>) -> Phase<usize>
     ensures { mode_phase result ≡ renumbered_phase numbers.now n (mode_phase mode) }
 {
     match mode {
-        Mode::Down => Mode::Down,
-        Mode::Handed => Mode::Handed,
-        Mode::Back(number) => Mode::Back(preference::renumber_one(numbers, n, number)),
-        Mode::Ended => Mode::Ended,
+        Phase::Down => Phase::Down,
+        Phase::Handed => Phase::Handed,
+        Phase::Back(number) => Phase::Back(preference::renumber_one(numbers, n, number)),
+        Phase::Ended => Phase::Ended,
     }
 }

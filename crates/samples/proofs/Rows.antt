@@ -5,7 +5,7 @@ use mathlib.Core.List.{List, [], ◌∷◌, ◌++◌, append-nil, append_assoc}
 use Prim.Native.Nat.{ℕ, zero, suc, ◌+◌, ◌-◌, ◌≤◌, ◌<◌}
 use native.Mathlib.Numerals.{add-one}
 use native.Mathlib.Omega.{arith}
-use lib.ListN.{length, take, drop, set, replicate, length-set, take-append-drop, length-replicate}
+use lib.ListN.{length, take, drop, set, replicate, length-set, take-append-drop}
 use lib.Seq.{take-suc-set, drop-set-lt, drop-cons}
 use Rattle.table.specs.Tables.{padded}
 use Rattle.samples.specs.Xorshift.{after}
@@ -19,11 +19,6 @@ pub record MakingRows (density l g x : ℕ) (rows : List ℕ) (s i : ℕ) : Type
   pub size : length rows ≡ 64
   pub whole : take i rows ++ sample_rows density l (g - i) s ≡ sample_rows density l g x
   pub rest : drop i rows ≡ replicate (64 - i) 0
-
-pub rows_none : (density l g x : ℕ) → MakingRows density l g x (replicate 64 0) x 0
-rows_none density l g x =
-    let d : g - 0 ≡ g = omega arith in
-    record { most = omega arith; size = length-replicate {A = ℕ} 64 0; whole = ap (λ (n : ℕ). sample_rows density l n x) d; rest = refl }
 
 rows_cons : (density l n s : ℕ) → sample_rows density l (suc n) s ≡ sample_row density l s ∷ sample_rows density l n (after l s)
 unfolding sample_rows

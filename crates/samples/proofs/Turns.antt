@@ -1,10 +1,10 @@
 -- The loop over the cases, turn by turn: the row so far, with the row still to be made, is the whole row (`Making`).
 use mathlib.Core.Path.{◌≡◌, refl, sym, ap, ◌∙◌}
 use Prim.Native.Nat.{ℕ, suc, ◌+◌, ◌-◌, ◌*◌, ◌%◌, ◌^◌, ◌≤◌, ◌<◌}
-use native.Mathlib.Nat.{add-mul, add_assoc, mul_assoc, pow-suc, mul_comm, zero-add, add-zero, one-mul, mul-one, zero-mul}
+use native.Mathlib.Nat.{add-mul, add_assoc, mul_assoc, pow-suc, mul_comm, add-zero, one-mul, zero-mul}
 use native.Mathlib.Numerals.{add-one}
 use native.Mathlib.Omega.{arith}
-use lib.Pow.{pow_mono, shl_exact}
+use lib.Pow.{shl_exact}
 use borrow.Author.Tests.{lt-ltb, le-ltb}
 use Rattle.samples.specs.Xorshift.{step, after}
 use Rattle.samples.specs.Samples.{present, sample_row}
@@ -17,16 +17,6 @@ pub record Making (density l x row s c : ℕ) : Type 0 where
   pub small : row < 2 ^ c
   pub whole : row + sample_row density (l - c) s * 2 ^ c ≡ sample_row density l x
   pub state : after (l - c) s ≡ after l x
-
-pub making_none : (density l x : ℕ) → Making density l x 0 x 0
-making_none density l x =
-    let d : l - 0 ≡ l = omega arith in
-    record {
-      most = omega arith;
-      small = omega arith;
-      whole = zero-add (sample_row density (l - 0) x * 1) ∙ mul-one (sample_row density (l - 0) x) ∙ ap (λ (n : ℕ). sample_row density n x) d;
-      state = ap (λ (n : ℕ). after n x) d;
-    }
 
 row_more : (density n s : ℕ) → sample_row density (suc n) s ≡ present density (step s) + sample_row density n (step s) * 2
 unfolding sample_row
@@ -64,10 +54,6 @@ power c = ap (λ (y : ℕ). 2 ^ y) (add-one c) ∙ pow-suc 2 c
 
 shifted : (c : ℕ) → c < 64 → 1 * 2 ^ c % 2 ^ 64 ≡ 1 * 2 ^ c
 shifted c h = shl_exact {a = 1} 1 c 64 (omega arith) (omega arith)
-
-pub making_room : {density l x row s c : ℕ} → Making density l x row s c → c < l → l ≤ 64 → row + 1 * 2 ^ c % 2 ^ 64 < 2 ^ 64
-making_room {c = c} m h k =
-    omega (arith, m.small, shifted c (omega arith), one-mul (2 ^ c), power c, pow_mono {i = c + 1} {j = 64} (omega arith))
 
 pub making_pair : {density l x row s c next : ℕ} → Making density l x row s c → c < l → l ≤ 64 → next ≡ step s → next % 256 < density
     → Making density l x (row + 1 * 2 ^ c % 2 ^ 64) next (c + 1)

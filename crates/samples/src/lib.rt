@@ -8,9 +8,9 @@ ghost use Rattle.samples.specs.Xorshift.{step as stepped, StepClaims};
 ghost use Rattle.samples.specs.Samples.{sample_rows, sample_table, SampleClaims};
 ghost use Rattle.samples.specs.private.Rows.{IsSampled};
 
-use refusals::{Refusal, Verdict};
+use refusals::Refusal;
 use table;
-use table::{Made, Table};
+use table::Table;
 
 // "a density from 0 to 256" (02): of the 256 low bytes, how many make a pair.
 const MOST_DENSITY: u64 = 256;
@@ -33,32 +33,28 @@ pub fn step(x: u64) -> u64
 }
 
 // The table of a shape, a start and a density; 10, then 28 are refused. It is legal, and pair by pair what 02 says.
-pub fn sample_table(gauges: u64, cases: u64, start: u64, density: u64) -> Made
+pub fn sample_table(gauges: u64, cases: u64, start: u64, density: u64) -> Result<Table, Refusal>
     ensures result_value { made result ≡ sample_table gauges cases start density }
     ensures claims { SampleClaims gauges cases start density }
 {
     if !table::in_range(gauges, Table::MOST_GAUGES) {
-        return table::refuse(Refusal::TableShape);
+        return Err(Refusal::TableShape);
     }
     if !table::in_range(cases, Table::MOST_CASES) {
-        return table::refuse(Refusal::TableShape);
+        return Err(Refusal::TableShape);
     }
     if start == 0 {
-        return table::refuse(Refusal::SampleInput);
+        return Err(Refusal::SampleInput);
     }
     if MOST_DENSITY < density {
-        return table::refuse(Refusal::SampleInput);
+        return Err(Refusal::SampleInput);
     }
     let rows = sample_rows(gauges, cases, start, density);
-    let table = Table {
-        gauges: gauges,
-        cases: cases,
-        rows: rows,
-    };
-    Made {
-        verdict: Verdict::Accepted,
-        table: table,
-    }
+    Ok(Table {
+        gauges,
+        cases,
+        rows,
+    })
 }
 
 // The rows, one gauge after the other.
@@ -68,13 +64,10 @@ fn sample_rows(gauges: u64, cases: u64, start: u64, density: u64) -> [u64; 64]
 {
     let mut rows = [0u64; 64];
     let mut state = start;
-    let mut i: u64 = 0;
-    while i < gauges {
-        let k = i as usize;
+    for i in 0..gauges as usize {
         let one = sample_row(state, cases, density);
-        rows[k] = one.row;
+        rows[i] = one.row;
         state = one.state;
-        i += 1;
     }
     rows
 }
@@ -86,20 +79,12 @@ fn sample_row(start: u64, cases: u64, density: u64) -> Sampled
 {
     let mut row: u64 = 0;
     let mut state = start;
-    let mut c: u64 = 0;
-    while c < cases {
+    for c in 0..cases {
         let next = step(state);
         if next % 256 < density {
-            row += 1u64 << c;
-            state = next;
-            c += 1;
-        } else {
-            state = next;
-            c += 1;
+            row += 1 << c;
         }
+        state = next;
     }
-    Sampled {
-        row: row,
-        state: state,
-    }
+    Sampled { row, state }
 }

@@ -2,7 +2,7 @@
 use mathlib.Core.Path.{◌≡◌, refl, sym, ap, ◌∙◌}
 use mathlib.Core.Bool.{Bool, true, false, not}
 use mathlib.Core.List.{List}
-use Prim.Native.Nat.{ℕ, ◌+◌, ◌≤◌, ◌<◌, min}
+use Prim.Native.Nat.{ℕ, ◌≤◌, ◌<◌, min}
 use native.Mathlib.Nat.{min-eq_left}
 use native.Mathlib.Decide.{ℕ_discrete, dec_lt}
 use native.Mathlib.Omega.{arith}
@@ -18,17 +18,6 @@ use Rattle.table.specs.Pairs.{row}
 use Rattle.search.specs.Finding.{remainder_in, blocks, candidate_in, FirstOf}
 
 -- ---- blocks
-pub blocks_out : (x y : ℕ) (l t : Bool) → t ≡ is_subset x y → t ≡ false → false ≡ blocks x y l
-unfolding blocks
-blocks_out x y l t e d = rw (← e, d)
-
-pub blocks_more : (x y : ℕ) (l t : Bool) → t ≡ is_subset x y → t ≡ true → (x ≡ y → ⊥) → true ≡ blocks x y l
-unfolding blocks
-blocks_more x y l t e d n = rw (← e, d, ne_eqb x y n)
-
-pub blocks_same : (x y : ℕ) (l t : Bool) → t ≡ is_subset x y → t ≡ true → x ≡ y → l ≡ blocks x y l
-unfolding blocks
-blocks_same x y l t e d s = rw (← e, d, eq-eqb x y s)
 
 pub zero_blocks : (x : ℕ) (b : Bool) → ¬ (x ≡ 0) → blocks x 0 b ≡ false
 unfolding blocks
@@ -68,20 +57,8 @@ module _ (unpicked : List ℕ) (left n g most : ℕ) (m : most ≡ min n 64) (h 
   unblocked e i a d = all_done (passes unpicked left g) i (min n 64) a (d ∙ m) ∙ sym (candidate_by_lem e)
 
 -- ---- the lowest
-pub first_found : (f : ℕ → Bool) (from n g : ℕ) (t : Bool) → from ≤ g → g < n → ((i : ℕ) → from ≤ i → i < g → f i ≡ false) → t ≡ f g → t ≡ true
-    → FirstOf f from n g
-first_found f from n g t l h below e d = record { least = below; found = λ k. (l, sym e ∙ d); none = λ k. absurd (omega arith) }
-
 pub first_none : (f : ℕ → Bool) (from n g r : ℕ) → n ≤ g → ((i : ℕ) → from ≤ i → i < g → f i ≡ false) → r ≡ n → FirstOf f from n r
 first_none f from n g r h below e = record { least = λ i a b. below i a (omega arith); found = λ k. absurd (omega arith); none = λ k. e }
-
-pub below_next : (f : ℕ → Bool) (from g : ℕ) (t : Bool) → ((i : ℕ) → from ≤ i → i < g → f i ≡ false) → t ≡ f g → t ≡ false → (i : ℕ) → from ≤ i → i < g + 1
-    → f i ≡ false
-below_next f from g t below e d i a b = go (ℕ_discrete i g)
-  where
-    go : Dec (i ≡ g) → f i ≡ false
-    go (yes x) = ap f x ∙ sym e ∙ d
-    go (no x) = below i a (omega arith)
 
 -- one number only is the lowest, or none is
 pub lowest_unique : (f : ℕ → Bool) (from n r q : ℕ) → FirstOf f from n r → FirstOf f from n q → r ≡ q

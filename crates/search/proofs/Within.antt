@@ -1,6 +1,6 @@
 -- The rows at the places of a set (`within`), as the set changes, and a loop over the places of a set: what was passed does not rule the
 -- gauge out, or is no candidate.
-use mathlib.Core.Path.{◌≡◌, refl, sym, ap, ap₂, ◌∙◌, subst}
+use mathlib.Core.Path.{◌≡◌, refl, sym, ap, ap₂, ◌∙◌}
 use mathlib.Core.Bool.{Bool, true, false, not, ◌&&◌, ◌||◌, cond}
 use mathlib.Core.List.{List}
 use Prim.Native.Nat.{ℕ, ◌≤◌, ◌<◌}
@@ -8,15 +8,14 @@ use native.Mathlib.Nat.{min-eq_left}
 use native.Mathlib.Decide.{ℕ_discrete, dec_lt}
 use native.Mathlib.Omega.{arith}
 use lib.Bits.{bit_and}
-use lib.Dec.{T, eqb, leb, ltb}
-use lib.Count.{count_trailing_zeros}
+use lib.Dec.{T, leb, ltb}
 use lib.ListN.{length, get_or, set, length-set}
 use lib.Seq.{ext_get_or, get_or-set_same, get_or-set_other}
 use borrow.Author.Tests.{eq-eqb, ne_eqb, lt-ltb, le-ltb, le-leb, leb-true}
 use Rattle.basics.proofs.Clash.{clash}
 use Rattle.sets.specs.Sets.{bit, meet, lowest}
 use Rattle.sets.specs.Lists.{all_below}
-use Rattle.sets.specs.First.{Lowest, Rest, Without, Added, Upper}
+use Rattle.sets.specs.First.{Lowest, Without, Added, Upper}
 use Rattle.sets.proofs.Tabulated.{length-tabulate, get_or-tabulate, all_of}
 use Rattle.sets.proofs.Tests.{is_true}
 use Rattle.sets.proofs.OnePlace.{none_in, bit-lowest}
@@ -110,28 +109,6 @@ pub record Passed (P : ℕ → Type 0) (s rest : ℕ) : Type 0 where
   pub passed : (h : ℕ) → bit s h ≡ true → bit rest h ≡ false → P h
 
 module _ (P : ℕ → Type 0) (s : ℕ) where
-  pub passed_none : (rest : ℕ) → rest ≡ s → Passed P s rest
-  passed_none rest e = record { within = λ h b. rw (← e) b; passed = λ h a b. yes_no_lem (bit s h) a (rw e at b) }
-
-  passed_more : (rest after h : ℕ) → Passed P s rest → h ≡ count_trailing_zeros 64 rest → Rest rest after → P h → Passed P s after
-  passed_more rest after h p e r t = record {
-    within = λ k b. p.within k (left-of (bit rest k) (not (eqb k (count_trailing_zeros 64 rest))) (sym (r.bits k) ∙ b));
-    passed = λ k a b. by k a b (ℕ_discrete k (count_trailing_zeros 64 rest));
-  }
-    where
-      left-of : (x y : Bool) → (x && y) ≡ true → x ≡ true
-      left-of true y z = refl
-      left-of false y z = yes_no_lem false z refl
-
-      and-true : (x : Bool) → (x && true) ≡ x
-      and-true true = refl
-      and-true false = refl
-
-      by : (k : ℕ) → bit s k ≡ true → bit after k ≡ false → Dec (k ≡ count_trailing_zeros 64 rest) → P k
-      by k a b (yes d) = subst P (e ∙ sym d) t
-      by k a b (no d) =
-          p.passed k a (sym (r.bits k ∙ ap (λ (x : Bool). bit rest k && not x) (ne_eqb k (count_trailing_zeros 64 rest) d) ∙ and-true (bit rest k)) ∙ b)
-
   pub passed_all : (rest : ℕ) → Passed P s rest → rest ≡ 0 → (h : ℕ) → bit s h ≡ true → P h
   passed_all rest p e h b = p.passed h b (rw e (none_in h))
 
@@ -201,9 +178,6 @@ module _ (rows : List ℕ) (s left from up : ℕ) (u : Upper s from up) where
       go : (y : Bool) → bit s i ≡ y → Not i
       go true y = f i (u.bits i ∙ ap₂ (λ (p q : Bool). p && q) (le-leb from i a) y) b
       go false y = sym (of_absent rows s left i y)
-
-  pub place_in : (rest h : ℕ) → Passed Not up rest → Lowest rest h → (h < 64) × (bit s h ≡ true)
-  place_in rest h p l = (l.below, (in_set h (p.within h l.here)).1)
 
   pub search_found : (rest h : ℕ) (t : Bool) → Passed Not up rest → Lowest rest h → t ≡ candidate_in (within s rows) left 64 h → t ≡ true → Search h
   search_found rest h t p l e d = record {

@@ -8,6 +8,7 @@ ghost use Rattle.sets.specs.Sets.{bit};
 ghost use Rattle.search.specs.Finding.{blocks as blocks_in, candidate_in, FirstOf, within};
 
 use sets;
+use sets::Places;
 use table::Table;
 
 // The places that there can be.
@@ -27,10 +28,8 @@ pub fn is_candidate_of(rows: &[u64; 64], set: u64, left: u64, g: usize) -> bool
 pub fn next_candidate_of(rows: &[u64; 64], set: u64, left: u64, from: usize) -> usize
     ensures { FirstOf (candidate_in (within set rows.now) left 64) from 64 result }
 {
-    let mut rest = sets::upper(set, from as u64);
-    while rest != 0 {
-        let g = sets::first(rest);
-        rest = sets::rest(rest);
+    let places = sets::upper(set, from as u64);
+    for g in Places(places) {
         if stands(rows, set, left, g) {
             return g;
         }
@@ -47,10 +46,7 @@ fn stands(rows: &[u64; 64], set: u64, left: u64, g: usize) -> bool
     if own == 0 {
         return false;
     }
-    let mut rest = set;
-    while rest != 0 {
-        let h = sets::first(rest);
-        rest = sets::rest(rest);
+    for h in Places(set) {
         if blocks(own, rows[h] & left, h < g) {
             return false;
         }
@@ -59,6 +55,7 @@ fn stands(rows: &[u64; 64], set: u64, left: u64, g: usize) -> bool
 }
 
 // An unpicked gauge with the remainder `other` rules out one with the remainder `own`: it has more cases, or the same and is lower.
+#[tactic(auto, unfolding(crate::specs::Finding::blocks))]
 fn blocks(own: u64, other: u64, lower: bool) -> bool
     ensures { result ≡ blocks_in own other lower }
 {

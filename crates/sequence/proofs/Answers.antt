@@ -5,6 +5,7 @@
 -- (`sequenced_made`), and no two answers of the code read alike.
 --
 -- Pins, which nothing else cites: `sequenced_unique`, `sequenced_made`, `gauge_sequence_injective`, `case_sequence_injective`.
+use Rattle.std.specs.Prelude.{Result, Ok, Err}
 use mathlib.Core.Path.{◌≡◌, refl, sym, ap, ap₂, ◌∙◌}
 use mathlib.Core.Bool.{Bool, true, false}
 use mathlib.Core.List.{List, map}
@@ -28,11 +29,8 @@ use Rattle.transpose.proofs.Columns.{length-places, row-places}
 use Rattle.refusals.specs.Answers.{number, Answer, refused}
 use Rattle.refusals.specs.declared.Refusal.{Refusal}
 use Rattle.refusals.specs.declared.Refusal.TheVariants.{NotMaximal}
-use Rattle.refusals.specs.declared.Verdict.{Verdict}
-use Rattle.refusals.proofs.Answering.{number_pos, verdict_injective}
+use Rattle.refusals.proofs.Answering.{number_pos, named, named-number}
 use Rattle.judge.specs.Judging.{judgement, Judged}
-use Rattle.judge.specs.declared.Judgement.{Judgement}
-use Rattle.judge.specs.declared.Judgement.TheVariants.{Yes, No, Refused}
 use Rattle.judge.proofs.Verdicts.{maximal_dec}
 use Rattle.lists.specs.Preferred.{pick_seq_by}
 use Rattle.lists.specs.Lists.{Side, gauge_side, case_side}
@@ -42,16 +40,18 @@ use Rattle.runs.specs.Calling.{sequence, arrangement}
 use Rattle.runs.specs.Sides.{side_of}
 use Rattle.runs.proofs.Padding.{take-padded}
 use Rattle.runs.specs.Paused.{no_numbers}
-use Rattle.sequence.specs.declared.GaugeSequence.{GaugeSequence}
-use Rattle.sequence.specs.declared.CaseSequence.{CaseSequence}
-use Rattle.sequence.specs.Sequencing.{no_sequence, sequence_refusal, Sequenced, gauge_sequence, case_sequence}
+use Rattle.table.specs.declared.Gauge.{Gauge}
+use Rattle.table.specs.declared.Case.{Case}
+use Rattle.runs.specs.declared.paused.Picks.{Picks}
+use Rattle.runs.proofs.Readings.{picks_same}
+use Rattle.sequence.specs.Sequencing.{no_sequence, sequence_refusal, Sequenced, sequence_of}
 use Rattle.sequence.specs.private.Choosing.{SeenIn}
 
 -- ---- the rows of a set as a side sees it
-pub gauge_seen : (t : Table) (x : Chain) → length x.rows ≡ 64 → ChainFacts t x → SeenIn (gauge_side t) x x.rows
+gauge_seen : (t : Table) (x : Chain) → length x.rows ≡ 64 → ChainFacts t x → SeenIn (gauge_side t) x x.rows
 gauge_seen t x n f = record { front = ap (λ (g : ℕ). take g x.rows) (sym f.count); size = n }
 
-pub case_seen : (t : Table) (x : Chain) (R : List ℕ) → R ≡ padded (transpose (min t.cases 64) (places t.gauges x.rows)) → length x.rows ≡ 64
+case_seen : (t : Table) (x : Chain) (R : List ℕ) → R ≡ padded (transpose (min t.cases 64) (places t.gauges x.rows)) → length x.rows ≡ 64
     → ChainFacts t x → SeenIn (case_side t) x R
 case_seen t x R e n f = record {
   front = ap (take t.cases) is ∙ take-padded set t.cases (sym size);
@@ -73,6 +73,13 @@ case_seen t x R e n f = record {
 
     is : R ≡ padded set
     is = e ∙ ap₂ (λ (w : ℕ) (y : List ℕ). padded (transpose w y)) (min-eq_left f.legal.cases_high) same
+
+pub turned_seen : (b : Bool) (t : Table) (x : Chain) (R : List ℕ) → b ≡ true → R ≡ padded (transpose (min t.cases 64) (places t.gauges x.rows))
+    → length x.rows ≡ 64 → ChainFacts t x → SeenIn (side_of b t) x R
+turned_seen b t x R e d n f = rw e (case_seen t x R d n f)
+
+pub given_seen : (b : Bool) (t : Table) (x : Chain) → b ≡ false → length x.rows ≡ 64 → ChainFacts t x → SeenIn (side_of b t) x x.rows
+given_seen b t x e n f = rw e (gauge_seen t x n f)
 
 -- ---- where nothing is refused
 module _ (t : Table) (n : ℕ) (k : List ℕ) (x : Chain) where
@@ -114,24 +121,24 @@ module _ (b : Bool) (t : Table) (k : List ℕ) (x : Chain) (n : ℕ) (counted : 
   pub sequenced_first : (why : Refusal) (a : Answer (List ℕ)) → number why ≡ preferred_refusal t n k → a ≡ refused why no_numbers → Is a
   sequenced_first why a e = is_refused why a (e ∙ sym (refused_first t n k x (λ z. omega (arith, e, number_pos why))))
 
-  module _ (passed : preferred_refusal t n k ≡ 0) (j : Judgement) (d : Judged (chain_refusal t x) (IsMaximal (table_rows t) (chain_rows x)) j) where
+  module _ (passed : preferred_refusal t n k ≡ 0) (j : Result Bool Refusal) (d : Judged (chain_refusal t x) (IsMaximal (table_rows t) (chain_rows x)) j) where
     passes : (judgement j).refusal ≡ 0 → sequence_refusal t (side_of b t).count k x ≡ 0
     passes e = sym by_count ∙ refused_then t n k x passed ∙ sym d.refusal ∙ e
 
-    pub sequenced-refused : (why : Refusal) (a : Answer (List ℕ)) → j ≡ Refused why → a ≡ refused why no_numbers → Is a
+    pub sequenced-refused : (why : Refusal) (a : Answer (List ℕ)) → j ≡ Err why → a ≡ refused why no_numbers → Is a
     sequenced-refused why a e =
-        is_refused why a (ap (λ (y : Judgement). (judgement y).refusal) (sym e) ∙ d.refusal ∙ sym (refused_then t n k x passed))
+        is_refused why a (ap (λ (y : Result Bool Refusal). (judgement y).refusal) (sym e) ∙ d.refusal ∙ sym (refused_then t n k x passed))
 
-    pub sequenced-no-ladder : (a : Answer (List ℕ)) → j ≡ No → a ≡ refused NotMaximal no_numbers → Is a
+    pub sequenced-no-ladder : (a : Answer (List ℕ)) → j ≡ Ok false → a ≡ refused NotMaximal no_numbers → Is a
     sequenced-no-ladder a e r = record {
-      checked = λ z. absurd (z (passes (ap (λ (y : Judgement). (judgement y).refusal) e)));
+      checked = λ z. absurd (z (passes (ap (λ (y : Result Bool Refusal). (judgement y).refusal) e)));
       no_ladder = λ z w. r;
-      ladder = λ z m. absurd (d.no (sym d.refusal ∙ ap (λ (y : Judgement). (judgement y).refusal) e) (ap (λ (y : Judgement). (judgement y).value) e) m);
+      ladder = λ z m. absurd (d.no (sym d.refusal ∙ ap (λ (y : Result Bool Refusal). (judgement y).refusal) e) (ap (λ (y : Result Bool Refusal). (judgement y).value) e) m);
     }
 
-    module _ (yes : j ≡ Yes) (size : length t.rows ≡ 64) where
+    module _ (yes : j ≡ Ok true) (size : length t.rows ≡ 64) where
       judged-facts : ChainFacts t x
-      judged-facts = chain_facts t x size (sym d.refusal ∙ ap (λ (y : Judgement). (judgement y).refusal) yes)
+      judged-facts = chain_facts t x size (sym d.refusal ∙ ap (λ (y : Result Bool Refusal). (judgement y).refusal) yes)
 
       pub order-known : (n ≤ 64) × (is_preference n k ≡ true)
       order-known = (omega (arith, counted, side_most b t judged-facts.legal), (passes_both t n k passed).1)
@@ -139,8 +146,8 @@ module _ (b : Bool) (t : Table) (k : List ℕ) (x : Chain) (n : ℕ) (counted : 
       pub sequenced-picks : (R picks : List ℕ) → (ChainFacts t x → SeenIn (side_of b t) x R) → picks ≡ padded (map suc (pick_seq_by (order_of n k) (take n R)))
           → Is (record { refusal = 0; value = picks })
       sequenced-picks R picks s e = record {
-        checked = λ z. absurd (z (passes (ap (λ (y : Judgement). (judgement y).refusal) yes)));
-        no_ladder = λ z w. absurd (w (d.yes (ap (λ (y : Judgement). (judgement y).value) yes)));
+        checked = λ z. absurd (z (passes (ap (λ (y : Result Bool Refusal). (judgement y).refusal) yes)));
+        no_ladder = λ z w. absurd (w (d.yes (ap (λ (y : Result Bool Refusal). (judgement y).value) yes)));
         ladder = λ z m.
             ap (λ (l : List ℕ). record { refusal = 0; value = l })
             (e ∙ ap (λ (m : ℕ). padded (map suc (pick_seq_by (order_of m k) (take m R)))) counted
@@ -181,12 +188,14 @@ module _ (side : Table → Side) (t : Table) (k : List ℕ) (x : Chain) (wide : 
       go (yes z) = told z (judged z)
 
 -- ---- no two answers of the code read alike
-pub gauge_sequence_injective : (x y : GaugeSequence) → gauge_sequence x ≡ gauge_sequence y → x ≡ y
-gauge_sequence_injective x y e =
-    ap₂ (λ (v : Verdict) (l : List ℕ). record { verdict = v; picks = record { 0 = l } })
-    (verdict_injective x.verdict y.verdict (ap (λ (a : Answer (List ℕ)). a.refusal) e)) (ap (λ (a : Answer (List ℕ)). a.value) e)
+sequence_injective : {S : Type 0} (x y : Result (Picks S) Refusal) → sequence_of x ≡ sequence_of y → x ≡ y
+sequence_injective (Ok k) (Ok l) e = ap Ok (picks_same k l (ap (λ (a : Answer (List ℕ)). a.value) e))
+sequence_injective (Ok k) (Err y) e = let d : 0 ≡ number y = ap (λ (a : Answer (List ℕ)). a.refusal) e in absurd (omega (arith, d, number_pos y))
+sequence_injective (Err x) (Ok l) e = let d : number x ≡ 0 = ap (λ (a : Answer (List ℕ)). a.refusal) e in absurd (omega (arith, d, number_pos x))
+sequence_injective (Err x) (Err y) e = ap Err (sym (named-number x) ∙ ap named (ap (λ (a : Answer (List ℕ)). a.refusal) e) ∙ named-number y)
 
-pub case_sequence_injective : (x y : CaseSequence) → case_sequence x ≡ case_sequence y → x ≡ y
-case_sequence_injective x y e =
-    ap₂ (λ (v : Verdict) (l : List ℕ). record { verdict = v; picks = record { 0 = l } })
-    (verdict_injective x.verdict y.verdict (ap (λ (a : Answer (List ℕ)). a.refusal) e)) (ap (λ (a : Answer (List ℕ)). a.value) e)
+pub gauge_sequence_injective : (x y : Result (Picks Gauge) Refusal) → sequence_of x ≡ sequence_of y → x ≡ y
+gauge_sequence_injective = sequence_injective
+
+pub case_sequence_injective : (x y : Result (Picks Case) Refusal) → sequence_of x ≡ sequence_of y → x ≡ y
+case_sequence_injective = sequence_injective

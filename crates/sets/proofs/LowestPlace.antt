@@ -10,35 +10,15 @@ use lib.Dec.{eqb}
 use lib.Bits.{and_le_r}
 use borrow.Author.Tests.{eq-eqb, ne_eqb}
 use lib.Count.{count_trailing_zeros, trailing_of_zero, under}
+use Rattle.std.specs.Int.{w64}
+use Rattle.std.proofs.lemmas.Nat.Bits.{bit_at-trailing_zeros}
 use Rattle.sets.specs.Sets.{bit, meet}
 use Rattle.sets.specs.First.{First, Rest}
 use Rattle.sets.proofs.Digits.{lt2, meet_half, meet_low, bit_zero, bit-suc, digit}
 use Rattle.sets.proofs.Order.{sub_refl}
 
-record Lowest (a r : ℕ) : Type 0 where
-  pub here : bit a r ≡ true
-  pub none : (k : ℕ) → k < r → bit a k ≡ false
-
 half_below : (d a : ℕ) → a < 2 ^ suc d → a / 2 < 2 ^ d
 half_below d a l = omega (arith, subst (λ (x : ℕ). a < x) (pow-suc 2 d) l)
-
--- one digit more
-above : (a t : ℕ) → a % 2 ≡ 0 → Lowest (a / 2) t → Lowest a (suc t)
-above a t e f = record { here = bit-suc a t ∙ f.here; none = lower }
-  where
-    lower : (k : ℕ) → k < suc t → bit a k ≡ false
-    lower zero l = rw (bit_zero a, e) refl
-    lower (suc k) l = bit-suc a k ∙ f.none k (omega arith)
-
-trailing_lowest : (d a : ℕ) → a < 2 ^ d → ¬ (a ≡ 0) → (count_trailing_zeros d a < d) × Lowest a (count_trailing_zeros d a)
-unfolding count_trailing_zeros
-trailing_lowest zero a l ne = absurd (ne (omega arith))
-trailing_lowest (suc d) a l ne = go (digit (a % 2) (lt2 a)) (trailing_lowest d (a / 2) (half_below d a l))
-  where
-    go : (a % 2 ≡ 0) ⊎ (a % 2 ≡ 1) → (¬ (a / 2 ≡ 0) → (count_trailing_zeros d (a / 2) < d) × Lowest (a / 2) (count_trailing_zeros d (a / 2)))
-        → (under (a % 2) (count_trailing_zeros d (a / 2)) < suc d) × Lowest a (under (a % 2) (count_trailing_zeros d (a / 2)))
-    go (inl e) f = let (y, z) = f (λ h. ne (omega arith)) in rw e (omega (arith, y), above a (count_trailing_zeros d (a / 2)) e z)
-    go (inr e) f = rw e (omega arith, record { here = rw (bit_zero a, e) refl; none = λ k h. absurd (omega arith) })
 
 pub eqb-suc : (k t : ℕ) → eqb (suc k) (suc t) ≡ eqb k t
 eqb-suc k t = by (ℕ_discrete k t)
@@ -83,9 +63,12 @@ bit_rest (suc d) a l ne k = go (digit (a % 2) (lt2 a)) (bit_rest d (a / 2) (half
         ∙ ap (λ (x : Bool). bit (a / 2) k && not x) (sym (ne_eqb (suc k) 0 (λ z. omega arith))))
 
 pub first_of_lem : (a : ℕ) → a < 2 ^ 64 → First a (count_trailing_zeros 64 a)
+unfolding bit
 first_of_lem a l = record {
   counted = refl;
-  some = λ ne. let (y, z) = trailing_lowest 64 a l ne in record { below = y; here = z.here; none = z.none };
+  some = λ ne.
+      let (below, here, none) = bit_at-trailing_zeros w64 a (omega arith) l in
+      record { below = below; here = rw here refl; none = λ k h. rw (none k h) refl };
   none = λ e. ap (count_trailing_zeros 64) e ∙ trailing_of_zero 64;
 }
 

@@ -6,7 +6,7 @@ use mathlib.Core.Path.{◌≡◌, refl, sym, ap, ap₂, ◌∙◌}
 use mathlib.Core.Bool.{Bool, true, false, not, ◌&&◌, ◌||◌}
 use Prim.Native.Nat.{ℕ, zero, suc, ◌+◌, ◌*◌, ◌-◌, ◌/◌, ◌%◌, ◌^◌, ◌≤◌, ◌<◌, min}
 use native.Mathlib.Nat.{pow-suc, div-one, mul-one, mul_assoc, mul_comm, div-mul-le_self, mod-eq_of_lt, one-mul}
-use native.Mathlib.Decide.{ℕ_discrete, dec_lt}
+use native.Mathlib.Decide.{dec_lt}
 use native.Mathlib.Omega.{arith}
 use lib.Dec.{eqb, leb, ltb}
 use lib.Count.{count_trailing_zeros}
@@ -40,9 +40,6 @@ with_of a k l = record {
   inside = λ d. record { bits = λ i. bit-join a (2 ^ k) i ∙ ap (λ (x : Bool). bit a i || x) (bit_power k i) };
   past = λ h. absurd (omega arith);
 }
-
-pub with_past : (a k : ℕ) → 64 ≤ k → With a k a
-with_past a k l = record { inside = λ h. absurd (omega arith); past = λ h. refl }
 
 -- the empty set has no lowest place to lose
 pub rest_none : (a : ℕ) → a ≡ 0 → Rest a 0
@@ -93,17 +90,6 @@ bit_minus a (suc k) (suc i) h =
 
 pub without_of : (a k : ℕ) → bit a k ≡ true → Without a k (a - 2 ^ k)
 without_of a k h = record { bits = λ i. bit_minus a k i h }
-
-pub without_absent : (a k : ℕ) → bit a k ≡ false → Without a k a
-without_absent a k h = record { bits = λ i. go i (ℕ_discrete i k) }
-  where
-    go : (i : ℕ) → Dec (i ≡ k) → bit a i ≡ (bit a i && not (eqb i k))
-    go i (yes e) = ap (bit a) e ∙ h ∙ sym (ap (λ (x : Bool). x && not (eqb i k)) (ap (bit a) e ∙ h))
-    go i (no e) = and-true (bit a i) ∙ sym (ap (λ (x : Bool). bit a i && not x) (ne_eqb i k e))
-      where
-        and-true : (x : Bool) → x ≡ (x && true)
-        and-true true = refl
-        and-true false = refl
 
 -- the places from k on
 twice : (q k : ℕ) → q * 2 ^ suc k ≡ 2 * (q * 2 ^ k)

@@ -21,6 +21,12 @@ pub record Rest (a r : ℕ) : Type 0 where
   pub bits : (k : ℕ) → bit r k ≡ (bit a k && not (eqb k (count_trailing_zeros 64 a)))
   pub fewer : ¬ (a ≡ 0) → r < a
 
+-- k is the lowest place of a, which has one, and r is a without it: a loop over the places of a goes on so
+pub record Next (a k r : ℕ) : Type 0 where
+  pub some : ¬ (a ≡ 0)
+  pub first : First a k
+  pub rest : Rest a r
+
 -- r is the set a without place k
 pub record Without (a k r : ℕ) : Type 0 where
   pub bits : (i : ℕ) → bit r i ≡ (bit a i && not (eqb i k))

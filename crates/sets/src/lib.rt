@@ -2,9 +2,10 @@
 // place. Every function takes any numbers and refuses nothing; the laws that the other crates rest on are in proofs/.
 #![tactic(auto)]
 
-ghost use Rattle.std.specs.Prelude.{◌≡◌};
+ghost use Rattle.std.specs.Prelude.{◌≡◌, MatchOption};
 ghost use Rattle.std.specs.Int.Count.{ones};
-ghost use Rattle.sets.specs.First.{First, Rest, Without, With, Upper};
+ghost use Rattle.std.specs.Iterator.{at_most};
+ghost use Rattle.sets.specs.First.{First, Rest, Next, Without, With, Upper};
 ghost use Rattle.sets.specs.Sets.{bit, is_subset, lowest as lowest_cases};
 
 // The cases that a set can hold.
@@ -63,6 +64,27 @@ pub fn rest(a: u64) -> u64
         return 0;
     }
     a & (a - 1)
+}
+
+// The places of a set, from the lowest on: what is left of the set is the state of a loop over them.
+#[derive(Clone, Copy)]
+pub struct Places(pub u64);
+
+impl Iterator for Places {
+    type Item = usize;
+
+    ghost next_gives = { λ s r t. MatchOption r ((s.0 ≡ 0) × (t.0 ≡ 0)) (λ k. Next s.0 k t.0) };
+
+    ghost remaining = { λ s. at_most s.0 };
+
+    fn next(&mut self) -> Option<usize> {
+        if self.0 == 0 {
+            return None;
+        }
+        let k = first(self.0);
+        self.0 = rest(self.0);
+        Some(k)
+    }
 }
 
 // `a` without place `k`.

@@ -10,7 +10,7 @@ use lib.Dec.{eqb, ltb, leb}
 use lib.ListN.{length}
 use lib.Seq.{get_or-take, length-take-le}
 use lib.Pow.{pow_pos}
-use borrow.Author.Tests.{ltb-true, lt-ltb, leb-true, le-leb, lt-leb, eqb-true, eqb-false, eq-eqb, ne_eqb}
+use borrow.Author.Tests.{ltb-true, lt-ltb, leb-true, le-leb, lt-leb, eqb-true, eqb-false, eq-eqb}
 use Rattle.basics.proofs.Clash.{clash}
 use Rattle.sets.specs.Sets.{◌⊆◌, is_subset, lowest}
 use Rattle.sets.proofs.Order.{subset_is, is_subset_lem, zero_sub, sub_zero}
@@ -124,41 +124,7 @@ module _ (t : Table) where
   pub legal_cases : Legal t → Cases t.cases (table_rows t)
   legal_cases l = small_cases t.cases (table_rows t) (λ i. subst (λ (x : ℕ). x < 2 ^ t.cases) (sym (row-table_rows l i)) (l.rows_bits i))
 
--- ---- the numbers, by the tests that the code makes
-pub no_gauges : (t : Table) (a : Bool) → a ≡ in_range 64 t.gauges → a ≡ false → 10 ≡ table_refusal t
-unfolding table_refusal
-no_gauges t a e f = let g : in_range 64 t.gauges ≡ false = sym e ∙ f in rw g
-
-pub no_cases : (t : Table) (a b : Bool) → a ≡ in_range 64 t.gauges → a ≡ true → b ≡ in_range 64 t.cases → b ≡ false → 10 ≡ table_refusal t
-unfolding table_refusal
-no_cases t a b e h d f =
-    let g : in_range 64 t.gauges ≡ true = sym e ∙ h in
-    let c : in_range 64 t.cases ≡ false = sym d ∙ f in
-    rw (g, c)
-
-module _ (t : Table) (a b f : Bool) (ea : a ≡ in_range 64 t.gauges) (ta : a ≡ true) (eb : b ≡ in_range 64 t.cases) (tb : b ≡ true)
-    (ef : f ≡ rows_fit t.gauges t.cases t.rows) where
-  pub no_rows_lem : f ≡ false → 11 ≡ table_refusal t
-  unfolding table_refusal
-  no_rows_lem e = rw (← ea, ta, ← eb, tb, ← ef, e)
-
-  pub all_pass : f ≡ true → 0 ≡ table_refusal t
-  unfolding table_refusal
-  all_pass e = rw (← ea, ta, ← eb, tb, ← ef, e)
-
-pub chain_refused : (t : Table) (s : Chain) (n : ℕ) → n ≡ table_refusal t → 0 < n → n ≡ chain_refusal t s
-unfolding chain_refusal
-chain_refused t s n e h = let z : eqb (table_refusal t) 0 ≡ false = ne_eqb (table_refusal t) 0 (λ d. omega arith) in rw z e
-
-pub no_count : (t : Table) (s : Chain) → table_refusal t ≡ 0 → (s.gauges ≡ t.gauges → ⊥) → 12 ≡ chain_refusal t s
-unfolding chain_refusal
-no_count t s e n = rw (e, ne_eqb s.gauges t.gauges n)
-
 module _ (t : Table) (s : Chain) (w : Bool) (e : table_refusal t ≡ 0) (n : s.gauges ≡ t.gauges) (ew : w ≡ rows_within t.rows s.rows) where
-  pub no_pairs : w ≡ false → 13 ≡ chain_refusal t s
-  unfolding chain_refusal
-  no_pairs f = rw (e, eq-eqb s.gauges t.gauges n, ← ew, f)
-
   pub chain_passes : w ≡ true → 0 ≡ chain_refusal t s
   unfolding chain_refusal
   chain_passes f = rw (e, eq-eqb s.gauges t.gauges n, ← ew, f)

@@ -1,14 +1,10 @@
 -- No two answers of making a table read alike.
-use mathlib.Core.Path.{◌≡◌, ap, ap₂}
-use Rattle.refusals.specs.Answers.{Answer}
-use Rattle.table.specs.Tables.{made}
+use mathlib.Core.Path.{◌≡◌}
+use Rattle.std.specs.Prelude.{Result}
+use Rattle.refusals.specs.declared.Refusal.{Refusal}
+use Rattle.refusals.proofs.Answering.{answered_injective}
+use Rattle.table.specs.Tables.{made, blank_table}
 use Rattle.table.specs.declared.Table.{Table}
-use Rattle.table.specs.declared.Made.{Made}
-use Rattle.refusals.specs.declared.Verdict.{Verdict}
-use Rattle.refusals.proofs.Answering.{verdict_injective}
 
-pub made_injective : (m n : Made) → made m ≡ made n → m ≡ n
-made_injective m n e =
-    ap₂ (λ (v : Verdict) (t : Table). record { verdict = v; table = t })
-    (verdict_injective m.verdict n.verdict (ap (λ (a : Answer Table). a.refusal) e))
-    (ap (λ (a : Answer Table). a.value) e)
+pub made_injective : (m n : Result Table Refusal) → made m ≡ made n → m ≡ n
+made_injective = answered_injective blank_table

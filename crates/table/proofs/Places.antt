@@ -92,9 +92,6 @@ no_gauge s g c out = (λ e. clash cc, λ h. absurd (past h))
         go (yes l) = l
         go (no l) = absurd (no_bit (c - 1) (subst (λ (r : ℕ). T (bit r (c - 1))) (row_past s (g - 1) (omega arith)) h.set))
 
-pub no_case_number : (s : List ℕ) (g c : ℕ) → c < 1 → (false ≡ true) ↔ Has s g c
-no_case_number s g c l = (λ e. clash cc, λ h. absurd (omega (arith, h.case)))
-
 pub has_bit : (s : List ℕ) (g c : ℕ) (t : Bool) → 1 ≤ g → 1 ≤ c → t ≡ bit (row s (g - 1)) (c - 1) → (t ≡ true) ↔ Has s g c
 has_bit s g c t l k e = (
   λ d. record { gauge = l; case = k; set = rw (← e, d) tt },

@@ -1,13 +1,13 @@
 -- Legal tables and the checks of a table and of a chain handed in (01, "A table has G gauges and L load cases .." and
 -- the refusals 10 to 13). The tests are written out in 01's order; that they decide `Legal` and `Within` is proved in
 -- proofs/Legality.antt.
-use Rattle.std.specs.Prelude.{◌≡◌, Bool, true, ◌&&◌, cond, List, [], ◌∷◌, ◌++◌, ℕ, zero, suc, ◌-◌, ◌^◌, ◌≤◌, ◌<◌, eqb, leb, ltb, length, take, replicate}
+use Rattle.std.specs.Prelude.{◌≡◌, Bool, true, ◌&&◌, cond, List, [], ◌∷◌, ◌++◌, ℕ, zero, suc, ◌-◌, ◌^◌, ◌≤◌, ◌<◌, eqb, leb, ltb, length, take, replicate, Result}
 use Rattle.sets.specs.Sets.{is_subset}
 use Rattle.table.specs.Pairs.{row}
-use Rattle.refusals.specs.Answers.{Answer, answer, verdict}
+use Rattle.refusals.specs.declared.Refusal.{Refusal}
+use Rattle.refusals.specs.Answers.{Answer, answer, answered}
 use Rattle.table.specs.declared.Table.{Table}
 use Rattle.table.specs.declared.Chain.{Chain}
-use Rattle.table.specs.declared.Made.{Made}
 
 -- a legal table: G and L from 1 to 64, bits L and above clear, rows past G zero
 pub record Legal (t : Table) : Type 0 where
@@ -77,5 +77,5 @@ abbrev pub make_table : ℕ → ℕ → List ℕ → Answer Table
 make_table g l rows = let t : Table = record { gauges = g; cases = l; rows = rows } in answer (table_refusal t) t blank_table
 
 -- how the code's answer reads: 01's number, and the table
-abbrev pub made : Made → Answer Table
-made m = record { refusal = verdict m.verdict; value = m.table }
+abbrev pub made : Result Table Refusal → Answer Table
+made = answered blank_table

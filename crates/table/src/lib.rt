@@ -1,26 +1,76 @@
 // Response tables and chains as values: the types, making a table, and the checks of a table and of a chain handed in (01, refusals 10
-// to 13). No public function has a `requires`, and none is lent memory. Refusals are in `refusals`, exchanged sides in `transpose`.
+// to 13), which answer `Ok` or the refusal. No public function has a `requires`. Refusals are in `refusals`, exchanged sides in `transpose`.
 #![tactic(auto)]
 
-ghost use Rattle.std.specs.Prelude.{◌≡◌, ◌↔◌, true, ℕ, ◌≤◌, ◌<◌, min, length};
+ghost use Rattle.std.specs.Prelude.{◌≡◌, ◌↔◌, Bool, true, false, ℕ, ◌≤◌, ◌<◌, ◌==◌, bit_and, min, length};
+ghost use Rattle.std.specs.List.{list_all, zip};
 ghost use Rattle.table.specs.Pairs.{row as row_of, Has};
 ghost use Rattle.table.specs.Unions.{union_of};
 ghost use Rattle.table.specs.Tables.{in_range, rows_fit, table_refusal, rows_within, chain_refusal, make_table, blank_table, blank_chain, made};
-ghost use Rattle.refusals.specs.Answers.{refused, verdict};
+ghost use Rattle.refusals.specs.Answers.{verdict};
 
-use refusals::{Refusal, Verdict};
+use refusals::Refusal;
 use sets;
 
 // A gauge's number, from 1. A gauge number never stands where a case number belongs (01): the two node classes of source 003.
-#[derive(Clone, Copy)]
+#[derive(Clone, Copy, Debug, PartialEq, Eq)]
 pub struct Gauge(pub u64);
 
 // A load case's number, from 1.
-#[derive(Clone, Copy)]
+#[derive(Clone, Copy, Debug, PartialEq, Eq)]
 pub struct Case(pub u64);
 
+// A side of a table: its gauges or its cases. Which one it is stands as a constant, so that what is proved of a mark serves either side, and a
+// branch on it is gone once the code is made for a side.
+pub trait Side: Copy {
+    ghost CASES: { Bool };
+
+    // Whether it is the side of the cases.
+    const CASES: bool;
+
+    ghost number: { Self → ℕ };
+
+    fn from_number(n: u64) -> Self
+        ensures { number result ≡ n };
+
+    fn number(self) -> u64
+        ensures { result ≡ number self };
+}
+
+impl Side for Gauge {
+    ghost CASES = { false };
+
+    const CASES: bool = false;
+
+    ghost number = { λ g. g.0 };
+
+    fn from_number(n: u64) -> Gauge {
+        Gauge(n)
+    }
+
+    fn number(self) -> u64 {
+        self.0
+    }
+}
+
+impl Side for Case {
+    ghost CASES = { true };
+
+    const CASES: bool = true;
+
+    ghost number = { λ c. c.0 };
+
+    fn from_number(n: u64) -> Case {
+        Case(n)
+    }
+
+    fn number(self) -> u64 {
+        self.0
+    }
+}
+
 // A response table: its gauges, its cases, and a row of case bits for each gauge; rows past the last gauge are zero.
-#[derive(Clone, Copy)]
+#[derive(Clone, Copy, Debug, PartialEq, Eq)]
 pub struct Table {
     pub gauges: u64,
     pub cases: u64,
@@ -28,7 +78,7 @@ pub struct Table {
 }
 
 // A set of pairs of a table, by gauge rows; its row count is the table's number of gauges.
-#[derive(Clone, Copy)]
+#[derive(Clone, Copy, Debug, PartialEq, Eq)]
 pub struct Chain {
     pub gauges: u64,
     pub rows: [u64; 64],
@@ -37,13 +87,6 @@ pub struct Chain {
 // The rows that a table holds, one for each gauge that it can have.
 const ROWS: usize = Table::MOST_GAUGES as usize;
 
-// A table, or a refusal with the blank table.
-#[derive(Clone, Copy)]
-pub struct Made {
-    pub verdict: Verdict,
-    pub table: Table,
-}
-
 impl Table {
     // The greatest G and L (01: they "belong to the table type").
     pub const MOST_GAUGES: u64 = 64;
@@ -51,96 +94,76 @@ impl Table {
     pub const MOST_CASES: u64 = 64;
 
     // A table from its rows; 10 and 11 are refused.
-    pub fn from_rows(gauges: u64, cases: u64, rows: [u64; 64]) -> Made
+    pub fn from_rows(gauges: u64, cases: u64, rows: [u64; 64]) -> Result<Table, Refusal>
         ensures { made result ≡ make_table gauges cases rows }
     {
-        let table = Table {
-            gauges: gauges,
-            cases: cases,
-            rows: rows,
-        };
-        let checked = check_table(table);
-        if let Verdict::Refused(why) = checked {
-            return refuse(why);
-        }
-        Made {
-            verdict: Verdict::Accepted,
-            table: table,
-        }
+        check_rows(gauges, cases, &rows)?;
+        Ok(Table {
+            gauges,
+            cases,
+            rows,
+        })
     }
 
     // Whether gauge `g` responds under case `c`, as the rows say; other numbers than 1 to 64 name no pair.
     pub fn has(self, g: Gauge, c: Case) -> bool
         ensures { (result ≡ true) ↔ Has self.rows g.0 c.0 }
     {
-        let gauge = g.0;
-        let case = c.0;
-        if !in_range(gauge, Table::MOST_GAUGES) {
+        if !in_range(g.0, Table::MOST_GAUGES) {
             return false;
         }
-        if case < 1 {
+        if c.0 < 1 {
             return false;
         }
-        let i = (gauge - 1) as usize;
-        let rows = self.rows;
-        let row = rows[i];
-        sets::has(row, case - 1)
+        let row = self.rows[(g.0 - 1) as usize];
+        sets::has(row, c.0 - 1)
     }
 }
 
 // The check of a table handed in: 10, then 11.
-pub fn check_table(t: Table) -> Verdict
+pub fn check_table(t: Table) -> Result<(), Refusal>
     ensures { verdict result ≡ table_refusal t }
 {
-    let gauges = t.gauges;
-    let cases = t.cases;
-    let rows = t.rows;
+    check_rows(t.gauges, t.cases, &t.rows)
+}
+
+// The check of what a table is made of.
+#[tactic(auto, unfolding(crate::specs::Tables::table_refusal))]
+fn check_rows(gauges: u64, cases: u64, rows: &[u64; 64]) -> Result<(), Refusal>
+    ensures { verdict result ≡ table_refusal record { gauges = gauges; cases = cases; rows = rows.now } }
+{
     if !in_range(gauges, Table::MOST_GAUGES) {
-        return Verdict::Refused(Refusal::TableShape);
+        return Err(Refusal::TableShape);
     }
     if !in_range(cases, Table::MOST_CASES) {
-        return Verdict::Refused(Refusal::TableShape);
+        return Err(Refusal::TableShape);
     }
-    if !rows_fit(&rows, gauges, cases) {
-        return Verdict::Refused(Refusal::TableRows);
+    if !rows_fit(rows, gauges, cases) {
+        return Err(Refusal::TableRows);
     }
-    Verdict::Accepted
+    Ok(())
 }
 
 // The check of a chain after its table: 10, 11, then 12, then 13.
-pub fn check_chain(t: Table, s: Chain) -> Verdict
+#[tactic(auto, using(refusals::proofs::Answering::number_pos), unfolding(crate::specs::Tables::chain_refusal))]
+pub fn check_chain(t: Table, s: Chain) -> Result<(), Refusal>
     ensures { verdict result ≡ chain_refusal t s }
 {
-    let checked = check_table(t);
-    if let Verdict::Refused(why) = checked {
-        return Verdict::Refused(why);
-    }
+    check_table(t)?;
     if s.gauges != t.gauges {
-        return Verdict::Refused(Refusal::ChainCount);
+        return Err(Refusal::ChainCount);
     }
-    let outer = t.rows;
-    let rows = s.rows;
-    if !rows_within(&outer, &rows) {
-        return Verdict::Refused(Refusal::ChainPairs);
+    if !rows_within(&t.rows, &s.rows) {
+        return Err(Refusal::ChainPairs);
     }
-    Verdict::Accepted
+    Ok(())
 }
 
-// A refusal, with the blank table.
-pub fn refuse(why: Refusal) -> Made
-    ensures { made result ≡ refused why blank_table }
-{
-    Made {
-        verdict: Verdict::Refused(why),
-        table: blank_table(),
-    }
-}
-
-// The table and the chain beside a refusal, of every crate above.
+// The table and the chain that stand for none.
 pub fn blank_table() -> Table
     ensures { result ≡ blank_table }
 {
-    let empty = [0u64; 64];
+    let empty = [0; 64];
     Table {
         gauges: 0,
         cases: 0,
@@ -151,7 +174,7 @@ pub fn blank_table() -> Table
 pub fn blank_chain() -> Chain
     ensures { result ≡ blank_chain }
 {
-    let none = [0u64; 64];
+    let none = [0; 64];
     Chain {
         gauges: 0,
         rows: none,
@@ -162,39 +185,23 @@ pub fn blank_chain() -> Chain
 pub fn in_range(n: u64, most: u64) -> bool
     ensures { result ≡ in_range most n }
 {
-    if n < 1 {
-        return false;
-    }
-    if most < n {
-        return false;
-    }
-    true
+    (1..=most).contains(&n)
 }
 
 // Whether two arrays have the same rows. Of 64 rows each they are then the same (`rows_same` in proofs/Agreement.antt).
 pub fn same_rows(a: &[u64; 64], b: &[u64; 64]) -> bool
     ensures { (result ≡ true) ↔ ((i : ℕ) → i < 64 → row_of a.now i ≡ row_of b.now i) }
 {
-    let mut i: usize = 0;
-    while i < ROWS {
-        if a[i] != b[i] {
-            return false;
-        }
-        i += 1;
-    }
-    true
+    a == b
 }
 
 // The cases of the rows from `from` up to, not with, `to`, at most 64.
 pub fn union_of(rows: &[u64; 64], from: usize, to: usize) -> u64
     ensures { result ≡ union_of rows.now from to }
 {
-    let last = at_most_rows(to);
-    let mut seen: u64 = 0;
-    let mut i = from;
-    while i < last {
-        seen = seen | rows[i];
-        i += 1;
+    let mut seen = 0;
+    for i in from..at_most_rows(to) {
+        seen |= rows[i];
     }
     seen
 }
@@ -203,10 +210,7 @@ pub fn union_of(rows: &[u64; 64], from: usize, to: usize) -> u64
 pub fn at_most_rows(n: usize) -> usize
     ensures { result ≡ min n 64 }
 {
-    if n < ROWS {
-        return n;
-    }
-    ROWS
+    n.min(ROWS)
 }
 
 // No bit past the last case, and no row past the last gauge: two unions of rows, with no branch for each row.
@@ -225,15 +229,14 @@ fn rows_fit(rows: &[u64; 64], gauges: u64, cases: u64) -> bool
 
 // Every pair of `rows` is in `outer`.
 fn rows_within(outer: &[u64; 64], rows: &[u64; 64]) -> bool
-    requires { (length outer.now ≡ 64) × (length rows.now ≡ 64) }
     ensures { result ≡ rows_within outer.now rows.now }
 {
-    let mut i = 0;
-    while i < ROWS {
-        if !sets::subset(rows[i], outer[i]) {
-            return false;
-        }
-        i += 1;
-    }
-    true
+    each_within(outer, rows)
+}
+
+// The same, as the chain reads.
+fn each_within(outer: &[u64; 64], rows: &[u64; 64]) -> bool
+    ensures { result ≡ list_all (λ p. bit_and p.1 p.0 == p.1) (zip outer.now rows.now) }
+{
+    outer.iter().zip(rows).all(|(most, row)| row & most == *row)
 }

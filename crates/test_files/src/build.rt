@@ -1,162 +1,163 @@
-// Files from the text of the script. A byte that has no room is dropped.
+// Files from the text of the script.
+ghost use Rattle.std.specs.Prelude.{◌-◌, ◌≤◌, length};
+ghost use Rattle.std.specs.Iterator.{at_most};
+
 use crate::script;
 
-// The byte that a buffer is filled with before anything is stored. No written file has it.
-pub const FILL: u8 = b'#';
-
 // One byte more than the longest file.
-pub const ROOM: usize = 65537;
+const ROOM: usize = 65537;
 
-// What `\c` means: a line of 1,024 bytes and its LF.
-const COMMENT: u64 = 256;
-
+// The bytes of a comment line, with its LF.
 const COMMENT_LINE: u64 = 1025;
 
-// A byte or a comment line, how many bytes it gives in all, and where the text goes on.
+// A file as it is made. A byte that has no room is dropped.
+#[derive(Drop)]
+pub struct File {
+    space: [u8; ROOM],
+    len: usize,
+    ghost fits: { len ≤ 65537 },
+}
+
+impl File {
+    pub fn empty() -> File {
+        File {
+            space: [0; ROOM],
+            len: 0,
+        }
+    }
+
+    pub fn bytes(&self) -> &[u8] {
+        &self.space[..self.len]
+    }
+
+    // Stores the file of a text behind what is there.
+    pub fn store(&mut self, text: &[u8]) {
+        match text {
+            [b'@', rest @ ..] => {
+                self.store_items(b"%%MatrixMarket matrix coordinate pattern general\n");
+                self.store_items(rest)
+            }
+            [b'$', rest @ ..] => {
+                self.store_items(b"%%MatrixMarket matrix coordinate integer general\n");
+                self.store_items(rest)
+            }
+            _ => self.store_items(text),
+        }
+    }
+
+    fn store_items(&mut self, text: &[u8]) {
+        for item in Items(text) {
+            for _ in 0..item.times {
+                for place in 0..item.unit.width() {
+                    self.push(item.unit.byte(place));
+                }
+            }
+        }
+    }
+
+    fn push(&mut self, byte: u8) {
+        if self.len < ROOM {
+            self.space[self.len] = byte;
+            self.len += 1;
+        }
+    }
+}
+
+// What a byte or an escape stands for: a byte, or a comment line.
+#[derive(Clone, Copy)]
+enum Unit {
+    Byte(u8),
+    Comment,
+}
+
+impl Unit {
+    fn width(self) -> u64 {
+        match self {
+            Unit::Byte(_) => 1,
+            Unit::Comment => COMMENT_LINE,
+        }
+    }
+
+    fn byte(self, place: u64) -> u8 {
+        match self {
+            Unit::Byte(byte) => byte,
+            Unit::Comment if place == COMMENT_LINE - 1 => b'\n',
+            Unit::Comment => b'%',
+        }
+    }
+
+    // What the letter behind a backslash stands for.
+    fn escaped(letter: u8) -> Unit {
+        match letter {
+            b'c' => Unit::Comment,
+            b'f' => Unit::Byte(12),
+            b'n' => Unit::Byte(b'\n'),
+            b'r' => Unit::Byte(b'\r'),
+            b's' => Unit::Byte(b' '),
+            b't' => Unit::Byte(b'\t'),
+            b'z' => Unit::Byte(0),
+            _ => Unit::Byte(letter),
+        }
+    }
+}
+
+// A unit, and how many times it comes.
 #[derive(Clone, Copy)]
 struct Item {
-    unit: u64,
-    count: u64,
-    next: usize,
+    unit: Unit,
+    times: u64,
 }
 
-// Stores the file of a text, and gives its length.
-pub fn file(text: &[u8], out: &mut [u8; ROOM]) -> usize {
-    let first = script::byte(text, 0);
-    match first {
-        b'@' => behind(
-            b"%%MatrixMarket matrix coordinate pattern general\n",
-            text,
-            out,
-        ),
-        b'$' => behind(
-            b"%%MatrixMarket matrix coordinate integer general\n",
-            text,
-            out,
-        ),
-        _ => store(text, 0, out, 0),
-    }
-}
+// The items of a text: a byte or an escape, or N times one.
+#[derive(Drop)]
+struct Items<'a>(&'a [u8]);
 
-// Stores a banner's line, and behind it the text without its first byte.
-fn behind(banner: &[u8], text: &[u8], out: &mut [u8; ROOM]) -> usize {
-    let end = store(banner, 0, out, 0);
-    store(text, 1, out, end)
-}
+impl Iterator for Items<'_> {
+    type Item = Item;
 
-// The front of a buffer, up to a file's end.
-pub fn front(space: &[u8; ROOM], end: usize) -> &[u8] {
-    script::part(space, 0, end)
-}
+    ghost remaining = { λ s. at_most (length s.0.now) };
 
-// Stores a text from a place on, and gives the place behind what was stored.
-fn store(text: &[u8], from: usize, out: &mut [u8; ROOM], to: usize) -> usize {
-    let mut p = to;
-    let mut at = from;
-    let mut turns: usize = 0;
-    while turns < text.len() {
-        if text.len() <= at {
-            return p;
-        }
-        let item = next(text, at);
-        p = repeat(out, p, item.unit, item.count);
-        at = item.next;
-        turns += 1;
-    }
-    p
-}
-
-// The item at a place: N times a byte or escape, or one.
-fn next(text: &[u8], at: usize) -> Item {
-    if script::byte(text, at) != b'\\' {
-        return one(text, at);
-    }
-    if 9 < script::digit(script::byte(text, script::after(at))) {
-        return one(text, at);
-    }
-    let n = script::number(text, script::after(at));
-    let own = one(text, script::after(script::find(text, at, b';')));
-    Item {
-        unit: own.unit,
-        count: times(n, own.count),
-        next: own.next,
-    }
-}
-
-// A product of a number up to 65,537 and a number up to 1,025.
-fn times(n: u64, count: u64) -> u64 {
-    if 65537 < n {
-        return 0;
-    }
-    if count == COMMENT_LINE {
-        return n * COMMENT_LINE;
-    }
-    n
-}
-
-// The byte or escape at a place.
-fn one(text: &[u8], at: usize) -> Item {
-    let first = script::byte(text, at);
-    if first != b'\\' {
-        return Item {
-            unit: script::wide(first),
-            count: 1,
-            next: script::after(at),
+    fn next(&mut self) -> Option<Item> {
+        let text = self.0;
+        let (times, text) = match text {
+            [] => return None,
+            [b'\\', rest @ ..] if is_number(rest) => (times(rest), behind_number(rest)),
+            _ => (1, text),
         };
-    }
-    let letter = script::byte(text, script::after(at));
-    Item {
-        unit: escaped(letter),
-        count: width(letter),
-        next: script::after(script::after(at)),
+        let (unit, rest) = first_unit(text);
+        self.0 = rest;
+        Some(Item { unit, times })
     }
 }
 
-fn width(letter: u8) -> u64 {
-    if letter == b'c' {
-        return COMMENT_LINE;
-    }
-    1
+fn is_number(text: &[u8]) -> bool {
+    text.first().and_then(script::digit).is_some()
 }
 
-fn escaped(letter: u8) -> u64 {
-    match letter {
-        b'c' => COMMENT,
-        b'f' => 12,
-        b'n' => 10,
-        b'r' => 13,
-        b's' => 32,
-        b't' => 9,
-        b'z' => 0,
-        _ => script::wide(letter),
+// No item comes more often than a file has bytes.
+fn times(text: &[u8]) -> u64 {
+    match script::number(text) {
+        n @ ..=65537 => n,
+        _ => 0,
     }
 }
 
-// Stores `count` bytes of a unit.
-fn repeat(out: &mut [u8; ROOM], at: usize, unit: u64, count: u64) -> usize {
-    let mut p = at;
-    let mut i: u64 = 0;
-    while i < count {
-        put(out, p, byte_of(unit, i));
-        p = script::after(p);
-        i += 1;
-    }
-    p
-}
-
-// The byte at place `i` of a unit that comes again and again.
-fn byte_of(unit: u64, i: u64) -> u8 {
-    if unit < COMMENT {
-        return unit as u8;
-    }
-    match i % COMMENT_LINE {
-        1024 => b'\n',
-        _ => b'%',
+fn behind_number(text: &[u8]) -> &[u8]
+    ensures { length result.now ≤ length text.now }
+{
+    match text.iter().position(|byte| *byte == b';') {
+        Some(i) => &text[i + 1..],
+        None => &[],
     }
 }
 
-fn put(out: &mut [u8; ROOM], at: usize, byte: u8) {
-    if at < ROOM {
-        out[at] = byte;
+// The byte or escape that a text begins with, and what comes after it; a zero byte where there is none.
+fn first_unit(text: &[u8]) -> (Unit, &[u8])
+    ensures { length result.1.now ≤ length text.now - 1 }
+{
+    match text {
+        [b'\\', letter, rest @ ..] => (Unit::escaped(*letter), rest),
+        [] | [b'\\'] => (Unit::Byte(0), &[]),
+        [byte, rest @ ..] => (Unit::Byte(*byte), rest),
     }
 }

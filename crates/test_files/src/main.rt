@@ -5,10 +5,8 @@
 // and costs no proof. tests/compare puts the same cases to the C library, and those that read with a cutoff or write.
 #![tactic(auto)]
 
-ghost use Rattle.std.specs.Prelude.{◌≤◌, length, IfOk};
-
+use program_input::read_input;
 use std::io;
-use std::io::Read;
 
 mod build;
 mod cases;
@@ -16,26 +14,10 @@ mod reading;
 mod say;
 mod script;
 mod subject;
-mod tables;
 
 fn main(rt: HostRuntime) -> io::Result<()> {
-    let mut text = [0u8; 65536];
-    let n = read_script(&mut rt.stdin(), &mut text)?;
-    let count = cases::all(&rt, &text[..n])?;
+    let mut space = [0; 65536];
+    let script = read_input(&mut rt.stdin(), &mut space)?;
+    let count = cases::all(&rt, script)?;
     println!(rt; "{count} cases")
-}
-
-// Reads until the buffer is full or the input ends, and gives how many bytes there are.
-fn read_script(input: &mut impl Read, text: &mut [u8]) -> io::Result<usize>
-    ensures { IfOk result (λ n. n ≤ length text.new) }
-{
-    let mut have: usize = 0;
-    while have < text.len() {
-        let more = input.read(&mut text[have..])?;
-        if more == 0 {
-            return Ok(have);
-        }
-        have += more;
-    }
-    Ok(have)
 }

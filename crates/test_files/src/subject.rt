@@ -1,60 +1,24 @@
-// The library under test, with plain numbers in place of its enums: a refusal is its number in 01, as
-// `refusals::refusal_number` gives it, and no refusal is 0. Nothing else here names a type of the library but
-// `Table`.
-use file_reader::Found;
-use refusals::{Refusal, Verdict};
+// The library under test: the one file that names its types, but for `Table`, and the numbers that refusals have in 01.
+use refusals::Refusal;
 use table::Table;
 
-// A table read, or the number of a refusal.
-#[derive(Clone, Copy)]
-pub struct Reading {
-    pub refused: u64,
-    pub table: Table,
+pub fn read(file: &[u8]) -> Result<Table, Refusal> {
+    file_reader::read(file)
 }
 
-pub fn read(file: &[u8]) -> Reading {
-    let got = file_reader::read(file);
-    let verdict = got.verdict;
-    let t = got.table;
-    Reading {
-        refused: number_of(verdict),
-        table: t,
-    }
-}
-
-fn number_of(verdict: Verdict) -> u64 {
-    match verdict {
-        Verdict::Refused(why) => number(why),
-        Verdict::Accepted => 0,
-    }
-}
-
-fn number(why: Refusal) -> u64 {
-    refusals::refusal_number(why)
-}
-
-// Where a comment is, or the number of a refusal.
+// Where a comment is.
 #[derive(Clone, Copy)]
 pub struct Place {
-    pub refused: u64,
     pub start: usize,
     pub length: usize,
 }
 
-pub fn comment_at(file: &[u8], k: u64) -> Place {
-    let found = file_reader::comment_at(file, k);
-    match found {
-        Found::Refused(why) => Place {
-            refused: number(why),
-            start: 0,
-            length: 0,
-        },
-        Found::At { start, len } => Place {
-            refused: 0,
-            start: start,
-            length: len,
-        },
-    }
+pub fn comment_at(file: &[u8], k: u64) -> Result<Place, Refusal> {
+    let found = file_reader::comment_at(file, k)?;
+    Ok(Place {
+        start: found.start,
+        length: found.len,
+    })
 }
 
 // The part of the file that is shown for a comment.

@@ -1,69 +1,64 @@
 // The tables: every one of the shapes up to 3 by 3, and some larger ones, which anyone can make again (02, R-13).
-use super::tally::Tally;
-use super::{arrays, grids, listed, plain, tally};
+use super::tally::{Board, Tally};
+use super::{grids, listed, plain};
+use std::iter::successors;
 
 const SEED: u64 = 88172645463325252;
 
 // The shapes up to 3 by 3.
-pub fn small(t: Tally) -> Tally {
-    let mut now = t;
-    let mut k: u64 = 0;
-    while k < 9 {
-        now = shape(now, k);
-        k += 1;
+pub fn small(t: &mut Tally) {
+    for gauges in 1..=3 {
+        for cases in 1..=3 {
+            shape(t, gauges, cases);
+        }
     }
-    now
 }
 
-// The tables of a shape, the full one first.
-fn shape(t: Tally, k: u64) -> Tally {
-    let gauges = arrays::plus(k / 3, 1);
-    let cases = arrays::plus(k % 3, 1);
+// The tables of a shape, of which there are at most 512.
+fn shape(t: &mut Tally, gauges: u64, cases: u64) {
     let all = plain::full(gauges, cases);
-    let mut now = t;
-    let mut pairs: u64 = all;
-    let mut turns: u64 = 0;
-    while turns < 512 {
-        now = listed::table(tally::about(now, gauges, cases, pairs));
-        pairs = plain::next_subset(all, pairs);
-        if pairs == all {
-            return now;
-        }
-        turns += 1;
+    for pairs in successors(Some(0), |pairs| plain::next_subset(all, *pairs)).take(512) {
+        listed::table(
+            t,
+            Board {
+                gauges,
+                cases,
+                pairs,
+            },
+        );
     }
-    now
 }
 
 // Shapes up to 4 by 4 and 8 by 1.
-pub fn larger(t: Tally) -> Tally {
-    let first = sample(t, 4, 4);
-    let second = sample(first, 2, 5);
-    let third = sample(second, 5, 2);
-    let fourth = sample(third, 1, 8);
-    sample(fourth, 8, 1)
+pub fn larger(t: &mut Tally) {
+    for (gauges, cases) in [(4, 4), (2, 5), (5, 2), (1, 8), (8, 1)] {
+        sample(t, gauges, cases);
+    }
 }
 
 // The first tables of the sample of a shape.
-fn sample(t: Tally, gauges: u64, cases: u64) -> Tally {
-    let mut now = t;
-    let mut k: u64 = 0;
-    while k < 41 {
-        let made = samples::sample_table(gauges, cases, SEED ^ k, density(k));
-        let table = made.table;
-        let rows = table.rows;
-        now = listed::table(tally::about(now, gauges, cases, grids::pairs_of(&rows)));
-        k += 1;
+fn sample(t: &mut Tally, gauges: u64, cases: u64) {
+    for k in 0..41 {
+        let Ok(table) = samples::sample_table(gauges, cases, SEED ^ k, density(k)) else {
+            return;
+        };
+        let pairs = grids::pairs_of(&table.rows);
+        listed::table(
+            t,
+            Board {
+                gauges,
+                cases,
+                pairs,
+            },
+        );
     }
-    now
 }
 
 // The first table has every place; then half of the places and three quarters by turns.
 fn density(k: u64) -> u64 {
-    if k == 0 {
-        return 256;
+    match k {
+        0 => 256,
+        _ if k % 2 == 0 => 128,
+        _ => 192,
     }
-    if k % 2 == 0 {
-        return 128;
-    }
-    192
 }

@@ -6,8 +6,8 @@
 #![tactic(auto)]
 
 use std::io;
+use tally::Tally;
 
-mod arrays;
 mod grids;
 mod groups;
 mod listed;
@@ -16,17 +16,15 @@ mod sides;
 mod tally;
 
 fn main(rt: HostRuntime) -> io::Result<()> {
-    tally::sum_up(
-        &rt,
-        "all tables up to 3 by 3: ",
-        groups::small(tally::fresh()),
-    )?;
-    tally::sum_up(&rt, "some larger tables: ", groups::larger(tally::fresh()))?;
-    let five = listed::known(tally::fresh(), 5, 120);
-    let seven = listed::known(five, 7, 5_040);
-    tally::sum_up(
-        &rt,
-        "tables without the diagonal: ",
-        listed::known(seven, 8, 40_320),
-    )
+    let mut small = Tally::default();
+    groups::small(&mut small);
+    small.sum_up(&rt, "all tables up to 3 by 3: ")?;
+    let mut larger = Tally::default();
+    groups::larger(&mut larger);
+    larger.sum_up(&rt, "some larger tables: ")?;
+    let mut known = Tally::default();
+    for (n, ladders) in [(5, 120), (7, 5_040), (8, 40_320)] {
+        listed::known(&mut known, n, ladders);
+    }
+    known.sum_up(&rt, "tables without the diagonal: ")
 }

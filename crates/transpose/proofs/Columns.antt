@@ -9,7 +9,7 @@ use native.Mathlib.Decide.{dec_lt}
 use native.Mathlib.Omega.{arith}
 use lib.ListN.{length, set, drop, replicate, length-drop, length-replicate}
 use lib.Pow.{pow_mono, shr-shr}
-use lib.Seq.{sets as stored, sets-eq, length-sets, lt-length-set, ext_get_or, drop-cons, drop-length}
+use lib.Seq.{sets as stored, sets-eq, ext_get_or, drop-cons, drop-length}
 use Rattle.sets.specs.Lists.{tabulate}
 use Rattle.sets.proofs.Tabulated.{length-tabulate, get_or-tabulate}
 use Rattle.table.specs.Pairs.{row}
@@ -77,9 +77,6 @@ module _ (n k : ℕ) (rows : List ℕ) (few : n ≤ 64) where
               (omega (arith, length-drop (i - 1) (places n rows), length-places n rows)),
         ))
 
-  gathered_all : (i set : ℕ) → i ≤ 0 → Gathered n k rows i set → set ≡ column (places n rows) k
-  gathered_all i set h g = let e : i ≡ 0 = omega arith in g ∙ ap (λ (m : ℕ). column (drop m (places n rows)) k) e
-
 -- one word more of a list made from a function, as a loop stores it
 stored_next : (f : ℕ → ℕ) (l : List ℕ) (a k : ℕ) → stored l a (tabulate f (suc k)) ≡ set (stored l a (tabulate f k)) (a + k) (f k)
 unfolding tabulate
@@ -128,34 +125,11 @@ module _ (n k : ℕ) (rows : List ℕ) (few : n ≤ 64) where
       fourth = shifted 3 d ∙ gathered-more n (k + 3) rows few i d l h g.fourth;
     }
 
-  pub fours_all : (i a b c d : ℕ) → i ≤ 0 → Fours n k rows i a b c d → ◌≡◌ {A = Four} (record { a = a; b = b; c = c; d = d }) (four_of (places n rows) k)
-  fours_all i a b c d l g =
-      same a b c d (gathered_all n k rows few i a l g.first) (gathered_all n (k + 1) rows few i b l g.second)
-      (gathered_all n (k + 2) rows few i c l g.third) (gathered_all n (k + 3) rows few i d l g.fourth)
-    where
-      same : (a b c d : ℕ) → a ≡ column (places n rows) k → b ≡ column (places n rows) (k + 1) → c ≡ column (places n rows) (k + 2)
-          → d ≡ column (places n rows) (k + 3) → ◌≡◌ {A = Four} (record { a = a; b = b; c = c; d = d }) (four_of (places n rows) k)
-      same a b c d w x y z = rw (w, x, y, z)
-
--- what was stored before leaves the length as it is
-module _ (l : List ℕ) (i j : ℕ) (f : Four) (h : j < length l) where
-  in_two : j < length (set l i f.a)
-  in_two = lt-length-set l i f.a h
-
-  in_three : j < length (set (set l i f.a) (i + 1) f.b)
-  in_three = lt-length-set (set l i f.a) (i + 1) f.b in_two
-
-  pub in_four : j < length (set (set (set l i f.a) (i + 1) f.b) (i + 2) f.c)
-  in_four = lt-length-set (set (set l i f.a) (i + 1) f.b) (i + 2) f.c in_three
-
 -- ---- the columns, put from a place of a buffer on: those below k
 module _ (xs before : List ℕ) (at : ℕ) where
   pub putting_none : Putting xs before at 0 before
   unfolding transpose tabulate
   putting_none = record { words = refl }
-
-  pub putting_length : {k : ℕ} {now : List ℕ} → Putting xs before at k now → length now ≡ length before
-  putting_length {k} p = ap length p.words ∙ length-sets before at (transpose k xs)
 
   pub putting_more : (k : ℕ) (now : List ℕ) (v : ℕ) → Putting xs before at k now → v ≡ column xs k → Putting xs before at (k + 1) (set now (at + k) v)
   unfolding transpose
@@ -182,9 +156,6 @@ module _ (xs before : List ℕ) (at : ℕ) where
           let b : at + (k + (j + 1)) ≡ at + k + (j + 1) = omega arith in
           subst (λ (m : ℕ). Putting xs before at (k + (j + 1 + 1)) (set now m v)) b
           (subst (λ (m : ℕ). Putting xs before at m (set now (at + (k + (j + 1))) v)) a (putting_more (k + (j + 1)) now v p e))
-
-  pub putting_all : (k w : ℕ) (now : List ℕ) → k ≤ w → w ≤ k → Putting xs before at k now → Putting xs before at w now
-  putting_all k w now h l p = let e : k ≡ w = omega arith in subst (λ (m : ℕ). Putting xs before at m now) e p
 
 -- put into an array without rows, they are padded with zeros
 array_is : (w : ℕ) (xs : List ℕ) → w ≤ 64 → stored no_rows 0 (transpose w xs) ≡ padded (transpose w xs)

@@ -54,19 +54,17 @@ fn put_columns(rows: &[u64; 64], many: usize, width: usize, out: &mut [u64], at:
     requires { (many ≤ 64) × (width ≤ 64) × (at + width ≤ length out.old) }
     ensures { Putting (places many rows.now) out.old at width out.new }
 {
-    let mut k: usize = 0;
-    while k < width {
-        if k + 4 <= width {
-            let f = four_columns(rows, many, k as u64);
-            out[at + k] = f.a;
-            out[at + k + 1] = f.b;
-            out[at + k + 2] = f.c;
-            out[at + k + 3] = f.d;
-            k += 4;
-        } else {
-            out[at + k] = column(rows, many, k as u64);
-            k += 1;
-        }
+    let fours = width / 4;
+    for q in 0..fours {
+        let k = 4 * q;
+        let f = four_columns(rows, many, k as u64);
+        out[at + k] = f.a;
+        out[at + k + 1] = f.b;
+        out[at + k + 2] = f.c;
+        out[at + k + 3] = f.d;
+    }
+    for k in 4 * fours..width {
+        out[at + k] = column(rows, many, k as u64);
     }
 }
 
@@ -76,9 +74,7 @@ fn column(rows: &[u64; 64], many: usize, k: u64) -> u64
     ensures { result ≡ column_of (places many rows.now) k }
 {
     let mut set: u64 = 0;
-    let mut i = many;
-    while 0 < i {
-        i -= 1;
+    for i in (0..many).rev() {
         set = set * 2 + (rows[i] >> k) % 2;
     }
     set
@@ -93,19 +89,12 @@ fn four_columns(rows: &[u64; 64], many: usize, k: u64) -> Four
     let mut b: u64 = 0;
     let mut c: u64 = 0;
     let mut d: u64 = 0;
-    let mut i = many;
-    while 0 < i {
-        i -= 1;
+    for i in (0..many).rev() {
         let row = rows[i] >> k;
         a = a * 2 + row % 2;
         b = b * 2 + (row >> 1) % 2;
         c = c * 2 + (row >> 2) % 2;
         d = d * 2 + (row >> 3) % 2;
     }
-    Four {
-        a: a,
-        b: b,
-        c: c,
-        d: d,
-    }
+    Four { a, b, c, d }
 }

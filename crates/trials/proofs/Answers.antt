@@ -1,6 +1,7 @@
 -- The answers of trials. In order: the check of a place, by the code's tests; the answer for each outcome of a trial (`tried_place`, `tried-judged`,
 -- `tried-lesser`, `tried-unfit`); one answer (`tried_unique`) for every table, chain and place (`tried_exists`), a proposal where it is no refusal
 -- (`tried-proposes`); no two answers of the code read alike (`proposed_injective`). Those of commits are in Commits.antt.
+use Rattle.std.specs.Prelude.{Result, Ok, Err}
 use mathlib.Core.Path.{◌≡◌, refl, sym, ap, ◌∙◌, subst}
 use mathlib.Core.Logic.{⊎_elim}
 use mathlib.Core.Bool.{Bool, true, false, ◌&&◌, cond}
@@ -15,51 +16,23 @@ use Rattle.basics.proofs.Clash.{clash}
 use Rattle.refusals.specs.declared.Refusal.{Refusal}
 use Rattle.refusals.specs.declared.Refusal.TheVariants.{NotMaximal}
 use Rattle.refusals.specs.Answers.{number, Answer, refused}
-use Rattle.refusals.proofs.Answering.{number_pos, verdict_injective}
+use Rattle.refusals.proofs.Answering.{number_pos, answered_injective}
 use Rattle.table.specs.declared.Table.{Table}
 use Rattle.table.specs.declared.Chain.{Chain}
 use Rattle.table.specs.Chains.{IsMaximal}
 use Rattle.table.specs.Tables.{table_rows, chain_rows, in_range, table_refusal, chain_refusal}
 use Rattle.table.proofs.Legality.{both, range_is, legal_of}
 use Rattle.judge.specs.Judging.{judgement, Judged}
-use Rattle.judge.specs.declared.Judgement.{Judgement}
-use Rattle.judge.specs.declared.Judgement.TheVariants.{Yes, No, Refused}
 use Rattle.judge.proofs.Verdicts.{maximal_dec}
 use Rattle.trials.specs.Trials.{HasEffect, place_refusal, trial_refusal, Proposes, blank_proposal, no_proposal, Tried, proposed}
 use Rattle.trials.specs.private.Steps.{Placed, Passed}
 use Rattle.trials.specs.declared.Proposal.{Proposal}
-use Rattle.trials.specs.declared.Proposed.{Proposed}
 use Rattle.trials.proofs.Comparing.{proposal_same}
 use Rattle.trials.proofs.Flips.{flipped_exists, flipped_unique}
 use Rattle.trials.proofs.Effects.{effect_some, effect_one, shaped_of}
 
 pub pos : (n : ℕ) → ¬ (n ≡ 0) → 0 < n
 pos n h = ⊎_elim (λ e. absurd (h e)) (λ l. l) (eq-zero-or-pos n)
-
--- ---- the check of a place
-pub place_refused : (t : Table) (g c : ℕ) (x : Refusal) → number x ≡ table_refusal t → number x ≡ place_refusal t g c
-unfolding place_refusal
-place_refused t g c x e = let z : eqb (table_refusal t) 0 ≡ false = ne_eqb (table_refusal t) 0 (λ d. omega (arith, number_pos x)) in rw z e
-
-module _ (t : Table) (g c : ℕ) (e : table_refusal t ≡ 0) where
-  pub place_no_gauge : (a : Bool) → a ≡ in_range t.gauges g → a ≡ false → 7 ≡ place_refusal t g c
-  unfolding place_refusal
-  place_no_gauge a d f = let z : in_range t.gauges g ≡ false = sym d ∙ f in rw (e, z)
-
-  module _ (a b : Bool) (da : a ≡ in_range t.gauges g) (ta : a ≡ true) (db : b ≡ in_range t.cases c) where
-    pub place-no-case : b ≡ false → 7 ≡ place_refusal t g c
-    unfolding place_refusal
-    place-no-case f =
-        let y : in_range t.gauges g ≡ true = sym da ∙ ta in
-        let z : in_range t.cases c ≡ false = sym db ∙ f in
-        rw (e, y, z)
-
-    pub place-passes : b ≡ true → 0 ≡ place_refusal t g c
-    unfolding place_refusal
-    place-passes f =
-        let y : in_range t.gauges g ≡ true = sym da ∙ ta in
-        let z : in_range t.cases c ≡ true = sym db ∙ f in
-        rw (e, y, z)
 
 pub placed_of : (t : Table) (g c : ℕ) → length t.rows ≡ 64 → place_refusal t g c ≡ 0 → Placed t g c
 unfolding place_refusal
@@ -121,28 +94,28 @@ module _ (t : Table) (s : Chain) (g c : ℕ) (a : Answer Proposal) where
     tried-yes m d = record { refused = λ l. absurd (omega arith); not_maximal = λ y n. absurd (n m); given = λ y k. d }
 
 -- by the judge's answer, where the place passed
-module _ (t : Table) (s : Chain) (g c : ℕ) (e : place_refusal t g c ≡ 0) (j : Judgement)
+module _ (t : Table) (s : Chain) (g c : ℕ) (e : place_refusal t g c ≡ 0) (j : Result Bool Refusal)
     (d : Judged (chain_refusal t s) (IsMaximal (table_rows t) (chain_rows s)) j) where
-  number_by : (k : Judgement) → j ≡ k → (judgement k).refusal ≡ trial_refusal t s g c
-  number_by k y = ap (λ (x : Judgement). (judgement x).refusal) (sym y) ∙ d.refusal ∙ trial_chain t s g c e
+  number_by : (k : Result Bool Refusal) → j ≡ k → (judgement k).refusal ≡ trial_refusal t s g c
+  number_by k y = ap (λ (x : Result Bool Refusal). (judgement x).refusal) (sym y) ∙ d.refusal ∙ trial_chain t s g c e
 
-  pub yes_passed : j ≡ Yes → Passed t s
+  pub yes_passed : j ≡ Ok true → Passed t s
   yes_passed y = record {
-    passes = trial_chain t s g c e ∙ sym (number_by Yes y);
-    chain = (d.yes (ap (λ (x : Judgement). (judgement x).value) y)).chain;
+    passes = trial_chain t s g c e ∙ sym (number_by (Ok true) y);
+    chain = (d.yes (ap (λ (x : Result Bool Refusal). (judgement x).value) y)).chain;
   }
 
   module _ (a : Answer Proposal) where
-    pub tried-judged : j ≡ Yes → (a.refusal ≡ 0) × Proposes t s g c a.value → Tried t s g c a
-    tried-judged y p = tried-yes t s g c a (sym (number_by Yes y)) (d.yes (ap (λ (x : Judgement). (judgement x).value) y)) p
+    pub tried-judged : j ≡ Ok true → (a.refusal ≡ 0) × Proposes t s g c a.value → Tried t s g c a
+    tried-judged y p = tried-yes t s g c a (sym (number_by (Ok true) y)) (d.yes (ap (λ (x : Result Bool Refusal). (judgement x).value) y)) p
 
-    pub tried-lesser : j ≡ No → a ≡ refused NotMaximal blank_proposal → Tried t s g c a
+    pub tried-lesser : j ≡ Ok false → a ≡ refused NotMaximal blank_proposal → Tried t s g c a
     tried-lesser y p =
-        tried-no t s g c a (sym (number_by No y))
-        (d.no (trial_chain t s g c e ∙ sym (number_by No y)) (ap (λ (x : Judgement). (judgement x).value) y)) p
+        tried-no t s g c a (sym (number_by (Ok false) y))
+        (d.no (trial_chain t s g c e ∙ sym (number_by (Ok false) y)) (ap (λ (x : Result Bool Refusal). (judgement x).value) y)) p
 
-    pub tried-unfit : (x : Refusal) → j ≡ Refused x → a ≡ refused x blank_proposal → Tried t s g c a
-    tried-unfit x y p = tried_refused t s g c a x (number_by (Refused x) y) p
+    pub tried-unfit : (x : Refusal) → j ≡ Err x → a ≡ refused x blank_proposal → Tried t s g c a
+    tried-unfit x y p = tried_refused t s g c a x (number_by (Err x) y) p
 
 -- ---- one proposal, one answer
 proposes_unique : (t : Table) (s : Chain) (g c : ℕ) (p q : Proposal) → Proposes t s g c p → Proposes t s g c q → p ≡ q
@@ -214,8 +187,5 @@ module _ (t : Table) (s : Chain) (g c : ℕ) (n : length t.rows ≡ 64) (m : len
         go (no k) = absurd (omega (arith, ap (λ (y : Answer Proposal). y.refusal) (x.not_maximal trial-passes k)))
 
 -- ---- no two answers read alike
-pub proposed_injective : (r q : Proposed) → proposed r ≡ proposed q → r ≡ q
-proposed_injective r q e =
-    let v : r.verdict ≡ q.verdict = verdict_injective r.verdict q.verdict (ap (λ (a : Answer Proposal). a.refusal) e) in
-    let p : r.proposal ≡ q.proposal = ap (λ (a : Answer Proposal). a.value) e in
-    λ k. record { verdict = v k; proposal = p k }
+pub proposed_injective : (r q : Result Proposal Refusal) → proposed r ≡ proposed q → r ≡ q
+proposed_injective = answered_injective blank_proposal

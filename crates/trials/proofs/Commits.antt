@@ -1,5 +1,5 @@
--- The answers of commits. In order: the answer for each outcome of a commit, by the trial that the code makes (`committed_refused`, `committed-trial`,
--- `committed-differs`, `committed-same`); one answer (`committed_unique`) for every proposal and table (`committed_exists`); what an answer
+-- The answers of commits. In order: the answer for each outcome of a commit, by the trial that the code makes (`committed-trial`,
+-- `committed-differs`); one answer (`committed_unique`) for every proposal and table (`committed_exists`); what an answer
 -- without a refusal is (`commits`); a fresh trial can be committed on its table (`fresh_commits`), and on no other
 -- (`other_table`). When two proposals are the same is in Comparing.antt.
 use mathlib.Core.Path.{◌≡◌, refl, sym, ap, ◌∙◌, subst}
@@ -10,10 +10,8 @@ use native.Mathlib.Decide.{ℕ_discrete}
 use native.Mathlib.Omega.{arith}
 use lib.ListN.{length}
 use Rattle.basics.proofs.Clash.{clash}
-use Rattle.refusals.specs.declared.Refusal.{Refusal}
 use Rattle.refusals.specs.declared.Refusal.TheVariants.{OtherProposal}
-use Rattle.refusals.specs.Answers.{number, Answer, refused}
-use Rattle.refusals.proofs.Answering.{number_pos}
+use Rattle.refusals.specs.Answers.{Answer, refused}
 use Rattle.table.specs.declared.Table.{Table}
 use Rattle.table.specs.declared.Chain.{Chain}
 use Rattle.table.specs.Tables.{Legal, table_refusal, blank_table}
@@ -27,13 +25,6 @@ use Rattle.trials.proofs.Answers.{pos, answer_same, tried_unique, tried_exists, 
 
 -- ---- the answer of a commit, by its outcome
 module _ (p : Proposal) (t : Table) (a : Answer Table) where
-  pub committed_refused : (x : Refusal) → number x ≡ table_refusal t → a ≡ refused x blank_table → Committed p t a
-  committed_refused x e d = record {
-    refused = λ l. d ∙ ap no_table e;
-    other = λ z. absurd (omega (arith, number_pos x));
-    flipped = λ z. absurd (omega (arith, number_pos x));
-  }
-
   module _ (z : table_refusal t ≡ 0) where
     committed-other : ¬ IsTrialOn t p → a ≡ no_table 26 → Committed p t a
     committed-other n d = record { refused = λ l. absurd (omega arith); other = λ y m. d; flipped = λ y m. absurd (n m) }
@@ -59,9 +50,6 @@ module _ (p : Proposal) (t : Table) (a : Answer Table) where
         is-trial : b.refusal ≡ 0 → r ≡ true → IsTrialOn t p
         is-trial z e =
             subst (Tried t p.chain p.gauge.0 p.case.0) (answer_same b (record { refusal = 0; value = p }) z (sym (same.0 e))) x
-
-        pub committed-same : b.refusal ≡ 0 → r ≡ true → (a.refusal ≡ 0) × Flipped t p.gauge.0 p.case.0 a.value → Committed p t a
-        committed-same y e d = committed-yes (is-trial y e) d
 
 -- ---- one answer
 module _ (p : Proposal) (t : Table) (n : length t.rows ≡ 64) (m : length p.chain.rows ≡ 64) where

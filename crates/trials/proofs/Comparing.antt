@@ -1,18 +1,12 @@
--- When two proposals are the same. In order: parts that agree make two values the same (`table_same`, `chain_same`, `proposal_same`); the answers of the
--- code's comparisons, from effects and rows up to whole proposals (`effect_by_number`, `table_by_rows`, `chain_by_rows`, `proposal_by_effect`); and
--- two are the same or not (`proposal_discrete`). That a part which differs makes two values differ is `part_differs` of crate `table`.
-use mathlib.Core.Path.{◌≡◌, refl, sym, ap, ◌∙◌}
-use mathlib.Core.Logic.{◌↔◌}
-use mathlib.Core.Bool.{Bool, true}
+-- When two proposals are the same. In order: parts that agree make two values the same (`table_same`, `chain_same`, `proposal_same`); effects by their
+-- numbers (`effect_of_number`); and two proposals are the same or not (`proposal_discrete`).
+use mathlib.Core.Path.{◌≡◌, refl, ap}
 use mathlib.Core.List.{List-discrete}
 use Prim.Native.Nat.{ℕ}
 use native.Mathlib.Decide.{ℕ_discrete}
 use native.Mathlib.Omega.{arith}
-use lib.Dec.{eqb}
-use borrow.Author.Tests.{eqb-true, eq-eqb}
 use Rattle.table.specs.declared.Table.{Table}
 use Rattle.table.specs.declared.Chain.{Chain}
-use Rattle.trials.specs.private.Steps.{effect_number}
 use Rattle.trials.specs.declared.Effect.{Effect}
 use Rattle.trials.specs.declared.Effect.TheVariants.{StillMaximal, OnlyChain, NotWithin}
 use Rattle.trials.specs.declared.Proposal.{Proposal}
@@ -28,7 +22,12 @@ pub proposal_same : (p q : Proposal) → p.table ≡ q.table → p.chain ≡ q.c
     → p.effect ≡ q.effect → p ≡ q
 proposal_same p q a b g c e = λ i. record { table = a i; chain = b i; gauge = record { 0 = g i }; case = record { 0 = c i }; effect = e i }
 
--- ---- effects, tables, chains, proposals
+-- ---- effects, by a number for each
+abbrev effect_number : Effect → ℕ
+effect_number StillMaximal = 0
+effect_number OnlyChain = 1
+effect_number NotWithin = 2
+
 effect_of_number : (e f : Effect) → effect_number e ≡ effect_number f → e ≡ f
 effect_of_number StillMaximal StillMaximal d = refl
 effect_of_number StillMaximal OnlyChain d = absurd (omega arith)
@@ -39,27 +38,6 @@ effect_of_number OnlyChain NotWithin d = absurd (omega arith)
 effect_of_number NotWithin StillMaximal d = absurd (omega arith)
 effect_of_number NotWithin OnlyChain d = absurd (omega arith)
 effect_of_number NotWithin NotWithin d = refl
-
-pub effect_by_number : (e f : Effect) (m n : ℕ) → m ≡ effect_number e → n ≡ effect_number f → (eqb m n ≡ true) ↔ (e ≡ f)
-effect_by_number e f m n a b = (
-  λ d. effect_of_number e f (sym a ∙ eqb-true m n d ∙ b),
-  λ d. eq-eqb m n (a ∙ ap effect_number d ∙ sym b),
-)
-
-module _ (r : Bool) where
-  pub table_by_rows : (t u : Table) → t.gauges ≡ u.gauges → t.cases ≡ u.cases → (r ≡ true) ↔ (t.rows ≡ u.rows) → (r ≡ true) ↔ (t ≡ u)
-  table_by_rows t u a b s = (λ d. table_same t u a b (s.0 d), λ e. s.1 (ap (λ (x : Table). x.rows) e))
-
-  pub chain_by_rows : (s z : Chain) → s.gauges ≡ z.gauges → (r ≡ true) ↔ (s.rows ≡ z.rows) → (r ≡ true) ↔ (s ≡ z)
-  chain_by_rows s z a f = (λ d. chain_same s z a (f.0 d), λ e. f.1 (ap (λ (x : Chain). x.rows) e))
-
-  -- of the proposals, the tables and the chains were compared by tests of their own
-  pub proposal_by_effect : (p q : Proposal) (b k : Bool) → (b ≡ true) ↔ (p.table ≡ q.table) → b ≡ true → (k ≡ true) ↔ (p.chain ≡ q.chain) → k ≡ true
-      → p.gauge.0 ≡ q.gauge.0 → p.case.0 ≡ q.case.0 → (r ≡ true) ↔ (p.effect ≡ q.effect) → (r ≡ true) ↔ (p ≡ q)
-  proposal_by_effect p q b k t x s y g c f = (
-    λ d. proposal_same p q (t.0 x) (s.0 y) g c (f.0 d),
-    λ e. f.1 (ap (λ (z : Proposal). z.effect) e),
-  )
 
 pub proposal_discrete : (p q : Proposal) → Dec (p ≡ q)
 proposal_discrete p q =

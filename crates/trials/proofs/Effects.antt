@@ -1,8 +1,9 @@
 -- What a flip does to a maximal chain. In order: over a table of its shape the judge's answer tells the effect (`effect-yes`, `effect-no`,
 -- `effect-refused`); every chain has an effect (`effect_some`) and one alone (`effect_one`); a chain that passed the checks of the old table has the shape
 -- of the new one (`shaped_of`).
+use Rattle.std.specs.Prelude.{Result, Ok, Err}
 use mathlib.Core.Path.{◌≡◌, refl, sym, ap, ◌∙◌, subst, subst₂}
-use mathlib.Core.Bool.{true}
+use mathlib.Core.Bool.{Bool, true, false}
 use mathlib.Core.List.{List, [], ◌∷◌}
 use Prim.Native.Nat.{ℕ, suc, ◌<◌}
 use native.Mathlib.Decide.{ℕ_discrete, dec_lt}
@@ -22,8 +23,6 @@ use Rattle.table.specs.Tables.{table_rows, chain_rows, rows_within, chain_refusa
 use Rattle.table.proofs.Places.{within_sub}
 use Rattle.table.proofs.Legality.{legal_passes, chain_passes, ChainFacts, chain_facts, chain_within}
 use Rattle.judge.specs.Judging.{judgement, Judged}
-use Rattle.judge.specs.declared.Judgement.{Judgement}
-use Rattle.judge.specs.declared.Judgement.TheVariants.{Yes, No, Refused}
 use Rattle.judge.proofs.Verdicts.{judged_dec, maximal_dec}
 use Rattle.trials.specs.Trials.{Flipped, HasEffect}
 use Rattle.trials.specs.private.Steps.{Placed, Passed, Shaped}
@@ -52,26 +51,26 @@ module _ (u : Table) (s : Chain) (h : Shaped u s) (n : length u.rows ≡ 64) (m 
               (within_sub (table_rows u) (chain_rows s) w i)
           go (no l) = subst (λ (a : ℕ). a ⊆ row u.rows i) (sym (h.rest i (omega arith))) (zero_sub (row u.rows i))
 
-  module _ (j : Judgement) (d : Judged (chain_refusal u s) (IsMaximal (table_rows u) (chain_rows s)) j) where
-    effect-yes : j ≡ Yes → HasEffect StillMaximal u s
-    effect-yes e = d.yes (ap (λ (x : Judgement). (judgement x).value) e)
+  module _ (j : Result Bool Refusal) (d : Judged (chain_refusal u s) (IsMaximal (table_rows u) (chain_rows s)) j) where
+    effect-yes : j ≡ Ok true → HasEffect StillMaximal u s
+    effect-yes e = d.yes (ap (λ (x : Result Bool Refusal). (judgement x).value) e)
 
-    pub effect-no : j ≡ No → HasEffect OnlyChain u s
+    pub effect-no : j ≡ Ok false → HasEffect OnlyChain u s
     effect-no e =
-        let z : chain_refusal u s ≡ 0 = sym d.refusal ∙ ap (λ (x : Judgement). (judgement x).refusal) e in
-        (chain_within u s (chain_facts u s n z) m, h.chain, d.no z (ap (λ (x : Judgement). (judgement x).value) e))
+        let z : chain_refusal u s ≡ 0 = sym d.refusal ∙ ap (λ (x : Result Bool Refusal). (judgement x).refusal) e in
+        (chain_within u s (chain_facts u s n z) m, h.chain, d.no z (ap (λ (x : Result Bool Refusal). (judgement x).value) e))
 
-    pub effect-refused : (x : Refusal) → j ≡ Refused x → HasEffect NotWithin u s
-    effect-refused x e w = omega (arith, number_pos x, sym (ap (λ (y : Judgement). (judgement y).refusal) e) ∙ d.refusal, within_passes w)
+    pub effect-refused : (x : Refusal) → j ≡ Err x → HasEffect NotWithin u s
+    effect-refused x e w = omega (arith, number_pos x, sym (ap (λ (y : Result Bool Refusal). (judgement y).refusal) e) ∙ d.refusal, within_passes w)
 
 -- ---- the three effects leave none out, and exclude each other
 pub effect_some : (u : Table) (s : Chain) → Shaped u s → length u.rows ≡ 64 → length s.rows ≡ 64 → (e : Effect) × HasEffect e u s
 effect_some u s h n m = go (ℕ_discrete (chain_refusal u s) 0)
   where
-    told : (j : Judgement) → Judged (chain_refusal u s) (IsMaximal (table_rows u) (chain_rows s)) j → (e : Effect) × HasEffect e u s
-    told Yes d = (StillMaximal, effect-yes u s h n m Yes d refl)
-    told No d = (OnlyChain, effect-no u s h n m No d refl)
-    told (Refused x) d = (NotWithin, effect-refused u s h n m (Refused x) d x refl)
+    told : (j : Result Bool Refusal) → Judged (chain_refusal u s) (IsMaximal (table_rows u) (chain_rows s)) j → (e : Effect) × HasEffect e u s
+    told (Ok true) d = (StillMaximal, effect-yes u s h n m (Ok true) d refl)
+    told (Ok false) d = (OnlyChain, effect-no u s h n m (Ok false) d refl)
+    told (Err x) d = (NotWithin, effect-refused u s h n m (Err x) d x refl)
 
     go : Dec (chain_refusal u s ≡ 0) → (e : Effect) × HasEffect e u s
     go (yes z) = let (j, d) = judged_dec (chain_refusal u s) z (maximal_dec u s z n m) in told j d

@@ -9,8 +9,9 @@
 -- Elsewhere: that each relation can be met and leaves one answer, that the verdicts exclude each other and leave none
 -- out, and R-10's laws of flips, trials and commits: proofs/Flips.antt, Effects.antt, Answers.antt. Runs that are
 -- paused on the old table: crate `kept_runs`.
-use Rattle.std.specs.Prelude.{◌≡◌, ◌↔◌, ◌&&◌, cond, ℕ, ◌<◌, eqb, length}
-use Rattle.refusals.specs.Answers.{Answer, verdict}
+use Rattle.std.specs.Prelude.{◌≡◌, ◌↔◌, ◌&&◌, cond, ℕ, ◌<◌, eqb, length, Result}
+use Rattle.refusals.specs.Answers.{Answer, answered}
+use Rattle.refusals.specs.declared.Refusal.{Refusal}
 use Rattle.table.specs.declared.Table.{Table}
 use Rattle.table.specs.declared.Chain.{Chain}
 use Rattle.table.specs.Pairs.{Has, Within}
@@ -19,7 +20,6 @@ use Rattle.table.specs.Tables.{table_rows, chain_rows, in_range, table_refusal, 
 use Rattle.trials.specs.declared.Effect.{Effect}
 use Rattle.trials.specs.declared.Effect.TheVariants.{StillMaximal, OnlyChain, NotWithin}
 use Rattle.trials.specs.declared.Proposal.{Proposal}
-use Rattle.trials.specs.declared.Proposed.{Proposed}
 
 -- ---- the table with one entry flipped
 -- u is the table t "with that one entry flipped and every other kept": at the place g:c a pair is there exactly when
@@ -88,5 +88,5 @@ pub record Committed (p : Proposal) (t : Table) (a : Answer Table) : Type 0 wher
   pub flipped : table_refusal t ≡ 0 → IsTrialOn t p → (a.refusal ≡ 0) × Flipped t p.gauge.0 p.case.0 a.value
 
 -- ---- how the answer of a trial reads: the number, 0 where nothing is refused, and the proposal. That of a commit reads by `made` of crate `table`.
-abbrev pub proposed : Proposed → Answer Proposal
-proposed r = record { refusal = verdict r.verdict; value = r.proposal }
+abbrev pub proposed : Result Proposal Refusal → Answer Proposal
+proposed = answered blank_proposal

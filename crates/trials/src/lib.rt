@@ -1,24 +1,23 @@
 // Trial, then commit (02, R-10): what the flip of one table entry would do to a maximal chain (02: a ladder), shown ahead in a proposal, and the
 // commit of a proposal, which flips the entry on the table that it was shown for and on no other. Any table, chain, numbers and proposal are
-// taken: a trial refuses 10, 11, 7, 12, 13 and 25, a commit 10, 11 and 26, with blank values beside a refusal. Nothing is lent, and nothing is
+// taken: a trial refuses 10, 11, 7, 12, 13 and 25, a commit 10, 11 and 26. Nothing is lent, and nothing is
 // changed: a commit returns a new table. At most three judgements of a chain, 64 * 64 steps on sets of cases each.
 #![tactic(auto)]
 
 ghost use Rattle.std.specs.Prelude.{◌≡◌, ◌↔◌, true, ◌<◌};
-ghost use Rattle.refusals.specs.Answers.{verdict, refused};
+ghost use Rattle.refusals.specs.Answers.{verdict};
 ghost use Rattle.table.specs.Tables.{made};
-ghost use Rattle.trials.specs.Trials.{Flipped, HasEffect, place_refusal, Proposes, blank_proposal, Tried, Committed, proposed};
-ghost use Rattle.trials.specs.private.Steps.{Placed, Passed, Shaped, Toggled, effect_number};
+ghost use Rattle.trials.specs.Trials.{Flipped, HasEffect, place_refusal, Proposes, Tried, Committed, proposed};
+ghost use Rattle.trials.specs.private.Steps.{Placed, Passed, Shaped, Toggled};
 
 use judge;
-use judge::Judgement;
-use refusals::{Refusal, Verdict};
+use refusals::Refusal;
 use sets;
 use table;
-use table::{Case, Chain, Gauge, Made, Table};
+use table::{Case, Chain, Gauge, Table};
 
 // What a flip does to a maximal chain: over the new table it is maximal still, only a chain, or no longer within the table.
-#[derive(Clone, Copy)]
+#[derive(Clone, Copy, Debug, PartialEq, Eq)]
 pub enum Effect {
     StillMaximal,
     OnlyChain,
@@ -26,7 +25,7 @@ pub enum Effect {
 }
 
 // The flip of one entry as a trial shows it: the table and the maximal chain that it was tried on, the place, and the effect.
-#[derive(Clone, Copy)]
+#[derive(Clone, Copy, Debug, PartialEq, Eq)]
 pub struct Proposal {
     pub table: Table,
     pub chain: Chain,
@@ -35,136 +34,67 @@ pub struct Proposal {
     pub effect: Effect,
 }
 
-// A proposal, or a refusal with the blank proposal.
-#[derive(Clone, Copy)]
-pub struct Proposed {
-    pub verdict: Verdict,
-    pub proposal: Proposal,
-}
-
 // What flipping the entry of gauge `g` and case `c` would do to the maximal chain `s` of `t`.
-pub fn trial(t: Table, s: Chain, g: Gauge, c: Case) -> Proposed
+pub fn trial(t: Table, s: Chain, g: Gauge, c: Case) -> Result<Proposal, Refusal>
     ensures { Tried t s g.0 c.0 (proposed result) }
 {
-    let checked = check_place(t, g, c);
-    if let Verdict::Refused(why) = checked {
-        return refuse(why);
+    check_place(t, g, c)?;
+    let maximal = judge::judge_maximal(t, s)?;
+    if !maximal {
+        return Err(Refusal::NotMaximal);
     }
-    let judged = judge::judge_maximal(t, s);
-    match judged {
-        Judgement::Yes => propose(t, s, g, c),
-        Judgement::No => refuse(Refusal::NotMaximal),
-        Judgement::Refused(why) => refuse(why),
-    }
+    Ok(propose(t, s, g, c))
 }
 
 // The current table `t` with the entry flipped that `p` proposes, where `p` is what the trial on `t` gives.
-pub fn commit(p: Proposal, t: Table) -> Made
+pub fn commit(p: Proposal, t: Table) -> Result<Table, Refusal>
     ensures { Committed p t (made result) }
 {
-    let checked = table::check_table(t);
-    if let Verdict::Refused(why) = checked {
-        return table::refuse(why);
-    }
-    let g = p.gauge;
-    let c = p.case;
-    let s = p.chain;
-    let tried = trial(t, s, g, c);
-    let verdict = tried.verdict;
-    if let Verdict::Refused(why) = verdict {
-        return table::refuse(Refusal::OtherProposal);
-    }
-    let due = tried.proposal;
+    table::check_table(t)?;
+    let Ok(due) = trial(t, p.chain, p.gauge, p.case) else {
+        return Err(Refusal::OtherProposal);
+    };
     if !same_proposal(p, due) {
-        return table::refuse(Refusal::OtherProposal);
+        return Err(Refusal::OtherProposal);
     }
-    let new = flip(t, g, c);
-    Made {
-        verdict: Verdict::Accepted,
-        table: new,
-    }
+    Ok(flip(t, p.gauge, p.case))
 }
 
 // Whether two proposals are the same, whole: the table, the chain, the place and the effect.
 pub fn same_proposal(p: Proposal, q: Proposal) -> bool
     ensures { (result ≡ true) ↔ (p ≡ q) }
 {
-    let t = p.table;
-    let u = q.table;
-    if !same_table(t, u) {
-        return false;
-    }
-    let s = p.chain;
-    let z = q.chain;
-    if !same_chain(s, z) {
-        return false;
-    }
-    let g = p.gauge;
-    let h = q.gauge;
-    if g.0 != h.0 {
-        return false;
-    }
-    let c = p.case;
-    let d = q.case;
-    if c.0 != d.0 {
-        return false;
-    }
-    let e = p.effect;
-    let f = q.effect;
-    same_effect(e, f)
+    p == q
 }
 
 // The check of a place, after its table: 10, 11, then 7.
-fn check_place(t: Table, g: Gauge, c: Case) -> Verdict
+#[tactic(auto, using(refusals::proofs::Answering::number_pos), unfolding(crate::specs::Trials::place_refusal))]
+fn check_place(t: Table, g: Gauge, c: Case) -> Result<(), Refusal>
     ensures { verdict result ≡ place_refusal t g.0 c.0 }
 {
-    let checked = table::check_table(t);
-    if let Verdict::Refused(why) = checked {
-        return Verdict::Refused(why);
-    }
+    table::check_table(t)?;
     if !table::in_range(g.0, t.gauges) {
-        return Verdict::Refused(Refusal::PairRange);
+        return Err(Refusal::PairRange);
     }
     if !table::in_range(c.0, t.cases) {
-        return Verdict::Refused(Refusal::PairRange);
+        return Err(Refusal::PairRange);
     }
-    Verdict::Accepted
+    Ok(())
 }
 
 // The proposal for a place and a chain that passed.
-fn propose(t: Table, s: Chain, g: Gauge, c: Case) -> Proposed
+fn propose(t: Table, s: Chain, g: Gauge, c: Case) -> Proposal
     requires { Placed t g.0 c.0 × Passed t s }
-    ensures { ((proposed result).refusal ≡ 0) × Proposes t s g.0 c.0 result.proposal }
+    ensures { Proposes t s g.0 c.0 result }
 {
     let new = flip(t, g, c);
     let effect = effect_on(new, s);
-    let proposal = Proposal {
+    Proposal {
         table: t,
         chain: s,
         gauge: g,
         case: c,
-        effect: effect,
-    };
-    Proposed {
-        verdict: Verdict::Accepted,
-        proposal: proposal,
-    }
-}
-
-// A refusal, with the blank proposal.
-fn refuse(why: Refusal) -> Proposed
-    ensures { proposed result ≡ refused why blank_proposal }
-{
-    let proposal = Proposal {
-        table: table::blank_table(),
-        chain: table::blank_chain(),
-        gauge: Gauge(0),
-        case: Case(0),
-        effect: Effect::NotWithin,
-    };
-    Proposed {
-        verdict: Verdict::Refused(why),
-        proposal: proposal,
+        effect,
     }
 }
 
@@ -173,11 +103,10 @@ fn effect_on(u: Table, s: Chain) -> Effect
     requires { Shaped u s }
     ensures { HasEffect result u s }
 {
-    let judged = judge::judge_maximal(u, s);
-    match judged {
-        Judgement::Yes => Effect::StillMaximal,
-        Judgement::No => Effect::OnlyChain,
-        Judgement::Refused(_) => Effect::NotWithin,
+    match judge::judge_maximal(u, s) {
+        Ok(true) => Effect::StillMaximal,
+        Ok(false) => Effect::OnlyChain,
+        Err(_) => Effect::NotWithin,
     }
 }
 
@@ -206,45 +135,4 @@ fn toggled(row: u64, k: u64) -> u64
         return sets::without(row, k);
     }
     sets::with(row, k)
-}
-
-fn same_table(t: Table, u: Table) -> bool
-    ensures { (result ≡ true) ↔ (t ≡ u) }
-{
-    if t.gauges != u.gauges {
-        return false;
-    }
-    if t.cases != u.cases {
-        return false;
-    }
-    let a = t.rows;
-    let b = u.rows;
-    table::same_rows(&a, &b)
-}
-
-fn same_chain(s: Chain, z: Chain) -> bool
-    ensures { (result ≡ true) ↔ (s ≡ z) }
-{
-    if s.gauges != z.gauges {
-        return false;
-    }
-    let a = s.rows;
-    let b = z.rows;
-    table::same_rows(&a, &b)
-}
-
-fn same_effect(e: Effect, f: Effect) -> bool
-    ensures { (result ≡ true) ↔ (e ≡ f) }
-{
-    effect_number(e) == effect_number(f)
-}
-
-fn effect_number(e: Effect) -> u64
-    ensures { result ≡ effect_number e }
-{
-    match e {
-        Effect::StillMaximal => 0,
-        Effect::OnlyChain => 1,
-        Effect::NotWithin => 2,
-    }
 }

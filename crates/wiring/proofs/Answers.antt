@@ -12,6 +12,7 @@ use native.Mathlib.Omega.{arith}
 use lib.Count.{ones}
 use lib.ListN.{length, take, drop}
 use lib.Seq.{sets, sets-eq, get_or-take, length-take-le}
+use Rattle.std.specs.Prelude.{Result}
 use Rattle.sets.proofs.Order.{sub_bit}
 use Rattle.table.specs.declared.Table.{Table}
 use Rattle.table.specs.declared.Chain.{Chain}
@@ -22,13 +23,11 @@ use Rattle.table.proofs.Places.{within_sub}
 use Rattle.table.proofs.Legality.{ChainFacts, chain_facts, legal_cases, chain_within}
 use Rattle.refusals.specs.Answers.{number, Answer}
 use Rattle.refusals.specs.declared.Refusal.{Refusal}
-use Rattle.refusals.proofs.Answering.{number_pos, number_injective}
+use Rattle.refusals.proofs.Answering.{number_pos, answered_injective}
 use Rattle.pairs.specs.PairOrder.{Pair}
 use Rattle.pair_orders.specs.Adding.{FirstOrder, pair_bytes}
 use Rattle.pair_orders.specs.private.Growing.{pairs_in}
 use Rattle.pair_orders.proofs.Orders.{first_exists, first_order, first_unique, order_count}
-use Rattle.wiring.specs.declared.Ordered.{Ordered}
-use Rattle.wiring.specs.declared.Ordered.TheVariants.{Pairs, Refused}
 use Rattle.wiring.specs.Wiring.{ordered, Leads, LadderChecks, Checks, Refuses, Writes, WritesOrder, Wires}
 use Rattle.wiring.specs.private.Steps.{Checked, Between, Ready, StoresOrder}
 
@@ -226,8 +225,5 @@ wires_unique t s x out a b p q u v = go (ℕ_discrete u.number 0)
         refuses_unique u.number out a b p q (u.refused e) (subst (λ (n : ℕ). Refuses n out b q) same (v.refused (λ z. e (sym same ∙ z))))
 
 -- no two answers read alike
-pub ordered_injective : (r q : Ordered) → ordered r ≡ ordered q → r ≡ q
-ordered_injective (Pairs m) (Pairs n) e = ap Pairs (ap (λ (a : Answer ℕ). a.value) e)
-ordered_injective (Pairs m) (Refused y) e = absurd (omega (arith, ap (λ (a : Answer ℕ). a.refusal) e, number_pos y))
-ordered_injective (Refused x) (Pairs n) e = absurd (omega (arith, ap (λ (a : Answer ℕ). a.refusal) e, number_pos x))
-ordered_injective (Refused x) (Refused y) e = ap Refused (number_injective x y (ap (λ (a : Answer ℕ). a.refusal) e))
+pub ordered_injective : (r q : Result ℕ Refusal) → ordered r ≡ ordered q → r ≡ q
+ordered_injective = answered_injective 0

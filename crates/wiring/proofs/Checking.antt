@@ -1,5 +1,6 @@
 -- The checks ahead of the buffer, each answer by what led to it: of the ladder (`ladder_refused`, `ladder_no`, `ladder-lacks`, `ladder-yes`), and of
 -- the chain and then the ladder (`chain_refused`, `chain_no`, `chain_yes`).
+use Rattle.std.specs.Prelude.{Result, Ok, Err}
 use mathlib.Core.Path.{◌≡◌, refl, sym, ap, ◌∙◌, subst, subst₂}
 use mathlib.Core.Bool.{Bool, true, false}
 use Prim.Native.Nat.{ℕ, ◌<◌}
@@ -21,25 +22,23 @@ use Rattle.refusals.specs.Answers.{number}
 use Rattle.refusals.specs.declared.Refusal.{Refusal}
 use Rattle.refusals.proofs.Answering.{number_pos}
 use Rattle.judge.specs.Judging.{judgement, Judged}
-use Rattle.judge.specs.declared.Judgement.{Judgement}
-use Rattle.judge.specs.declared.Judgement.TheVariants.{Yes, No, Refused}
 use Rattle.judge.proofs.NestedTest.{as_true}
 use Rattle.pair_orders.proofs.Taking.{true-false}
 use Rattle.wiring.specs.Wiring.{Leads}
 use Rattle.wiring.specs.private.Steps.{LadderChecked, Checked, includes}
 
 -- ---- a judgement, by its case
-module _ (n : ℕ) (P : Type 0) (j : Judgement) (d : Judged n P j) where
-  judged_refused : (why : Refusal) → j ≡ Refused why → number why ≡ n
-  judged_refused why e = sym (ap (λ (z : Judgement). (judgement z).refusal) e) ∙ d.refusal
+module _ (n : ℕ) (P : Type 0) (j : Result Bool Refusal) (d : Judged n P j) where
+  judged_refused : (why : Refusal) → j ≡ Err why → number why ≡ n
+  judged_refused why e = sym (ap (λ (z : Result Bool Refusal). (judgement z).refusal) e) ∙ d.refusal
 
-  judged_yes : j ≡ Yes → (n ≡ 0) × P
-  judged_yes e = (sym d.refusal ∙ ap (λ (z : Judgement). (judgement z).refusal) e, d.yes (ap (λ (z : Judgement). (judgement z).value) e))
+  judged_yes : j ≡ Ok true → (n ≡ 0) × P
+  judged_yes e = (sym d.refusal ∙ ap (λ (z : Result Bool Refusal). (judgement z).refusal) e, d.yes (ap (λ (z : Result Bool Refusal). (judgement z).value) e))
 
-  judged_no : j ≡ No → (n ≡ 0) × (¬ P)
+  judged_no : j ≡ Ok false → (n ≡ 0) × (¬ P)
   judged_no e =
-      let z : n ≡ 0 = sym d.refusal ∙ ap (λ (z : Judgement). (judgement z).refusal) e in
-      (z, d.no z (ap (λ (z : Judgement). (judgement z).value) e))
+      let z : n ≡ 0 = sym d.refusal ∙ ap (λ (z : Result Bool Refusal). (judgement z).refusal) e in
+      (z, d.no z (ap (λ (z : Result Bool Refusal). (judgement z).value) e))
 
 -- ---- the rows of a chain that passes, by the table's number of gauges
 module _ (t : Table) (s x : Chain) (nt : length t.rows ≡ 64) (ns : length s.rows ≡ 64) (nx : length x.rows ≡ 64)
@@ -78,7 +77,7 @@ module _ (t : Table) (s x : Chain) (nt : length t.rows ≡ 64) (ns : length s.ro
 refusal_not : (why : Refusal) → ¬ (number why ≡ 0)
 refusal_not why e = omega (arith, number_pos why)
 
-module _ (t : Table) (s x : Chain) (j : Judgement) (d : Judged (chain_refusal t x) (IsMaximal (table_rows t) (chain_rows x)) j) where
+module _ (t : Table) (s x : Chain) (j : Result Bool Refusal) (d : Judged (chain_refusal t x) (IsMaximal (table_rows t) (chain_rows x)) j) where
   -- 25, where the chain passes its checks and is no ladder that contains s
   ladder_none : chain_refusal t x ≡ 0 → ¬ Leads t s x → LadderChecked t s x 25
   ladder_none e f = record {
@@ -87,7 +86,7 @@ module _ (t : Table) (s x : Chain) (j : Judgement) (d : Judged (chain_refusal t 
     leads = λ z. absurd (omega arith);
   }
 
-  pub ladder_refused : (why : Refusal) → j ≡ Refused why → LadderChecked t s x (number why)
+  pub ladder_refused : (why : Refusal) → j ≡ Err why → LadderChecked t s x (number why)
   ladder_refused why e = record {
     number = record {
       refused = λ z. is;
@@ -101,12 +100,12 @@ module _ (t : Table) (s x : Chain) (j : Judgement) (d : Judged (chain_refusal t 
       is : number why ≡ chain_refusal t x
       is = judged_refused (chain_refusal t x) (IsMaximal (table_rows t) (chain_rows x)) j d why e
 
-  pub ladder_no : j ≡ No → LadderChecked t s x 25
+  pub ladder_no : j ≡ Ok false → LadderChecked t s x 25
   ladder_no e =
       let (z, f) = judged_no (chain_refusal t x) (IsMaximal (table_rows t) (chain_rows x)) j d e in
       ladder_none z (λ l. f l.maximal)
 
-  module _ (e : j ≡ Yes) (nt : length t.rows ≡ 64) (ns : length s.rows ≡ 64) (nx : length x.rows ≡ 64) (es : chain_refusal t s ≡ 0) (a : Bool)
+  module _ (e : j ≡ Ok true) (nt : length t.rows ≡ 64) (ns : length s.rows ≡ 64) (nx : length x.rows ≡ 64) (es : chain_refusal t s ≡ 0) (a : Bool)
       (i : a ≡ includes x.rows s.rows t.gauges) where
     pub ladder-lacks : a ≡ false → LadderChecked t s x 25
     ladder-lacks f =
@@ -124,11 +123,11 @@ module _ (t : Table) (s x : Chain) (j : Judgement) (d : Judged (chain_refusal t 
         }
 
 -- ---- the chain, and then the ladder
-module _ (t : Table) (s x : Chain) (j : Judgement) (d : Judged (chain_refusal t s) (IsChain (chain_rows s)) j) where
-  chain_passes : j ≡ Yes → chain_refusal t s ≡ 0
+module _ (t : Table) (s x : Chain) (j : Result Bool Refusal) (d : Judged (chain_refusal t s) (IsChain (chain_rows s)) j) where
+  chain_passes : j ≡ Ok true → chain_refusal t s ≡ 0
   chain_passes e = (judged_yes (chain_refusal t s) (IsChain (chain_rows s)) j d e).0
 
-  pub chain_refused : (why : Refusal) → j ≡ Refused why → Checked t s x (number why)
+  pub chain_refused : (why : Refusal) → j ≡ Err why → Checked t s x (number why)
   chain_refused why e = record {
     number = record {
       refused = λ z. is;
@@ -144,7 +143,7 @@ module _ (t : Table) (s x : Chain) (j : Judgement) (d : Judged (chain_refusal t 
       is : number why ≡ chain_refusal t s
       is = judged_refused (chain_refusal t s) (IsChain (chain_rows s)) j d why e
 
-  pub chain_no : j ≡ No → Checked t s x 14
+  pub chain_no : j ≡ Ok false → Checked t s x 14
   chain_no e =
       let (z, f) = judged_no (chain_refusal t s) (IsChain (chain_rows s)) j d e in
       record {
@@ -155,7 +154,7 @@ module _ (t : Table) (s x : Chain) (j : Judgement) (d : Judged (chain_refusal t 
         leads = λ k. absurd (omega arith);
       }
 
-  pub chain_yes : j ≡ Yes → (n : ℕ) → LadderChecked t s x n → Checked t s x n
+  pub chain_yes : j ≡ Ok true → (n : ℕ) → LadderChecked t s x n → Checked t s x n
   chain_yes e n l =
       let (z, c) = judged_yes (chain_refusal t s) (IsChain (chain_rows s)) j d e in
       record {

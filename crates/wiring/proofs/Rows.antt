@@ -84,9 +84,6 @@ module _ (x s : List ℕ) (n i wide : ℕ) (r : Room s (row x i) i n wide) (t : 
 abbrev pub Passed : List ℕ → List ℕ → ℕ → ℕ → Type 0
 Passed x s n i = (j : ℕ) → j < i → Full x s n j
 
-pub passed_none : (x s : List ℕ) (n : ℕ) → Passed x s n 0
-passed_none x s n j l = absurd (omega arith)
-
 pub passed_more : (x s : List ℕ) (n i : ℕ) → Passed x s n i → Full x s n i → Passed x s n (i + 1)
 passed_more x s n i p f j l = go (ℕ_discrete j i)
   where
@@ -96,9 +93,6 @@ passed_more x s n i p f j l = go (ℕ_discrete j i)
 
 pub row_found : (x s : List ℕ) (n i : ℕ) → i < n → Passed x s n i → ¬ Full x s n i → FirstRow x s n i
 row_found x s n i l p f = record { few = omega arith; least = p; found = λ b. f }
-
-pub rows_passed : (x s : List ℕ) (n i : ℕ) → n ≤ i → Passed x s n i → FirstRow x s n n
-rows_passed x s n i l p = record { few = omega arith; least = λ j b. p j (omega arith); found = λ b. absurd (omega arith) }
 
 -- ---- the pairs counted
 pub pairs_none : (s : List ℕ) → 0 ≡ pairs_in s 0

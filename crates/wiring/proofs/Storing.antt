@@ -1,6 +1,6 @@
 -- The order, pair by pair: what is stored and what is still to be stored are the order (`Putting`). One law for the start, for each thing that a turn
 -- asks or does, and for the end.
-use mathlib.Core.Path.{◌≡◌, refl, sym, ap, ◌∙◌, subst}
+use mathlib.Core.Path.{◌≡◌, sym, ap, ◌∙◌, subst}
 use mathlib.Core.List.{List, [], ◌∷◌}
 use Prim.Native.Nat.{ℕ, suc, ◌+◌, ◌^◌, ◌≤◌, ◌<◌}
 use native.Mathlib.Numerals.{add-one}
@@ -15,7 +15,7 @@ use Rattle.pairs.specs.PairOrder.{Pair}
 use Rattle.pair_orders.specs.Adding.{with_pair, FirstOrder, pair_bytes}
 use Rattle.pair_orders.proofs.Adding.{plus_is, with_within}
 use Rattle.pair_orders.proofs.Orders.{next_unique, not_whole, first_unique}
-use Rattle.wiring.specs.private.Steps.{Between, Waiting, NextPlace, Ready, StoresOrder}
+use Rattle.wiring.specs.private.Steps.{Between, Waiting, NextPlace, StoresOrder}
 
 -- the rows are those of s and of the pairs stored so far, the buffer l has become m, and the next pair goes to the place at
 pub record Putting (x s : List ℕ) (n bytes : ℕ) (l rows m : List ℕ) (at : ℕ) : Type 0 where
@@ -28,19 +28,6 @@ pub record Putting (x s : List ℕ) (n bytes : ℕ) (l rows m : List ℕ) (at : 
   pub place : at + length (pair_bytes left) ≡ bytes
   pub room : bytes ≤ length l
   pub same : length m ≡ length l
-
-pub putting_start : (x s : List ℕ) (n bytes : ℕ) (l : List ℕ) → Ready x s n bytes l → Putting x s n bytes l s l 0
-putting_start x s n bytes l r = record {
-  order = r.order;
-  first = r.first;
-  left = r.order;
-  rest = r.first;
-  between = r.between;
-  stored = refl;
-  place = omega (arith, r.bytes);
-  room = r.room;
-  same = refl;
-}
 
 module _ (x s : List ℕ) (n bytes : ℕ) (l rows m : List ℕ) (at : ℕ) (p : Putting x s n bytes l rows m at) where
   -- ---- a turn: a pair is left

@@ -6,22 +6,20 @@
 --
 -- Elsewhere: that `Wires` leaves one answer and one buffer, `wires_unique` in proofs/Answers.antt; that no two answers read alike,
 -- `ordered_injective` there.
-use Rattle.std.specs.Prelude.{◌≡◌, List, ◌++◌, ℕ, ◌≤◌, ◌<◌, length, drop}
+use Rattle.std.specs.Prelude.{◌≡◌, List, ◌++◌, ℕ, ◌≤◌, ◌<◌, length, drop, Result}
 use Rattle.table.specs.declared.Table.{Table}
 use Rattle.table.specs.declared.Chain.{Chain}
 use Rattle.table.specs.Pairs.{Within}
 use Rattle.table.specs.Chains.{IsChain, IsMaximal}
 use Rattle.table.specs.Tables.{table_rows, chain_rows, chain_refusal}
-use Rattle.refusals.specs.Answers.{Answer, refused}
+use Rattle.refusals.specs.Answers.{Answer, answered}
+use Rattle.refusals.specs.declared.Refusal.{Refusal}
 use Rattle.pairs.specs.PairOrder.{Pair}
 use Rattle.pair_orders.specs.Adding.{FirstOrder, pair_bytes}
-use Rattle.wiring.specs.declared.Ordered.{Ordered}
-use Rattle.wiring.specs.declared.Ordered.TheVariants.{Pairs, Refused}
 
 -- how the code's answer reads: the number of the refusal, 0 where nothing is refused, and the number of pairs, 0 beside a refusal
-abbrev pub ordered : Ordered → Answer ℕ
-ordered (Pairs n) = record { refusal = 0; value = n }
-ordered (Refused why) = refused why 0
+abbrev pub ordered : Result ℕ Refusal → Answer ℕ
+ordered = answered 0
 
 -- ---- the checks
 -- "25: the second is no ladder or lacks a pair of the first": it is a ladder of t and has every pair of s

@@ -16,17 +16,9 @@ ghost use Rattle.wiring.specs.Wiring.{ordered, Wires};
 ghost use Rattle.wiring.specs.private.Steps.{Checked, LadderChecked, includes, Waiting, NextPlace, Ready, StoresOrder};
 
 use judge;
-use judge::Judgement;
-use refusals::{Refusal, Verdict};
+use refusals::Refusal;
 use sets;
 use table::{Case, Chain, Gauge, Table};
-
-// How many pairs were written, or a refusal.
-#[derive(Clone, Copy)]
-pub enum Ordered {
-    Pairs(usize),
-    Refused(Refusal),
-}
 
 // A pair by its places, counted from 0: the row, and the bit in it.
 #[derive(Clone, Copy)]
@@ -39,57 +31,50 @@ struct Place {
 const PLACES: u64 = 64;
 
 // Writes to the front of a buffer the pairs that `s` lacks of the ladder, each the first that can come next, and gives their number.
-pub fn write_order(t: Table, s: Chain, ladder: Chain, out: &mut [u8]) -> Ordered
+pub fn write_order(t: Table, s: Chain, ladder: Chain, out: &mut [u8]) -> Result<usize, Refusal>
     ensures wires { Wires t s ladder out.old (ordered result) out.new }
     ensures claims { OrderClaims }
 {
-    let checked = check(t, s, ladder);
-    if let Verdict::Refused(why) = checked {
-        return Ordered::Refused(why);
-    }
+    check(t, s, ladder)?;
     let goal = ladder.rows;
     let rows = s.rows;
     let n = t.gauges as usize;
     let count = pairs_in(&goal, n) - pairs_in(&rows, n);
     let size = 2 * count;
     if out.len() < size {
-        return Ordered::Refused(Refusal::BufferTooShort);
+        return Err(Refusal::BufferTooShort);
     }
     put_order(out, &goal, rows, n, size);
-    Ordered::Pairs(count)
+    Ok(count)
 }
 
 // The checks ahead of the buffer: 10 to 14 for the chain, then those of the ladder.
-fn check(t: Table, s: Chain, ladder: Chain) -> Verdict
+fn check(t: Table, s: Chain, ladder: Chain) -> Result<(), Refusal>
     ensures { Checked t s ladder (verdict result) }
 {
-    let judged = judge::judge_chain(t, s);
-    match judged {
-        Judgement::Refused(why) => Verdict::Refused(why),
-        Judgement::No => Verdict::Refused(Refusal::NotAChain),
-        Judgement::Yes => check_ladder(t, s, ladder),
+    let chain = judge::judge_chain(t, s)?;
+    if !chain {
+        return Err(Refusal::NotAChain);
     }
+    check_ladder(t, s, ladder)
 }
 
 // The checks of the ladder: 12 and 13, then 25 where it is none or lacks a pair of `s`.
-fn check_ladder(t: Table, s: Chain, ladder: Chain) -> Verdict
+fn check_ladder(t: Table, s: Chain, ladder: Chain) -> Result<(), Refusal>
     requires { chain_refusal t s ≡ 0 }
     ensures { LadderChecked t s ladder (verdict result) }
 {
-    let judged = judge::judge_maximal(t, ladder);
-    match judged {
-        Judgement::Refused(why) => Verdict::Refused(why),
-        Judgement::No => Verdict::Refused(Refusal::NotMaximal),
-        Judgement::Yes => {
-            let outer = ladder.rows;
-            let rows = s.rows;
-            let n = t.gauges as usize;
-            if contains(&outer, &rows, n) {
-                return Verdict::Accepted;
-            }
-            Verdict::Refused(Refusal::NotMaximal)
-        }
+    let maximal = judge::judge_maximal(t, ladder)?;
+    if !maximal {
+        return Err(Refusal::NotMaximal);
     }
+    let outer = ladder.rows;
+    let rows = s.rows;
+    let n = t.gauges as usize;
+    if contains(&outer, &rows, n) {
+        return Ok(());
+    }
+    Err(Refusal::NotMaximal)
 }
 
 // Each of the first `n` rows is within that of `outer`.
@@ -97,12 +82,10 @@ fn contains(outer: &[u64; 64], rows: &[u64; 64], n: usize) -> bool
     requires { n ≤ 64 }
     ensures { result ≡ includes outer.now rows.now n }
 {
-    let mut i = 0;
-    while i < n {
+    for i in 0..n {
         if !sets::subset(rows[i], outer[i]) {
             return false;
         }
-        i += 1;
     }
     true
 }
@@ -113,10 +96,8 @@ fn pairs_in(rows: &[u64; 64], n: usize) -> usize
     ensures { (result ≡ pairs_in rows.now n) × (result ≤ 4096) }
 {
     let mut total: usize = 0;
-    let mut i = 0;
-    while i < n {
+    for i in 0..n {
         total += case_count(rows[i]);
-        i += 1;
     }
     total
 }
@@ -135,6 +116,7 @@ fn put_order(out: &mut [u8], outer: &[u64; 64], chain: [u64; 64], n: usize, size
 {
     let mut rows = chain;
     let mut at = 0;
+    // `at` goes on by two bytes: `step_by(2)` says no more, and wants a measure too.
     while at < size {
         let next = next_pair(outer, &rows, n);
         let i = next.row;
@@ -170,13 +152,11 @@ fn next_row(outer: &[u64; 64], rows: &[u64; 64], n: usize) -> usize
     requires { n ≤ 64 }
     ensures { FirstRow outer.now rows.now n result }
 {
-    let mut i = 0;
-    while i < n {
+    for i in 0..n {
         let wide = judge::widest(rows, outer[i], i, n);
         if !sets::subset(wide, rows[i]) {
             return i;
         }
-        i += 1;
     }
     n
 }
@@ -185,14 +165,12 @@ fn next_row(outer: &[u64; 64], rows: &[u64; 64], n: usize) -> usize
 fn lowest_beyond(wide: u64, own: u64) -> u64
     ensures { FirstOf (beyond_own wide own) 0 64 result }
 {
-    let mut k: u64 = 0;
-    while k < PLACES {
+    for k in 0..PLACES {
         if beyond(wide, own, k) {
             return k;
         }
-        k += 1;
     }
-    k
+    PLACES
 }
 
 // Whether place `k` is in `wide` and not in `own`.

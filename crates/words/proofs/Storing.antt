@@ -1,11 +1,11 @@
 -- Laws of words that are put at a place: one more word, all of a list that a loop put word by word, and two lists one behind the other.
-use mathlib.Core.Path.{◌≡◌, refl, ap, sym, ◌∙◌}
+use mathlib.Core.Path.{◌≡◌, ap, sym, ◌∙◌}
 use mathlib.Core.List.{List, [], ◌∷◌, ◌++◌}
-use Prim.Native.Nat.{ℕ, zero, suc, ◌+◌, ◌≤◌, ◌<◌}
+use Prim.Native.Nat.{ℕ, zero, suc, ◌+◌, ◌<◌}
 use native.Mathlib.Nat.{not-suc-le-zero, le_of_suc-le-suc, add-zero, add-suc, suc-add}
 use native.Mathlib.Numerals.{add-one}
 use lib.ListN.{length, take, get_or, set}
-use lib.Seq.{sets as stored, take_all, length-sets, set_out}
+use lib.Seq.{sets as stored}
 use Rattle.words.specs.Layouts.{Put}
 
 stored_suc : (l : List ℕ) (a : ℕ) (vs : List ℕ) (i : ℕ) → i < length vs → stored l a (take (suc i) vs) ≡ set (stored l a (take i vs)) (a + i) (get_or vs i 0)
@@ -17,16 +17,6 @@ stored_append : (l : List ℕ) (a : ℕ) (vs us : List ℕ) → stored l a (vs +
 stored_append l a [] us = rw add-zero
 stored_append l a (v ∷ vs) us = rw (add-suc, ← suc-add) (stored_append (set l a v) (suc a) vs us)
 
-pub put_length : {l : List ℕ} {a : ℕ} {vs m : List ℕ} → Put l a vs m → length m ≡ length l
-put_length {l} {a} {vs} p = ap length p.words ∙ length-sets l a vs
-
--- nothing is put, or behind the last word
-pub put_none : {l : List ℕ} {a : ℕ} → Put l a [] l
-put_none = record { words = refl }
-
-pub put_behind : {l : List ℕ} {a v : ℕ} → length l ≤ a → Put l a (v ∷ []) l
-put_behind {l} {a} {v} h = record { words = sym (set_out l a v h) }
-
 -- a loop puts entry i
 pub put_more : {l : List ℕ} {a : ℕ} {m m' : List ℕ} {v : ℕ} (vs : List ℕ) (i : ℕ)
     → Put l a (take i vs) m → i < length vs → v ≡ get_or vs i 0 → Put m (a + i) (v ∷ []) m' → Put l a (take (i + 1) vs) m'
@@ -34,9 +24,6 @@ put_more {l} {a} {m} {m'} {v} vs i p h e q = record {
   words = q.words ∙ ap (λ (x : ℕ). set m (a + i) x) e ∙ ap (λ (x : List ℕ). set x (a + i) (get_or vs i 0)) p.words
       ∙ sym (rw add-one (stored_suc l a vs i h));
 }
-
-pub put_all : {l : List ℕ} {a : ℕ} {vs m : List ℕ} (i : ℕ) → Put l a (take i vs) m → length vs ≤ i → Put l a vs m
-put_all {l} {a} {vs} i p h = record { words = p.words ∙ ap (stored l a) (take_all i vs h) }
 
 -- two lists, the second from the place b on, where the first ends
 pub put_two : {l : List ℕ} {a b : ℕ} {vs us m m' : List ℕ} → Put l a vs m → Put m b us m' → b ≡ a + length vs → Put l a (vs ++ us) m'

@@ -7,9 +7,8 @@ ghost use Rattle.std.specs.Prelude.{◌≡◌, [], ◌∷◌};
 ghost use Rattle.refusals.specs.Answers.{verdict};
 ghost use Rattle.words.specs.Layouts.{word_at, rows_at, numbers_at, table_at, chain_at, table_words, chain_words, as_number, Put};
 
-use basics;
-use refusals;
-use refusals::Verdict;
+use refusals::Refusal;
+use std::array;
 use table::{Chain, Table};
 
 // What the C library returns where a lent slice is shorter than its layout.
@@ -29,12 +28,12 @@ const ROWS: usize = Table::MOST_GAUGES as usize;
 const NO_NUMBER: u64 = 255;
 
 // The number of a verdict: that of its refusal, or 0.
-pub fn verdict_number(v: Verdict) -> u64
+pub fn verdict_number(v: Result<(), Refusal>) -> u64
     ensures { result ≡ verdict v }
 {
     match v {
-        Verdict::Accepted => 0,
-        Verdict::Refused(why) => refusals::refusal_number(why),
+        Ok(()) => 0,
+        Err(why) => why.number(),
     }
 }
 
@@ -52,26 +51,14 @@ pub fn word_at(w: &[u64], at: usize) -> u64
 pub fn rows_at(w: &[u64], at: u32) -> [u64; 64]
     ensures { result ≡ rows_at at w.now }
 {
-    let mut rows = [0u64; 64];
-    let mut i: usize = 0;
-    while i < ROWS {
-        rows[i] = word_at(w, at as usize + i);
-        i += 1;
-    }
-    rows
+    array::from_fn(|i| word_at(w, at as usize + i))
 }
 
 // The 64 words from a place on as numbers of gauges or cases.
 pub fn numbers_at(w: &[u64], at: u32) -> [u8; 64]
     ensures { result ≡ numbers_at at w.now }
 {
-    let mut numbers = [0u8; 64];
-    let mut i: usize = 0;
-    while i < ROWS {
-        numbers[i] = as_number(word_at(w, at as usize + i));
-        i += 1;
-    }
-    numbers
+    array::from_fn(|i| as_number(word_at(w, at as usize + i)))
 }
 
 // The table at a place: gauges, cases, 64 rows.
@@ -112,10 +99,8 @@ pub fn put_word(out: &mut [u64], at: usize, v: u64)
 pub fn put_rows(out: &mut [u64], at: u32, rows: [u64; 64])
     ensures { Put out.old at rows out.new }
 {
-    let mut i: usize = 0;
-    while i < ROWS {
+    for i in 0..ROWS {
         put_word(out, at as usize + i, rows[i]);
-        i += 1;
     }
 }
 
@@ -123,10 +108,8 @@ pub fn put_rows(out: &mut [u64], at: u32, rows: [u64; 64])
 pub fn put_numbers(out: &mut [u64], at: u32, numbers: [u8; 64])
     ensures { Put out.old at numbers out.new }
 {
-    let mut i: usize = 0;
-    while i < ROWS {
-        put_word(out, at as usize + i, basics::wide(numbers[i]));
-        i += 1;
+    for i in 0..ROWS {
+        put_word(out, at as usize + i, u64::from(numbers[i]));
     }
 }
 

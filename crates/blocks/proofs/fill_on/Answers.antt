@@ -1,5 +1,6 @@
 -- `blocks::fill_on` meets its contract: after each turn the buffer is what `UpTo` says of the calls made so far, and each return is where no
 -- call follows (Fillings.antt).
+use Rattle.std.specs.Prelude.{Ok}
 use mathlib.Core.Path.{◌≡◌, refl, sym, ◌∙◌, subst}
 use mathlib.Core.Bool.{false}
 use Prim.Native.Nat.{◌+◌, ◌≤◌, ◌<◌}
@@ -9,33 +10,34 @@ use Rattle.rules.specs.Machine.{State}
 use Rattle.lists.specs.Lists.{gauge_side}
 use Rattle.runs.specs.Paused.{gauge_value}
 use Rattle.runs.specs.Calling.{value_refusal, PausedAt}
-use Rattle.blocks.specs.Filling.{Filling, longest}
+use Rattle.blocks.specs.declared.Block.{Block}
+use Rattle.blocks.specs.Filling.{block, longest}
 use Rattle.blocks.specs.private.Turning.{FillsOn}
 use Rattle.blocks.proofs.Fillings.{going, UpToOn, turn_on, some-on, stop_on, going_on}
 use Rattle.blocks.proofs.fill_on.Goals as goal
 
 pub returns-then-turn : goal.returns-then-turn
 returns-then-turn c =
-    let room : c.loop-turns.used + longest ≤ length c.args.out.now = omega (arith, c.if-most-used-lt-LONGEST.false, c.loop-turns.invariant.0, c.loop-turns.invariant.1, c.loop-turns.invariant.2) in
-    let turned : UpToOn (gauge_value c.args.start) c.args.out.now c.list_some-turn.result.stop (going (gauge_value c.list_some-turn.result.run) c.list_some-turn.result.next c.list_some-turn.result.over) c.list_some-turn.new.out = turn_on (gauge_value c.args.start) c.args.out.now (gauge_value c.loop-turns.run) c.loop-turns.used c.loop-turns.out
-    c.loop-turns.invariant.3 _ _ _ _ _ c.list_some-turn.ensures c.loop-turns.invariant.2 room in
-    subst (λ (f : Filling). FillsOn (gauge_value c.args.start) c.args.out.now f c.list_some-turn.new.out)
-    (sym c.accept-then-turn.ensures)
+    let room : c.loop-turn.used + longest ≤ length c.args.out.now = omega (arith, c.if-most-used-lt-LONGEST.false, c.loop-turn.invariant.0, c.loop-turn.invariant.1, c.loop-turn.invariant.2) in
+    let turned : UpToOn (gauge_value c.args.start) c.args.out.now c.list_some-turn.result.stop (going (gauge_value c.list_some-turn.result.run) c.list_some-turn.result.next c.list_some-turn.result.over) c.list_some-turn.new.out = turn_on (gauge_value c.args.start) c.args.out.now (gauge_value c.loop-turn.run) c.loop-turn.used c.loop-turn.out
+    c.loop-turn.invariant.3 _ _ _ _ _ c.list_some-turn.ensures c.loop-turn.invariant.2 room in
+    subst (λ (b : Block). FillsOn (gauge_value c.args.start) c.args.out.now (block (Ok b)) c.list_some-turn.new.out)
+    (sym c.filled-then-turn.ensures)
     (stop_on (gauge_value c.args.start) c.args.out.now _ _ _ refl turned c.if-turn.true)
 
-pub loop-turns-preserved : goal.loop-turns-preserved
-loop-turns-preserved c =
-    let room : c.loop-turns.used + longest ≤ length c.args.out.now = omega (arith, c.if-most-used-lt-LONGEST.false, c.loop-turns.invariant.0, c.loop-turns.invariant.1, c.loop-turns.invariant.2) in
-    let turned : UpToOn (gauge_value c.args.start) c.args.out.now c.list_some-turn.result.stop (going (gauge_value c.list_some-turn.result.run) c.list_some-turn.result.next c.list_some-turn.result.over) c.list_some-turn.new.out = turn_on (gauge_value c.args.start) c.args.out.now (gauge_value c.loop-turns.run) c.loop-turns.used c.loop-turns.out
-    c.loop-turns.invariant.3 _ _ _ _ _ c.list_some-turn.ensures c.loop-turns.invariant.2 room in
-    let some : value_refusal gauge_side (gauge_value c.args.start) ≡ 0 → (x : State) → PausedAt gauge_side (gauge_value c.args.start) x → longest ≤ length c.args.out.now → c.list_some-turn.result.stop ≡ false → c.loop-turns.used < c.list_some-turn.result.next = some-on (gauge_value c.args.start) c.args.out.now (gauge_value c.loop-turns.run) c.loop-turns.used c.loop-turns.out
-    c.loop-turns.invariant.3 _ _ _ _ _ c.list_some-turn.ensures c.loop-turns.invariant.2 room in
-    let long : length c.list_some-turn.new.out ≡ length c.loop-turns.out = c.list_some-turn.auto.out in
-    let l = c.loop-turns in (
+pub loop-turn-preserved : goal.loop-turn-preserved
+loop-turn-preserved c =
+    let room : c.loop-turn.used + longest ≤ length c.args.out.now = omega (arith, c.if-most-used-lt-LONGEST.false, c.loop-turn.invariant.0, c.loop-turn.invariant.1, c.loop-turn.invariant.2) in
+    let turned : UpToOn (gauge_value c.args.start) c.args.out.now c.list_some-turn.result.stop (going (gauge_value c.list_some-turn.result.run) c.list_some-turn.result.next c.list_some-turn.result.over) c.list_some-turn.new.out = turn_on (gauge_value c.args.start) c.args.out.now (gauge_value c.loop-turn.run) c.loop-turn.used c.loop-turn.out
+    c.loop-turn.invariant.3 _ _ _ _ _ c.list_some-turn.ensures c.loop-turn.invariant.2 room in
+    let some : value_refusal gauge_side (gauge_value c.args.start) ≡ 0 → (x : State) → PausedAt gauge_side (gauge_value c.args.start) x → longest ≤ length c.args.out.now → c.list_some-turn.result.stop ≡ false → c.loop-turn.used < c.list_some-turn.result.next = some-on (gauge_value c.args.start) c.args.out.now (gauge_value c.loop-turn.run) c.loop-turn.used c.loop-turn.out
+    c.loop-turn.invariant.3 _ _ _ _ _ c.list_some-turn.ensures c.loop-turn.invariant.2 room in
+    let long : length c.list_some-turn.new.out ≡ length c.loop-turn.out = c.list_some-turn.auto.out in
+    let l = c.loop-turn in (
       refl,
       omega (arith, long, c.list_some-turn.ensures.inside),
       long ∙ l.invariant.2,
       going_on (gauge_value c.args.start) c.args.out.now _ _ _ _ _ turned c.if-turn.false,
-      λ ok x p far. omega (arith, l.invariant.4 ok x p far, some ok x p far c.if-turn.false, c.loop-turns-test.true),
+      λ ok x p far. omega (arith, l.invariant.4 ok x p far, some ok x p far c.if-turn.false, c.loop-turn-test.true),
       c.list_some-turn.auto.words ∙ l.invariant.5,
     )

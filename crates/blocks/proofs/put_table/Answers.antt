@@ -4,7 +4,7 @@ use Rattle.file_writer.specs.Writing.{written}
 use Rattle.blocks.proofs.OneTurn.{put_refused}
 use Rattle.blocks.proofs.put_table.Goals as goal
 
-pub returns-in-Refused : goal.returns-in-Refused
-returns-in-Refused c =
-    put_refused c.args.t c.args.out.now c.args.at c.requires c.in-Refused.field-0 _
-    (sym (ap written c.in-Refused.is) ∙ c.write-written.ensures.result_value)
+pub returns-in-Err : goal.returns-in-Err
+returns-in-Err c =
+    put_refused c.args.t c.args.out.now c.args.at c.requires c.in-Err.field-0 _
+    (sym (ap written c.in-Err.is) ∙ c.write.ensures.result_value)

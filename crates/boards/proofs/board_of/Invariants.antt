@@ -4,6 +4,3 @@ use Rattle.boards.proofs.board_of.Given as goal
 
 abbrev pub invariant-loop-i : goal.invariant-loop-i
 invariant-loop-i l = Packed l.rows l.i l.board
-
-abbrev pub decreases-loop-i : goal.decreases-loop-i
-decreases-loop-i l = l.i

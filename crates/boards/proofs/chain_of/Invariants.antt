@@ -1,10 +1,6 @@
 -- `boards::chain_of` meets its contract: each turn reads one row more (`Read`).
-use Prim.Native.Nat.{◌-◌}
 use Rattle.boards.proofs.Packing.{Read}
 use Rattle.boards.proofs.chain_of.Given as goal
 
 abbrev pub invariant-loop-i : goal.invariant-loop-i
 invariant-loop-i l = Read l.board l.i l.left l.rows
-
-abbrev pub decreases-loop-i : goal.decreases-loop-i
-decreases-loop-i l = 8 - l.i

@@ -10,8 +10,5 @@ use Rattle.c_recorded.proofs.put_readings.Goals as goal
 
 pub loop-i-preserved : goal.loop-i-preserved
 loop-i-preserved c =
-    let size : length c.args.readings ≡ 4096 = search rules in (
-      omega arith,
-      put_more c.args.readings c.loop-i.i c.loop-i.invariant.1 (omega (arith, size))
-          (to_z-of_z {w = mir.Syntax.w32} (sfits_of c.v-1.given)) c.put_reading.ensures,
-    )
+    let size : length c.args.readings ≡ 4096 = search rules in
+    put_more c.args.readings c.loop-i.i c.loop-i.invariant (omega (arith, size)) (to_z-of_z {w = mir.Syntax.w32} (sfits_of c.v-1.given)) c.put_reading.ensures

@@ -1,16 +1,19 @@
 -- `c_recorded::read_test` meets its contract: the reader's answer, put part by part.
+use mathlib.Core.Path.{refl}
+use native.Mathlib.Omega.{arith}
+use Rattle.std.specs.Prelude.{Ok, Err}
+use Rattle.refusals.proofs.Answering.{number_pos}
 use Rattle.file_reader.specs.Promises.{recording}
 use Rattle.words.proofs.Serving.{long, long_two}
 use Rattle.c_recorded.proofs.Serving.{reads-refused, reads-done, neither}
 use Rattle.c_recorded.proofs.read_test.Goals as goal
 
-pub returns-then-n-ne0 : goal.returns-then-n-ne0
-returns-then-n-ne0 c =
+pub returns-in-Err : goal.returns-in-Err
+returns-in-Err c =
     reads-refused _ _ _ _ _ (neither (long_two c.if-test-lt-TEST.false c.if-readings-lt-READINGS.false) (long c.if-table-lt-TABLE.false))
-    (recording c.read_test-answer.result) c.read_test-answer.ensures _ c.verdict_number-n.ensures c.if-n-ne0.true
+    (recording (Err c.in-Err.why)) c.in-Err.ensures _ c.number.ensures (λ z. omega (arith, number_pos c.in-Err.why))
 
-pub returns : goal.returns
-returns c =
+pub returns-in-Ok : goal.returns-in-Ok
+returns-in-Ok c =
     reads-done _ _ _ _ _ (neither (long_two c.if-test-lt-TEST.false c.if-readings-lt-READINGS.false) (long c.if-table-lt-TABLE.false))
-    (recording c.read_test-answer.result) c.read_test-answer.ensures _ c.verdict_number-n.ensures _ _ _ c.if-n-ne0.false
-    c.put_test.ensures c.put_readings.ensures c.put_table.ensures
+    (recording (Ok c.in-Ok.recording)) c.in-Ok.ensures 0 refl _ _ _ refl c.put_test.ensures c.put_readings.ensures c.put_table.ensures

@@ -1,10 +1,6 @@
 -- `c_recorded::readings_at` meets its contract: the readings passed are those of the slice.
-use Prim.Native.Nat.{◌-◌}
 use Rattle.c_recorded.proofs.Readings.{Taken}
 use Rattle.c_recorded.proofs.readings_at.Given as goal
 
 abbrev pub invariant-loop-i : goal.invariant-loop-i
 invariant-loop-i l = Taken l.v l.readings l.i
-
-abbrev pub decreases-loop-i : goal.decreases-loop-i
-decreases-loop-i l = 4096 - l.i

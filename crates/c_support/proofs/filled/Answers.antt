@@ -1,8 +1,8 @@
--- `c_support::filled` meets its contract: the bytes passed are those of the text, or zeros after it.
-use native.Mathlib.Omega.{arith}
-use Rattle.sets.proofs.Tabulated.{filled_all}
+-- `c_support::filled` meets its contract: each byte is that of the text, or a zero after it.
+use Rattle.std.proofs.Common.{rules}
+use Rattle.sets.proofs.Tabulated.{from_fn_tabulated}
 use Rattle.c_support.proofs.Texts.{text_is}
 use Rattle.c_support.proofs.filled.Goals as goal
 
 pub returns : goal.returns
-returns c = text_is c.args.s.now _ (filled_all _ c.loop-i.invariant (omega arith))
+returns c = text_is c.args.s.now _ (from_fn_tabulated _ _ _ (λ i y q l k. search rules) c.from_fn-bytes.ensures.items)

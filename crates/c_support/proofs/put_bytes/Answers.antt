@@ -1,12 +1,10 @@
--- `c_support::put_bytes` meets its contract: the bytes passed are stored.
-use borrow.Author.Rules.{rules}
-use native.Mathlib.Omega.{arith}
-use mathlib.Core.Path.{◌≡◌}
-use lib.ListN.{length}
-use Rattle.c_support.proofs.Texts.{put_byte}
+-- `c_support::put_bytes` meets its contract: the bytes are stored over the front.
+use Rattle.std.proofs.Common.{◌≡◌, ◌∙◌, sym, length, length-take-le, rules}
+use Rattle.c_support.proofs.Texts.{put_front}
 use Rattle.c_support.proofs.put_bytes.Goals as goal
 
-pub loop-i-preserved : goal.loop-i-preserved
-loop-i-preserved c =
-    let size : length c.args.bytes ≡ 80 = search rules in
-    (omega arith, put_byte c.args.bytes c.loop-i.i c.loop-i.invariant.1 (omega (arith, size)))
+pub copy_from_slice-requires : goal.copy_from_slice-requires
+copy_from_slice-requires c = let size : length c.args.bytes ≡ 80 = search rules in length-take-le 80 _ c.requires ∙ sym size
+
+pub returns : goal.returns
+returns c = put_front c.args.bytes (search rules) c.requires c.copy_from_slice.ensures.after

@@ -2,8 +2,5 @@
 use Rattle.essentials.proofs.Outdoing.{Keeping}
 use Rattle.essentials.proofs.essential_row.Given as goal
 
-abbrev pub invariant-loop-rest : goal.invariant-loop-rest
-invariant-loop-rest l = Keeping l.rows l.g l.kept l.rest
-
-abbrev pub decreases-loop-rest : goal.decreases-loop-rest
-decreases-loop-rest l = l.rest
+abbrev pub invariant-loop-k : goal.invariant-loop-k
+invariant-loop-k l = Keeping l.rows l.g l.kept (l.k-iterator).0

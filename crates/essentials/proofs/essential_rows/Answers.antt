@@ -1,10 +1,9 @@
 -- `essentials::essential_rows` meets its contract: the rows passed have their essential pairs, the others none.
-use mathlib.Core.Path.{◌≡◌}
+use mathlib.Core.Path.{◌≡◌, sym}
 use native.Mathlib.Omega.{arith}
 use lib.ListN.{length}
 use borrow.Author.Rules.{rules}
 use Rattle.table.specs.Tables.{Legal}
-use Rattle.refusals.proofs.Answering.{verdict_accepted}
 use Rattle.table.proofs.Legality.{legal_of}
 use Rattle.essentials.proofs.Outdoing.{finding_none, finding_more, finding_all, ready}
 use Rattle.essentials.proofs.essential_rows.Goals as goal
@@ -12,7 +11,7 @@ use Rattle.essentials.proofs.essential_rows.Goals as goal
 pub unions-store-requires : goal.unions-store-requires
 unions-store-requires c =
     let rows-length : length c.args.t.rows ≡ 64 = search rules in
-    let legal : Legal c.args.t = legal_of _ rows-length (verdict_accepted _ _ c.in_default.is c.check_table-checked.ensures) in
+    let legal : Legal c.args.t = legal_of _ rows-length (sym c.in_ok-check_table.ensures) in
     legal.gauges_high
 
 pub loop-i-init : goal.loop-i-init
@@ -21,7 +20,7 @@ loop-i-init c = finding_none _ _
 pub essential_row-requires : goal.essential_row-requires
 essential_row-requires c =
     let rows-length : length c.args.t.rows ≡ 64 = search rules in
-    let legal : Legal c.args.t = legal_of _ rows-length (verdict_accepted _ _ c.in_default.is c.check_table-checked.ensures) in (
+    let legal : Legal c.args.t = legal_of _ rows-length (sym c.in_ok-check_table.ensures) in (
       ready _ legal _ c.unions-store.ensures,
       omega arith,
     )
@@ -29,24 +28,24 @@ essential_row-requires c =
 pub offset_bounds-found-i : goal.offset_bounds-found-i
 offset_bounds-found-i c =
     let rows-length : length c.args.t.rows ≡ 64 = search rules in
-    let legal : Legal c.args.t = legal_of _ rows-length (verdict_accepted _ _ c.in_default.is c.check_table-checked.ensures) in
+    let legal : Legal c.args.t = legal_of _ rows-length (sym c.in_ok-check_table.ensures) in
     omega (arith, legal.gauges_high)
 
 pub bounds-found-i : goal.bounds-found-i
 bounds-found-i c =
     let rows-length : length c.args.t.rows ≡ 64 = search rules in
-    let legal : Legal c.args.t = legal_of _ rows-length (verdict_accepted _ _ c.in_default.is c.check_table-checked.ensures) in
+    let legal : Legal c.args.t = legal_of _ rows-length (sym c.in_ok-check_table.ensures) in
     omega (arith, legal.gauges_high)
 
 pub loop-i-preserved : goal.loop-i-preserved
 loop-i-preserved c =
     let rows-length : length c.args.t.rows ≡ 64 = search rules in
-    let legal : Legal c.args.t = legal_of _ rows-length (verdict_accepted _ _ c.in_default.is c.check_table-checked.ensures) in
+    let legal : Legal c.args.t = legal_of _ rows-length (sym c.in_ok-check_table.ensures) in
     finding_more _ _ _ _ _ c.loop-i.invariant c.loop-i-test.true
     legal.gauges_high c.essential_row.ensures
 
 pub returns : goal.returns
 returns c =
     let rows-length : length c.args.t.rows ≡ 64 = search rules in
-    let legal : Legal c.args.t = legal_of _ rows-length (verdict_accepted _ _ c.in_default.is c.check_table-checked.ensures) in
+    let legal : Legal c.args.t = legal_of _ rows-length (sym c.in_ok-check_table.ensures) in
     finding_all _ legal _ _ c.loop-i.invariant c.loop-i-test.false

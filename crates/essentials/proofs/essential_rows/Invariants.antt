@@ -1,10 +1,6 @@
 -- `essentials::essential_rows` meets its contract: the rows passed have their essential pairs, the others none.
-use Prim.Native.Nat.{◌-◌}
 use Rattle.essentials.proofs.Outdoing.{Finding}
 use Rattle.essentials.proofs.essential_rows.Given as goal
 
 abbrev pub invariant-loop-i : goal.invariant-loop-i
 invariant-loop-i l = Finding l.rows l.n l.found l.i
-
-abbrev pub decreases-loop-i : goal.decreases-loop-i
-decreases-loop-i l = l.n - l.i

@@ -1,62 +1,45 @@
 -- `essentials::is_essential` meets its contract: the check refuses by its number, and a pair that none outdoes is essential.
-use mathlib.Core.Path.{◌≡◌}
+use mathlib.Core.Path.{◌≡◌, sym}
 use lib.ListN.{length}
 use borrow.Author.Rules.{rules}
-use Rattle.refusals.proofs.Answering.{verdict_refused, verdict_accepted}
-use Rattle.judge.proofs.Verdicts.{judged_refused}
 use Rattle.conflicts.proofs.Covering.{conflict_claims}
-use Rattle.essentials.proofs.Answers.{PairFacts, pair_facts, placed, essential-yes, essential-no}
+use Rattle.essentials.proofs.Answers.{PairFacts, pair_facts, placed, essential-judged}
 use Rattle.essentials.proofs.Outdoing.{ready}
 use Rattle.essentials.proofs.is_essential.Goals as goal
 
-pub returns-in-Refused : goal.returns-in-Refused
-returns-in-Refused c =
-    record {
-      judged = judged_refused _ _ (verdict_refused _ _ _ c.in-Refused.is c.check_pair-checked.ensures);
-      claims = λ e. conflict_claims _;
-    }
+pub returns-in_err-check_pair-clause-claims : goal.returns-in_err-check_pair-clause-claims
+returns-in_err-check_pair-clause-claims c = λ e. conflict_claims _
 
 pub unions-store-requires : goal.unions-store-requires
 unions-store-requires c =
     let rows-length : length c.args.t.rows ≡ 64 = search rules in
-    let facts : PairFacts c.args.t c.args.g.0 c.args.c.0 rows-length = pair_facts _ _ _ _ (verdict_accepted _ _ c.in_default.is c.check_pair-checked.ensures) in
+    let facts : PairFacts c.args.t c.args.g.0 c.args.c.0 rows-length = pair_facts _ _ _ _ (sym c.in_ok-check_pair.ensures) in
     facts.legal.gauges_high
 
 pub overflow_sub-i : goal.overflow_sub-i
 overflow_sub-i c =
     let rows-length : length c.args.t.rows ≡ 64 = search rules in
-    let facts : PairFacts c.args.t c.args.g.0 c.args.c.0 rows-length = pair_facts _ _ _ _ (verdict_accepted _ _ c.in_default.is c.check_pair-checked.ensures) in
+    let facts : PairFacts c.args.t c.args.g.0 c.args.c.0 rows-length = pair_facts _ _ _ _ (sym c.in_ok-check_pair.ensures) in
     facts.pair.gauge
 
 pub overflow_sub-c : goal.overflow_sub-c
 overflow_sub-c c =
     let rows-length : length c.args.t.rows ≡ 64 = search rules in
-    let facts : PairFacts c.args.t c.args.g.0 c.args.c.0 rows-length = pair_facts _ _ _ _ (verdict_accepted _ _ c.in_default.is c.check_pair-checked.ensures) in
+    let facts : PairFacts c.args.t c.args.g.0 c.args.c.0 rows-length = pair_facts _ _ _ _ (sym c.in_ok-check_pair.ensures) in
     facts.pair.case
 
 pub outdone-requires : goal.outdone-requires
 outdone-requires c =
     let rows-length : length c.args.t.rows ≡ 64 = search rules in
-    let facts : PairFacts c.args.t c.args.g.0 c.args.c.0 rows-length = pair_facts _ _ _ _ (verdict_accepted _ _ c.in_default.is c.check_pair-checked.ensures) in
+    let facts : PairFacts c.args.t c.args.g.0 c.args.c.0 rows-length = pair_facts _ _ _ _ (sym c.in_ok-check_pair.ensures) in
     let f = facts in
     (ready _ f.legal _ c.unions-store.ensures, placed _ _ _ _ f)
-
-pub returns-then-outdone : goal.returns-then-outdone
-returns-then-outdone c =
-    let rows-length : length c.args.t.rows ≡ 64 = search rules in
-    let facts : PairFacts c.args.t c.args.g.0 c.args.c.0 rows-length = pair_facts _ _ _ _ (verdict_accepted _ _ c.in_default.is c.check_pair-checked.ensures) in
-    record {
-      judged = essential-no _ _ _ _ facts _ c.outdone.ensures
-          c.if-outdone.true;
-      claims = λ e. conflict_claims _;
-    }
 
 pub returns : goal.returns
 returns c =
     let rows-length : length c.args.t.rows ≡ 64 = search rules in
-    let facts : PairFacts c.args.t c.args.g.0 c.args.c.0 rows-length = pair_facts _ _ _ _ (verdict_accepted _ _ c.in_default.is c.check_pair-checked.ensures) in
+    let facts : PairFacts c.args.t c.args.g.0 c.args.c.0 rows-length = pair_facts _ _ _ _ (sym c.in_ok-check_pair.ensures) in
     record {
-      judged = essential-yes _ _ _ _ facts _ c.outdone.ensures
-          c.if-outdone.false;
+      judged = essential-judged _ _ _ _ facts _ c.outdone.ensures;
       claims = λ e. conflict_claims _;
     }

@@ -1,10 +1,7 @@
 -- `essentials::outdone` meets its contract: no row passed has such a pair.
-use Prim.Native.Nat.{ℕ, ◌≤◌, ◌<◌, ◌-◌}
+use Prim.Native.Nat.{ℕ, ◌<◌}
 use Rattle.essentials.specs.private.Unions.{OutdoneIn}
 use Rattle.essentials.proofs.outdone.Given as goal
 
 abbrev pub invariant-loop-h : goal.invariant-loop-h
-invariant-loop-h l = (l.h ≤ l.n) × ((j : ℕ) → j < l.h → OutdoneIn l.rows l.g l.k j → ⊥)
-
-abbrev pub decreases-loop-h : goal.decreases-loop-h
-decreases-loop-h l = l.n - l.h
+invariant-loop-h l = (j : ℕ) → j < l.h → OutdoneIn l.rows l.g l.k j → ⊥

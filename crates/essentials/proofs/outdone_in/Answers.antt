@@ -1,4 +1,5 @@
 -- `essentials::outdone_in` meets its contract: of the places that the loop passed none has conflicts that strictly contain those of the pair.
+use Rattle.sets.specs.First.{Next}
 use Rattle.essentials.proofs.Outdoing.{not_within, place_found, place-passed, none_found}
 use Rattle.essentials.proofs.outdone_in.Goals as goal
 
@@ -7,20 +8,19 @@ returns-then-not-subset c = not_within _ _ _ c.requires.0 _ _ c.requires.1 _ c.r
 
 pub returns-then-not-included : goal.returns-then-not-included
 returns-then-not-included c =
+    let next : Next c.loop-d.d-iterator.0 c.in-Some.d c.next.new.self.0 = c.in-Some.ensures.steps in
     place_found _ _ _ c.requires.0 _ _ c.requires.1 _ c.requires.2 _ c.subset.ensures c.if-not-subset.false _
-    c.minus-rest.ensures _ _ _ c.loop-rest.invariant
-    (c.first-d.ensures.some c.loop-rest-test.true) c.included.ensures
+    c.minus-places.ensures _ _ _ c.loop-d.invariant (next.first.some next.some) c.included.ensures
     c.if-not-included.true
 
-pub loop-rest-preserved : goal.loop-rest-preserved
-loop-rest-preserved c =
+pub loop-d-preserved : goal.loop-d-preserved
+loop-d-preserved c =
+    let next : Next c.loop-d.d-iterator.0 c.in-Some.d c.next.new.self.0 = c.in-Some.ensures.steps in
     place-passed _ _ _ c.requires.0 _ _ c.requires.1 _ c.requires.2 _ c.subset.ensures c.if-not-subset.false _
-    c.minus-rest.ensures _ _ _ _ c.loop-rest.invariant c.first-d.ensures.counted
-    (c.first-d.ensures.some c.loop-rest-test.true)
-    c.rest-rest.ensures c.included.ensures
+    c.minus-places.ensures _ _ _ _ c.loop-d.invariant next.first.counted (next.first.some next.some) next.rest c.included.ensures
     c.if-not-included.false
 
 pub returns : goal.returns
 returns c =
     none_found _ _ _ c.requires.0 _ _ c.requires.1 _ c.requires.2 _ c.subset.ensures c.if-not-subset.false _
-    c.minus-rest.ensures _ c.loop-rest.invariant c.loop-rest-test.false
+    c.minus-places.ensures _ c.loop-d.invariant c.in-None.ensures.steps.0

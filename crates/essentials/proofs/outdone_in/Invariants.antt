@@ -4,8 +4,5 @@ use Rattle.conflicts.specs.Conflicts.{StrictlyContains}
 use Rattle.essentials.proofs.Storing.{Passed}
 use Rattle.essentials.proofs.outdone_in.Given as goal
 
-abbrev pub invariant-loop-rest : goal.invariant-loop-rest
-invariant-loop-rest l = Passed (λ (d : ℕ). StrictlyContains l.rows (suc l.h) (suc d) (suc l.g) (suc l.k) → ⊥) l.initial.rest l.rest
-
-abbrev pub decreases-loop-rest : goal.decreases-loop-rest
-decreases-loop-rest l = l.rest
+abbrev pub invariant-loop-d : goal.invariant-loop-d
+invariant-loop-d l = Passed (λ (d : ℕ). StrictlyContains l.rows (suc l.h) (suc d) (suc l.g) (suc l.k) → ⊥) l.places (l.d-iterator).0

@@ -3,4 +3,4 @@ use Rattle.essentials.proofs.Storing.{storing_all}
 use Rattle.essentials.proofs.store_row.Goals as goal
 
 pub returns : goal.returns
-returns c = storing_all _ _ _ _ _ c.loop-rest.invariant c.loop-rest-test.false
+returns c = storing_all _ _ _ _ _ c.loop-k.invariant c.in-None.ensures.steps.0

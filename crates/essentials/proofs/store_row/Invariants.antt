@@ -2,8 +2,5 @@
 use Rattle.essentials.proofs.Storing.{Storing}
 use Rattle.essentials.proofs.store_row.Given as goal
 
-abbrev pub invariant-loop-rest : goal.invariant-loop-rest
-invariant-loop-rest l = Storing l.rows l.n l.i l.store l.rest
-
-abbrev pub decreases-loop-rest : goal.decreases-loop-rest
-decreases-loop-rest l = l.rest
+abbrev pub invariant-loop-k : goal.invariant-loop-k
+invariant-loop-k l = Storing l.rows l.n l.i l.store (l.k-iterator).0

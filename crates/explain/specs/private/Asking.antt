@@ -1,6 +1,6 @@
 -- What the private steps of either side say of one another: the checks before the picks are looked at, and the search
 -- on the rows and picks in their arrays.
-use Rattle.std.specs.Prelude.{◌≡◌, Bool, true, false, cond, List, ℕ, ◌-◌, ◌≤◌, ◌<◌, eqb, length, get_or, take}
+use Rattle.std.specs.Prelude.{◌≡◌, Bool, true, false, cond, List, ℕ, ◌-◌, ◌≤◌, ◌<◌, eqb, length, get_or, take, Option, MatchOption}
 use Rattle.sets.specs.Sets.{bit}
 use Rattle.table.specs.Pairs.{row}
 use Rattle.table.specs.declared.Table.{Table}
@@ -45,3 +45,7 @@ row_has rows k x = bit (row rows (x - 1)) k
 -- is none
 abbrev pub found_in : List ℕ → ℕ → List ℕ → ℕ → ℕ → ℕ
 found_in rows k picks count own = first_lacking (row_has rows k) (made_before own (take count picks))
+
+-- r is the number x, or none where x is 0, which is no number
+abbrev pub Tells : ℕ → Option ℕ → Type 0
+Tells x r = MatchOption r (0 ≡ x) (λ y. (0 < y) × (y ≡ x))

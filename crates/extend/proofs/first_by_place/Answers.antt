@@ -10,7 +10,7 @@ use Rattle.table.specs.Chains.{IsChain}
 use Rattle.table.specs.Tables.{chain_rows}
 use Rattle.table.proofs.Legality.{ChainFacts}
 use Rattle.extend.specs.private.FirstByNumber.{FirstByNumber}
-use Rattle.extend.proofs.Answers.{Preferred, may_grow, placed_first}
+use Rattle.extend.proofs.Answers.{Preferred, may_grow, some_places, placed_first}
 use Rattle.extend.proofs.first_by_place.Goals as goal
 
 abbrev table_with : Table → List ℕ → Table
@@ -26,11 +26,16 @@ first_rows-first-requires c =
     subst₂ (λ (x y : List ℕ). ChainFacts (table_with t x) (chain_with t y) × IsChain (chain_rows (chain_with t y))) (sym c.gather-rows.ensures)
     (sym c.gather-asked.ensures) (may_grow t c.args.numbers c.args.s preferred)
 
+pub unwrap-places-requires : goal.unwrap-places-requires
+unwrap-places-requires c =
+    let preferred : Preferred c.args.t c.args.numbers c.args.s = record { passes = c.requires.0; chain = c.requires.1; size = search rules; long = search rules; size_chain = search rules } in
+    some_places c.args.t c.args.numbers c.args.s preferred _ c.place_all.ensures
+
 pub returns : goal.returns
 returns c =
     let preferred : Preferred c.args.t c.args.numbers c.args.s = record { passes = c.requires.0; chain = c.requires.1; size = search rules; long = search rules; size_chain = search rules } in
     let t = c.args.t in
-    placed_first t c.args.numbers c.args.s preferred c.first_rows-first.result _ _
+    placed_first t c.args.numbers c.args.s preferred c.first_rows-first.result _ _ _
     (subst₂ (λ (x y : List ℕ). FirstByNumber (table_with t x) (chain_with t y) c.first_rows-first.result) c.gather-rows.ensures c.gather-asked.ensures
     c.first_rows-first.ensures)
-    c.place_all-placed.ensures c.gather.ensures
+    c.place_all.ensures (search rules) c.gather.ensures

@@ -5,8 +5,8 @@ use Rattle.extend.proofs.Picking.{picked_all, picked-end, picked_next}
 use Rattle.extend.proofs.Answers.{Given, first_turn, last_turn}
 use Rattle.extend.proofs.first_rows.Goals as goal
 
-pub loop-turns-init : goal.loop-turns-init
-loop-turns-init c =
+pub loop-turn-init : goal.loop-turn-init
+loop-turn-init c =
     let given : Given c.args.t c.args.s = record { facts = c.requires.0; chain = c.requires.1; size = search rules; size_chain = search rules } in
     first_turn _ _ given _ _ c.lowest-unpicked.ensures c.lowest-left.ensures
 
@@ -14,15 +14,15 @@ pub returns-then-n-g : goal.returns-then-n-g
 returns-then-n-g c =
     let given : Given c.args.t c.args.s = record { facts = c.requires.0; chain = c.requires.1; size = search rules; size_chain = search rules } in
     last_turn _ _ given _
-    (picked-end _ _ _ _ _ _ _ _ _ c.loop-turns.invariant _ _ c.union_of-all_owed.ensures c.next_fitting-g.ensures
-    c.loop-turns-test.true c.if-n-g.true)
+    (picked-end _ _ _ _ _ _ _ _ _ c.loop-turn.invariant _ _ c.union_of-all_owed.ensures c.next_fitting-g.ensures
+    c.loop-turn-test.true c.if-n-g.true)
 
-pub loop-turns-preserved : goal.loop-turns-preserved
-loop-turns-preserved c =
-    picked_next _ _ _ _ _ _ _ _ _ c.loop-turns.invariant _ _ c.union_of-all_owed.ensures c.next_fitting-g.ensures
-    c.loop-turns-test.true c.if-n-g.false _ c.without-unpicked.ensures
+pub loop-turn-preserved : goal.loop-turn-preserved
+loop-turn-preserved c =
+    picked_next _ _ _ _ _ _ _ _ _ c.loop-turn.invariant _ _ c.union_of-all_owed.ensures c.next_fitting-g.ensures
+    c.loop-turn-test.true c.if-n-g.false _ c.without-unpicked.ensures
 
 pub returns : goal.returns
 returns c =
     let given : Given c.args.t c.args.s = record { facts = c.requires.0; chain = c.requires.1; size = search rules; size_chain = search rules } in
-    last_turn _ _ given _ (picked_all _ _ _ _ _ _ _ _ _ c.loop-turns.invariant (omega arith))
+    last_turn _ _ given _ (picked_all _ _ _ _ _ _ _ _ _ c.loop-turn.invariant (omega arith))

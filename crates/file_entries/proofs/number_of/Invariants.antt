@@ -1,11 +1,6 @@
 -- `file_entries::number_of` meets its contract: the digits so far and those still to come are the field's number (`Digiting`).
-use Prim.Native.Nat.{◌-◌}
-use lib.ListN.{length}
 use Rattle.file_entries.proofs.Signs.{Digiting}
 use Rattle.file_entries.proofs.number_of.Given as goal
 
 abbrev pub invariant-loop-i : goal.invariant-loop-i
 invariant-loop-i l = Digiting l.word l.i l.v
-
-abbrev pub decreases-loop-i : goal.decreases-loop-i
-decreases-loop-i l = length l.word - l.i

@@ -1,11 +1,6 @@
 -- `file_entries::word_end` meets its contract: no byte from the start up to here is blank.
-use Prim.Native.Nat.{◌-◌}
-use lib.ListN.{length}
 use Rattle.file_entries.proofs.Words.{Running}
 use Rattle.file_entries.proofs.word_end.Given as goal
 
 abbrev pub invariant-loop-i : goal.invariant-loop-i
 invariant-loop-i l = Running l.line l.at l.i
-
-abbrev pub decreases-loop-i : goal.decreases-loop-i
-decreases-loop-i l = length l.line - l.i

@@ -7,8 +7,8 @@ use Rattle.file_reader.proofs.comment.Goals as goal
 -- what is found lies in the file
 pub overflow_add-result : goal.overflow_add-result
 overflow_add-result c =
-    omega (arith, part_inside c.args.file.now c.args.k c.comment_at-place.result (comment_is_found c.args.file.now c.args.k _ c.comment_at-place.ensures) c.in-At.is)
+    omega (arith, part_inside c.args.file.now c.args.k c.comment_at.result (comment_is_found c.args.file.now c.args.k _ c.comment_at.ensures) c.in-Ok.is)
 
 pub slice_bounds-result-end-2 : goal.slice_bounds-result-end-2
 slice_bounds-result-end-2 c =
-    omega (arith, part_inside c.args.file.now c.args.k c.comment_at-place.result (comment_is_found c.args.file.now c.args.k _ c.comment_at-place.ensures) c.in-At.is)
+    omega (arith, part_inside c.args.file.now c.args.k c.comment_at.result (comment_is_found c.args.file.now c.args.k _ c.comment_at.ensures) c.in-Ok.is)

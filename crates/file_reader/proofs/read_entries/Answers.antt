@@ -275,6 +275,6 @@ pub returns : goal.returns
 returns c =
     let f = c.args.file.now in
     record {
-      answer = c.accept.ensures.answer ∙ entries_done f _ _ _ _ _ _ _ _ c.loop-at.invariant.1 c.loop-at-test.false c.if-left-ne0.false;
-      line = c.accept.ensures.line ∙ done_line f _ _ _ _ _ _ _ _ c.loop-at.invariant.2 c.loop-at-test.false c.if-left-ne0.false;
+      answer = entries_done f _ _ _ _ _ _ _ _ c.loop-at.invariant.1 c.loop-at-test.false c.if-left-ne0.false;
+      line = done_line f _ _ _ _ _ _ _ _ c.loop-at.invariant.2 c.loop-at-test.false c.if-left-ne0.false;
     }

@@ -23,11 +23,11 @@ returns-in_default c =
     record {
       answer =
           c.refuse-in_default.ensures.answer
-          ∙ file_other c.args.integers c.args.file.now c.if-file-gt-MOST_FILE.false _ c.line_at-span.ensures _ c.first_line-first.ensures
+          ∙ file_other c.args.integers c.args.file.now c.if-file-gt-MOST_FILE.false _ c.line_at-span.ensures _ c.first_line.ensures
           c.in_default.is;
       line =
           c.refuse-in_default.ensures.line
-          ∙ other_line c.args.integers c.args.file.now c.if-file-gt-MOST_FILE.false _ c.line_at-span.ensures _ c.first_line-first.ensures
+          ∙ other_line c.args.integers c.args.file.now c.if-file-gt-MOST_FILE.false _ c.line_at-span.ensures _ c.first_line.ensures
           c.in_default.is;
     }
 
@@ -41,8 +41,8 @@ returns c =
     record {
       answer =
           c.read_head.ensures.answer
-          ∙ file_head c.args.integers c.args.file.now c.if-file-gt-MOST_FILE.false _ c.line_at-span.ensures _ c.first_line-first.ensures c.in-Banner.is;
+          ∙ file_head c.args.integers c.args.file.now c.if-file-gt-MOST_FILE.false _ c.line_at-span.ensures _ c.first_line.ensures c.in-Some.is;
       line =
           c.read_head.ensures.line
-          ∙ head_from c.args.integers c.args.file.now c.if-file-gt-MOST_FILE.false _ c.line_at-span.ensures _ c.first_line-first.ensures c.in-Banner.is;
+          ∙ head_from c.args.integers c.args.file.now c.if-file-gt-MOST_FILE.false _ c.line_at-span.ensures _ c.first_line.ensures c.in-Some.is;
     }

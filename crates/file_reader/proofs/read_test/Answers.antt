@@ -1,26 +1,31 @@
--- `file_reader::read_test` meets its contract: each return has its law of `Answered`. In the answers `i` is where the cutoff was judged, `a` where the
--- file was read.
-use mathlib.Core.Path.{◌∙◌}
-use Rattle.file_reader.proofs.Answered.{cutoff_refused, file-refused, file-given}
+-- `file_reader::read_test` meets its contract: each return has its law of `Answered`.
+use mathlib.Core.Path.{◌≡◌, ap, ◌∙◌}
+use borrow.Author.Rules.{rules}
+use Rattle.std.specs.Prelude.{Err}
+use Rattle.file_reader.specs.Promises.{recording}
+use Rattle.file_reader.proofs.Answered.{cutoff_refused, file-refused, table_given, file-given}
 use Rattle.file_reader.proofs.Promising.{test_of_file}
 use Rattle.file_reader.proofs.read_test.Goals as goal
 
 pub returns-then-not-in_range : goal.returns-then-not-in_range
 returns-then-not-in_range c =
-    test_of_file c.args.file.now c.args.cutoff _
-    (c.refuse_both.ensures ∙ cutoff_refused c.args.file.now c.args.cutoff _ c.in_range.ensures c.if-not-in_range.true)
+    test_of_file c.args.file.now c.args.cutoff _ (cutoff_refused c.args.file.now c.args.cutoff _ c.in_range.ensures c.if-not-in_range.true)
 
-pub returns-in-Refused : goal.returns-in-Refused
-returns-in-Refused c =
+pub returns-in_err-test : goal.returns-in_err-test
+returns-in_err-test c =
+    let raised : c.from_residual.result ≡ Err c.in_err-test.field-0.0.why = search rules in
     test_of_file c.args.file.now c.args.cutoff _
-    (c.refuse_both-in-Refused.ensures
-    ∙ file-refused c.args.file.now c.args.cutoff _ c.in_range.ensures c.if-not-in_range.false c.read_recorded-answer.result
-    c.read_recorded-answer.ensures.answer
-    c.in-Refused.is)
+    (ap recording raised
+    ∙ file-refused c.args.file.now c.args.cutoff _ c.in_range.ensures c.if-not-in_range.false c.read_recorded.result c.read_recorded.ensures.answer
+    c.in_err-test.was)
+
+pub unwrap-table-requires : goal.unwrap-table-requires
+unwrap-table-requires c =
+    table_given c.args.file.now c.args.cutoff _ c.in_range.ensures c.if-not-in_range.false c.read_recorded.result c.read_recorded.ensures.answer
+    c.in_ok-test.was c.table_at.result c.table_at.ensures.result_value
 
 pub returns : goal.returns
 returns c =
     test_of_file c.args.file.now c.args.cutoff _
-    (file-given c.args.file.now c.args.cutoff _ c.in_range.ensures c.if-not-in_range.false c.read_recorded-answer.result
-    c.read_recorded-answer.ensures.answer
-    c.in_default.is c.table_at-made.result c.table_at-made.ensures.result_value)
+    (file-given c.args.file.now c.args.cutoff _ c.in_range.ensures c.if-not-in_range.false c.read_recorded.result c.read_recorded.ensures.answer
+    c.in_ok-test.was c.table_at.result _ c.table_at.ensures.result_value c.unwrap-table.ensures)

@@ -22,7 +22,7 @@ use Rattle.refusals.specs.declared.Refusal.TheVariants.{FileTooLong, NotTheBanne
 use Rattle.file_text.specs.Lines.{Line, lines}
 use Rattle.file_kinds.specs.Banner.{first_line}
 use Rattle.file_kinds.specs.Kinds.{head_line, entry_line}
-use Rattle.file_kinds.specs.declared.FirstLine.TheVariants.{Banner, Other}
+use Rattle.std.specs.Prelude.{Some as Banner, None as Other}
 use Rattle.file_kinds.specs.declared.HeadLine.TheVariants.{Size, Skip as skip_head, Bad as bad_head}
 use Rattle.file_kinds.specs.declared.EntryLine.TheVariants.{Entry, Skip as skip_entry, Bad as bad_entry}
 use Rattle.file_reader.specs.Promises.{TestAndTable, blank_both}

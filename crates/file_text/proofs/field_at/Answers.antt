@@ -49,7 +49,7 @@ returns-then-k-gt0-2 c =
     record {
       says = record {
         equation = last_at _ c.loop-i.i _ _ _ c.loop-i.invariant.3 c.loop-i-test.false c.if-k-gt0-2.true;
-        inside = c.loop-i.invariant.0;
+        inside = omega arith;
       };
     }
 

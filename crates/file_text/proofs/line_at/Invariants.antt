@@ -1,12 +1,7 @@
 -- `file_text::line_at` meets its contract: the line at the loop's place is the line at the start.
-use Prim.Native.Nat.{◌-◌}
 use mathlib.Core.Path.{◌≡◌}
-use lib.ListN.{length}
 use Rattle.file_text.specs.Lines.{span_at}
 use Rattle.file_text.proofs.line_at.Given as goal
 
 abbrev pub invariant-loop-i : goal.invariant-loop-i
 invariant-loop-i l = span_at l.file l.i ≡ span_at l.file l.at
-
-abbrev pub decreases-loop-i : goal.decreases-loop-i
-decreases-loop-i l = length l.file - l.i

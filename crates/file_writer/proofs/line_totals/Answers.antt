@@ -1,5 +1,4 @@
--- `file_writer::line_totals` meets its contract: the lines of the pairs, and in an integer file their readings too (`pattern_totals`,
--- `integer_totals`).
+-- `file_writer::line_totals` meets its contract: the lines of the pairs, and in an integer file their readings too (`integer_totals`).
 use native.Mathlib.Omega.{arith}
 use Rattle.file_writer.specs.Writing.{row_pairs}
 use Rattle.file_writer.proofs.PairLines.{row_few}

@@ -1,4 +1,4 @@
--- `file_writer::put_entry` meets its contract: the line is a pair, and in an integer file a pair and its reading (`pattern_line`, `integer_line`).
+-- `file_writer::put_entry` meets its contract: the line is a pair, and in an integer file a pair and its reading (`integer_line`).
 use mathlib.Core.Path.{◌≡◌, ◌∙◌}
 use mir.Facts.{to_z-of_z}
 use mir.Syntax.{w32}

@@ -1,5 +1,4 @@
 -- `judge::all_nested` meets its contract: the test holds at each row passed.
-use Prim.Native.Nat.{◌≤◌, ◌-◌}
 use mathlib.Core.Path.{◌≡◌}
 use mathlib.Core.Bool.{true}
 use Rattle.sets.specs.Lists.{all_below}
@@ -7,7 +6,4 @@ use Rattle.judge.specs.private.RowTests.{nested_with}
 use Rattle.judge.proofs.all_nested.Given as goal
 
 abbrev pub invariant-loop-i : goal.invariant-loop-i
-invariant-loop-i l = (l.i ≤ l.n) × (all_below (nested_with l.rows l.n) l.i ≡ true)
-
-abbrev pub decreases-loop-i : goal.decreases-loop-i
-decreases-loop-i l = l.n - l.i
+invariant-loop-i l = all_below (nested_with l.rows l.n) l.i ≡ true

@@ -9,7 +9,7 @@ use Rattle.judge.specs.private.RowTests.{all_widest}
 use Rattle.judge.proofs.all_widest.Goals as goal
 
 pub loop-i-init : goal.loop-i-init
-loop-i-init c = (omega arith, all_none _)
+loop-i-init c = all_none _
 
 pub returns-then-most-rows : goal.returns-then-most-rows
 unfolding all_widest
@@ -19,13 +19,11 @@ returns-then-most-rows c =
     c.widest-most.ensures (ne_eqb _ _ c.if-most-rows.true)) refl
 
 pub loop-i-preserved : goal.loop-i-preserved
-loop-i-preserved c = (
-  omega arith,
-  all_more _ _ true c.loop-i.invariant.1
-      (widest_test c.args.outer.now _ _ _ _ _ c.loop-i-test.true c.requires
-      c.widest-most.ensures (eq-eqb _ _ c.if-most-rows.false)) refl,
-)
+loop-i-preserved c =
+    all_more _ _ true c.loop-i.invariant
+    (widest_test c.args.outer.now _ _ _ _ _ c.loop-i-test.true c.requires
+    c.widest-most.ensures (eq-eqb _ _ c.if-most-rows.false)) refl
 
 pub returns : goal.returns
 unfolding all_widest
-returns c = all_done _ _ _ c.loop-i.invariant.1 (omega arith)
+returns c = all_done _ _ _ c.loop-i.invariant (omega arith)

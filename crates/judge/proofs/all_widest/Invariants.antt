@@ -1,5 +1,5 @@
 -- `judge::all_widest` meets its contract: the test holds at each row passed.
-use Prim.Native.Nat.{ℕ, ◌≤◌, ◌-◌}
+use Prim.Native.Nat.{ℕ}
 use mathlib.Core.Path.{◌≡◌}
 use mathlib.Core.Bool.{true}
 use lib.Dec.{eqb}
@@ -9,7 +9,4 @@ use Rattle.judge.specs.WidestRows.{widest}
 use Rattle.judge.proofs.all_widest.Given as goal
 
 abbrev pub invariant-loop-i : goal.invariant-loop-i
-invariant-loop-i l = (l.i ≤ l.n) × (all_below (λ (k : ℕ). eqb (widest l.rows (row l.outer k) k l.n) (row l.rows k)) l.i ≡ true)
-
-abbrev pub decreases-loop-i : goal.decreases-loop-i
-decreases-loop-i l = l.n - l.i
+invariant-loop-i l = all_below (λ (k : ℕ). eqb (widest l.rows (row l.outer k) k l.n) (row l.rows k)) l.i ≡ true

@@ -1,5 +1,5 @@
 -- `judge::nested_with` meets its contract: the test holds at each number passed.
-use Prim.Native.Nat.{ℕ, ◌≤◌, ◌-◌}
+use Prim.Native.Nat.{ℕ}
 use mathlib.Core.Path.{◌≡◌}
 use mathlib.Core.Bool.{true}
 use Rattle.sets.specs.Lists.{all_below}
@@ -8,7 +8,4 @@ use Rattle.judge.specs.private.RowTests.{nested}
 use Rattle.judge.proofs.nested_with.Given as goal
 
 abbrev pub invariant-loop-j : goal.invariant-loop-j
-invariant-loop-j l = (l.j ≤ l.n) × (all_below (λ (k : ℕ). nested (row l.rows l.i) (row l.rows k)) l.j ≡ true)
-
-abbrev pub decreases-loop-j : goal.decreases-loop-j
-decreases-loop-j l = l.n - l.j
+invariant-loop-j l = all_below (λ (k : ℕ). nested (row l.rows l.i) (row l.rows k)) l.j ≡ true

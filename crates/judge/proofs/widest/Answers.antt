@@ -12,12 +12,12 @@ pub returns-then-n-gt-ROWS : goal.returns-then-n-gt-ROWS
 returns-then-n-gt-ROWS c = widest_long _ _ _ _ c.if-n-gt-ROWS.true
 
 pub loop-j-init : goal.loop-j-init
-loop-j-init c = (omega arith, widest_start _ _ _)
+loop-j-init c = widest_start _ _ _
 
 pub loop-j-preserved : goal.loop-j-preserved
-loop-j-preserved c = (omega arith, widest_more _ _ _ _ _ _ c.loop-j.invariant.1 c.narrowed-wide.ensures)
+loop-j-preserved c = widest_more _ _ _ _ _ _ c.loop-j.invariant c.narrowed-wide.ensures
 
 pub returns : goal.returns
 returns c =
     let e : c.loop-j.j ≡ c.args.n = omega arith in
-    c.loop-j.invariant.1 ∙ ap (widest _ _ _) e ∙ sym (widest_in _ _ _ _ c.if-i-ge-ROWS.false c.if-n-gt-ROWS.false)
+    c.loop-j.invariant ∙ ap (widest _ _ _) e ∙ sym (widest_in _ _ _ _ c.if-i-ge-ROWS.false c.if-n-gt-ROWS.false)

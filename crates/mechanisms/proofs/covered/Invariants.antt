@@ -1,10 +1,6 @@
 -- `mechanisms::covered` meets its contract: each turn makes one chain more (`Making`).
-use Prim.Native.Nat.{◌-◌}
 use Rattle.mechanisms.proofs.Chains.{Making}
 use Rattle.mechanisms.proofs.covered.Given as goal
 
 abbrev pub invariant-loop-i : goal.invariant-loop-i
-invariant-loop-i l = Making l.gauges l.found l.count l.i l.cover
-
-abbrev pub decreases-loop-i : goal.decreases-loop-i
-decreases-loop-i l = l.count - l.i
+invariant-loop-i l = Making l.gauges l.found l.count l.i l.chains

@@ -1,16 +1,16 @@
 -- `mechanisms::list_ladders` meets its contract: each turn has one ladder more (`ListingFrom`).
-use Rattle.std.proofs.Common.{◌≡◌, false}
+use Rattle.std.proofs.Common.{◌≡◌, ◌+◌, arith, false, Ok}
 use Rattle.rules.specs.Machine.{fresh}
 use Rattle.preference.specs.Preferences.{plain_numbers}
-use Rattle.runs.specs.Paused.{gauge_value, gauge_start, paused}
-use Rattle.mechanisms.proofs.Listing.{started, listing_turn, listing-stops, listing-passes}
+use Rattle.runs.specs.Paused.{gauge_value, start_of, paused}
+use Rattle.mechanisms.proofs.Listing.{started, start_given, listing_turn, listing-stops, listing-passes}
 use Rattle.mechanisms.proofs.list_ladders.Goals as goal
 
 -- the run is over
 pub returns-then-next : goal.returns-then-next
 returns-then-next c =
-    let began : gauge_value c.start_gauges-start.result.run ≡ paused c.args.t (plain_numbers c.args.t.gauges) false fresh =
-    started c.args.t c.requires.small_table _ c.plain.ensures (gauge_start c.start_gauges-start.result) c.start_gauges-start.ensures.result_value in
+    let began : gauge_value c.unwrap-run.result ≡ paused c.args.t (plain_numbers c.args.t.gauges) false fresh =
+    started c.args.t c.requires.small_table _ c.plain.ensures (start_of (λ x. x.0) (Ok c.unwrap-run.result)) (rw c.unwrap-run.ensures at c.start.ensures.result_value) in
     listing-stops _ _ _ _ c.loop-n.invariant _ _ _ c.next_ladder-next.ensures c.args.t c.requires.small_table began c.if-next.true
 
 -- one ladder more
@@ -21,12 +21,18 @@ loop-n-preserved c =
 -- after 1,024
 pub returns-then-last : goal.returns-then-last
 returns-then-last c =
-    let began : gauge_value c.start_gauges-start.result.run ≡ paused c.args.t (plain_numbers c.args.t.gauges) false fresh =
-    started c.args.t c.requires.small_table _ c.plain.ensures (gauge_start c.start_gauges-start.result) c.start_gauges-start.ensures.result_value in
-    listing-stops _ _ _ _ c.loop-n.invariant _ _ _ c.next_ladder-last.ensures c.args.t c.requires.small_table began c.if-last.true
+    let began : gauge_value c.unwrap-run.result ≡ paused c.args.t (plain_numbers c.args.t.gauges) false fresh =
+    started c.args.t c.requires.small_table _ c.plain.ensures (start_of (λ x. x.0) (Ok c.unwrap-run.result)) (rw c.unwrap-run.ensures at c.start.ensures.result_value) in
+    let e : c.loop-n.n ≡ 1024 = omega arith in
+    rw (← e) (listing-stops _ _ _ _ c.loop-n.invariant _ _ _ c.next_ladder-last.ensures c.args.t c.requires.small_table began c.if-last.true)
 
 pub returns : goal.returns
 returns c =
-    let began : gauge_value c.start_gauges-start.result.run ≡ paused c.args.t (plain_numbers c.args.t.gauges) false fresh =
-    started c.args.t c.requires.small_table _ c.plain.ensures (gauge_start c.start_gauges-start.result) c.start_gauges-start.ensures.result_value in
-    listing-passes _ _ _ _ c.loop-n.invariant _ _ _ c.next_ladder-last.ensures c.args.t c.requires.small_table began c.if-last.false c.loop-n-test.false
+    let began : gauge_value c.unwrap-run.result ≡ paused c.args.t (plain_numbers c.args.t.gauges) false fresh =
+    started c.args.t c.requires.small_table _ c.plain.ensures (start_of (λ x. x.0) (Ok c.unwrap-run.result)) (rw c.unwrap-run.ensures at c.start.ensures.result_value) in
+    let e : c.loop-n.n + 1 ≡ 1025 = omega arith in
+    rw (← e) (listing-passes _ _ _ _ c.loop-n.invariant _ _ _ c.next_ladder-last.ensures c.args.t c.requires.small_table began c.if-last.false c.loop-n-test.false)
+
+-- the start is not refused
+pub unwrap-run-requires : goal.unwrap-run-requires
+unwrap-run-requires c = start_given c.args.t c.requires.small_table _ c.plain.ensures c.start.result c.start.ensures.result_value

@@ -1,19 +1,30 @@
--- `mechanisms::next_ladder` meets its contract: one law for each outcome of the call; the check finds those of a ladder handed out and of the end.
-use Rattle.std.proofs.Common.{ap}
-use Rattle.table.specs.Tables.{chain_rows}
+-- `mechanisms::next_ladder` meets its contract: one law for each outcome of the call.
+use mathlib.Core.Path.{refl, sym, ap, ◌∙◌}
+use Rattle.std.proofs.Common.{Ok, Err}
+use Rattle.table.specs.declared.Gauge.{Gauge}
 use Rattle.runs.specs.Paused.{gauge_value}
-use Rattle.runs.specs.Calling.{outcome, gauge_step}
-use Rattle.runs.specs.declared.Outcome.{Outcome}
+use Rattle.runs.specs.Calling.{step_of, outcome, chain_out}
 use Rattle.runs.proofs.Answered.{called_of_both}
-use Rattle.mechanisms.proofs.Listing.{hands_spent, hands_refused}
+use Rattle.boards.specs.Boards.{board, corner}
+use Rattle.mechanisms.proofs.Listing.{hands_given, hands_spent, hands_end, hands_refused}
 use Rattle.mechanisms.proofs.next_ladder.Goals as goal
+
+pub returns-in-HandedOut : goal.returns-in-HandedOut
+returns-in-HandedOut c =
+    hands_given (gauge_value c.args.run) (step_of (λ g. g.0) (Ok c.in-Ok.step)) (called_of_both _ _ _ _ (rw c.in-Ok.is at c.call.ensures.either)) _
+    (ap outcome c.in-HandedOut.is) _
+    (c.board_of.ensures ∙ ap (λ o. board (corner (chain_out o).rows)) (sym c.in-HandedOut.is)) _ refl
 
 pub returns-in-Spent : goal.returns-in-Spent
 returns-in-Spent c =
-    hands_spent (gauge_value c.args.run) (gauge_step c.run_gauges-step.result) (called_of_both _ _ _ _ c.run_gauges-step.ensures.either)
-    (ap (λ (x : Outcome). outcome x (chain_rows c.run_gauges-step.result.chain)) c.in-Spent.is) _ _
+    hands_spent (gauge_value c.args.run) (step_of (λ g. g.0) (Ok c.in-Ok.step)) (called_of_both _ _ _ _ (rw c.in-Ok.is at c.call.ensures.either))
+    (ap outcome c.in-Spent.is) _ _
 
-pub returns-in-Refused : goal.returns-in-Refused
-returns-in-Refused c =
-    hands_refused (gauge_value c.args.run) (gauge_step c.run_gauges-step.result) (called_of_both _ _ _ _ c.run_gauges-step.ensures.either) _
-    (ap (λ (x : Outcome). outcome x (chain_rows c.run_gauges-step.result.chain)) c.in-Refused.is) _ _
+pub returns-in-End : goal.returns-in-End
+returns-in-End c =
+    hands_end (gauge_value c.args.run) (step_of (λ g. g.0) (Ok c.in-Ok.step)) (called_of_both _ _ _ _ (rw c.in-Ok.is at c.call.ensures.either))
+    (ap outcome c.in-End.is) _ _
+
+pub returns-in-Err : goal.returns-in-Err
+returns-in-Err c =
+    hands_refused (gauge_value c.args.run) (step_of {S = Gauge} (λ g. g.0) (Err c.in-Err.field-0)) (called_of_both _ _ _ _ (rw c.in-Err.is at c.call.ensures.either)) _ refl _ _

@@ -1,4 +1,5 @@
 -- `mechanisms::search` meets its contract: one law for each way that the search on boards ends.
+use mathlib.Core.Path.{refl}
 use Rattle.table.specs.Tables.{table_rows}
 use Rattle.lists.specs.Lists.{GaugeList}
 use Rattle.lists.proofs.Listed.{chains_in_order}
@@ -31,4 +32,4 @@ returns-in-Nothing c xs g =
 pub returns-in-Spent : goal.returns-in-Spent
 returns-in-Spent c xs g =
     answer-spent c.args.t c.requires.small xs g c.args.budget _ _ (c.requires.listed xs g) c.board_of.ensures _ _
-    c.least_cover-found.ensures c.in-Spent.is _ c.spend-in-Spent.ensures
+    c.least_cover-found.ensures c.in-Spent.is _ refl

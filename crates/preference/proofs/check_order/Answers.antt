@@ -1,10 +1,9 @@
 -- `preference::check_order` meets its contract.
-use borrow.Author.Tests.{not-true, not-false}
 use Rattle.preference.proofs.Placing.{order_refused, order_passes}
 use Rattle.preference.proofs.check_order.Goals as goal
 
-pub returns-then-not-placed : goal.returns-then-not-placed
-returns-then-not-placed c = order_refused _ _ _ c.place_all-placed.ensures (not-true _ c.if-not-placed.true)
+pub returns-in-Some : goal.returns-in-Some
+returns-in-Some c = order_passes _ _ _ c.place_all.ensures c.in-Some.is
 
-pub returns : goal.returns
-returns c = order_passes _ _ _ c.place_all-placed.ensures (not-false _ c.if-not-placed.false)
+pub returns-in-None : goal.returns-in-None
+returns-in-None c = order_refused _ _ _ c.place_all.ensures c.in-None.is

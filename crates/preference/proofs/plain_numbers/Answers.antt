@@ -1,13 +1,11 @@
--- `preference::plain_numbers` meets its contract: the places passed are as they should be.
-use native.Mathlib.Omega.{arith}
-use Rattle.sets.proofs.Tabulated.{filled_more, filled_all}
+-- `preference::plain_numbers` meets its contract: at each place is what should be there.
+use Rattle.std.proofs.Common.{rules}
+use Rattle.sets.proofs.Tabulated.{from_fn_tabulated}
+use Rattle.preference.specs.private.Testing.{plain_at}
 use Rattle.preference.proofs.PlainOrder.{lifted_at, plain_written}
 use Rattle.preference.proofs.plain_numbers.Goals as goal
 
-pub loop-i-preserved : goal.loop-i-preserved
-loop-i-preserved c =
-    filled_more _ c.loop-i.invariant (omega arith)
-    (lifted_at _ _ _ _ c.loop-i-test.true c.lift_of-lift.ensures c.plain_number.ensures)
-
 pub returns : goal.returns
-returns c = plain_written _ _ (filled_all _ c.loop-i.invariant (omega arith))
+returns c =
+    plain_written _ _
+    (from_fn_tabulated _ _ (plain_at c.args.n) (λ i y q l k. (search rules, lifted_at _ c.lift_of-lift.result i _ l c.lift_of-lift.ensures (search rules))) c.from_fn.ensures.items)

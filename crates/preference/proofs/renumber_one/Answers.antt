@@ -13,4 +13,4 @@ pub returns-then-g-gt-MOST : goal.returns-then-g-gt-MOST
 returns-then-g-gt-MOST c = one_past _ _ _ c.if-g-eq0.false c.if-n-g.false c.if-g-gt-MOST.true
 
 pub returns : goal.returns
-returns c = one_in _ _ _ _ c.if-g-eq0.false c.if-n-g.false c.if-g-gt-MOST.false c.index.ensures
+returns c = one_in _ _ _ _ c.if-g-eq0.false c.if-n-g.false c.if-g-gt-MOST.false c.from.ensures

@@ -1,11 +1,8 @@
 -- `recorded::reaching_row` meets its contract: the set so far is that of the places below `k`.
-use Prim.Native.Nat.{◌-◌, ◌+◌, ◌*◌}
+use Prim.Native.Nat.{◌+◌, ◌*◌}
 use Rattle.recorded.specs.Tests.{reading, reaches}
 use Rattle.recorded.proofs.Turns.{Below}
 use Rattle.recorded.proofs.reaching_row.Given as goal
 
 abbrev pub invariant-loop-k : goal.invariant-loop-k
 invariant-loop-k l = Below (λ j. reaches l.cutoff l.row j (reading l.readings (l.i * 64 + j))) l.set l.k
-
-abbrev pub decreases-loop-k : goal.decreases-loop-k
-decreases-loop-k l = 64 - l.k

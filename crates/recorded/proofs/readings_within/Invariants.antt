@@ -1,5 +1,4 @@
 -- `recorded::readings_within` meets its contract: the readings passed are in range.
-use Prim.Native.Nat.{◌≤◌, ◌-◌}
 use mathlib.Core.Path.{◌≡◌}
 use mathlib.Core.Bool.{true}
 use Rattle.sets.specs.Lists.{all_below}
@@ -7,7 +6,4 @@ use Rattle.recorded.specs.Tests.{within_at}
 use Rattle.recorded.proofs.readings_within.Given as goal
 
 abbrev pub invariant-loop-p : goal.invariant-loop-p
-invariant-loop-p l = (l.p ≤ 4096) × (all_below (within_at l.readings) l.p ≡ true)
-
-abbrev pub decreases-loop-p : goal.decreases-loop-p
-decreases-loop-p l = 4096 - l.p
+invariant-loop-p l = all_below (within_at l.readings) l.p ≡ true

@@ -3,4 +3,4 @@ use Rattle.replay.proofs.Judging.{none_all}
 use Rattle.replay.proofs.none_against.Goals as goal
 
 pub returns : goal.returns
-returns c = none_all _ _ _ _ _ _ c.loop-rest.invariant c.loop-rest-test.false
+returns c = none_all _ _ _ _ _ _ c.loop-h.invariant c.in-None.ensures.steps.0

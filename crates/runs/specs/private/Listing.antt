@@ -11,11 +11,21 @@ use Rattle.rules.specs.Machine.{Phase, State, Move}
 use Rattle.rules.specs.Calls.{most_budget}
 use Rattle.preference.specs.Preferences.{is_preference, order_of}
 use Rattle.lists.specs.OnTable.{chain_of}
-use Rattle.runs.specs.Batches.{tale, behind, batch_by, joined, ending}
+use Rattle.runs.specs.Batches.{tale, behind, batch_by, joined}
+use Rattle.runs.specs.Batches.{Ending, denied, full, used, over}
 use Rattle.runs.specs.Paused.{mode_phase}
 use Rattle.runs.specs.private.Working.{StandsBy, ReachedIn, Holds, ComesOut, state_of, spot_down}
-use Rattle.runs.specs.declared.Outcome.TheVariants.{HandedOut, Refused}
+use Rattle.refusals.specs.Answers.{number}
+use Rattle.runs.specs.declared.engine.Stop.{Stop}
+use Rattle.runs.specs.declared.engine.Stop.TheVariants.{HandedOut, Spent, End, Refused}
 use Rattle.runs.specs.declared.listing.Tally.{Tally}
+
+-- how a batch stopped
+abbrev pub stop_ending : Stop → Ending
+stop_ending HandedOut = full
+stop_ending Spent = used
+stop_ending End = over
+stop_ending (Refused x) = denied (number x)
 
 abbrev pub refused_tally : Refusal → Tally
 refused_tally why = record { outcome = Refused why; ladders = 0; moves = 0; spot = spot_down 0 0 0 }
@@ -63,7 +73,7 @@ written_in false before ws = before
 pub record Lists (writing : Bool) (mv : State → Move) (out : List ℕ → List ℕ) (n : ℕ) (rows : List ℕ) (k b : ℕ) (x : State) (before c' k' now : List ℕ)
     (o : Tally) : Type 0 where
   pub sets : List (List ℕ)
-  pub comes : batch_by mv out k b x ≡ tale (ending o.outcome) sets o.moves (state_of k' o.spot)
+  pub comes : batch_by mv out k b x ≡ tale (stop_ending o.outcome) sets o.moves (state_of k' o.spot)
   pub counted : o.ladders ≡ length sets
   pub buffer : now ≡ written_in writing before (joined sets)
   pub fits : writing ≡ true → length (joined sets) ≤ length before
@@ -87,7 +97,7 @@ pub record WentOn (mv : State → Move) (good : State → Type 0) (out : List �
     : Type 0 where
   pub to : State
   pub sets : List (List ℕ)
-  pub comes : batch_by mv out room b x ≡ tale (ending o.outcome) sets o.moves to
+  pub comes : batch_by mv out room b x ≡ tale (stop_ending o.outcome) sets o.moves to
   pub counted : o.ladders ≡ length sets
   pub buffer : now ≡ stored before 0 (joined sets)
   pub fits : length (joined sets) ≤ length before

@@ -10,12 +10,12 @@ use Rattle.lists.specs.Lists.{Side}
 use Rattle.lists.specs.OnTable.{chain_of, hand_out}
 use Rattle.conflicts.specs.Omitting.{keeps_of}
 use Rattle.runs.specs.Paused.{Value, mode_phase}
-use Rattle.runs.specs.Batches.{Batch, ending}
+use Rattle.runs.specs.Batches.{Batch, Ending}
 use Rattle.runs.specs.Omitting.{moves_of}
 use Rattle.runs.specs.Sides.{side_of}
 use Rattle.runs.specs.private.Working.{hands_over, InOrder}
 use Rattle.runs.specs.private.Listing.{ListsIn}
-use Rattle.runs.specs.declared.Outcome.TheVariants.{Refused}
+use Rattle.runs.specs.declared.engine.Stop.TheVariants.{Refused}
 use Rattle.runs.specs.declared.engine.Report.{Report}
 use Rattle.runs.specs.declared.listing.Tally.{Tally}
 use Rattle.runs.specs.declared.sided.Shape.{Shape}
@@ -47,9 +47,9 @@ ListsSide m h rows order k count f b before k' now o =
     (side_in m h rows).rows order k count f b before k' now o
 
 -- a batch on the value v that is not refused, where the core left the picks k
-abbrev pub batch_from : Value → List ℕ → Tally → Batch
-batch_from v k o = record {
-  ending = ending o.outcome;
+abbrev pub batch_from : Value → Ending → List ℕ → Tally → Batch
+batch_from v e k o = record {
+  ending = e;
   ladders = o.ladders;
   moves = o.moves;
   next = record { table = v.table; order = v.order; picks = k; count = o.spot.count; phase = mode_phase o.spot.mode; omit = v.omit };

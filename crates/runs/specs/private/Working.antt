@@ -1,6 +1,6 @@
 -- What the core's private steps say of one another: how a spot and its arrays represent a state of rules 1 to 5. No
 -- public promise mentions these.
-use Rattle.std.specs.Prelude.{◌≡◌, List, map, Bool, true, false, not, cond, ℕ, zero, suc, ◌+◌, ◌-◌, ◌^◌, ◌≤◌, ◌<◌, eqb, length, take, get_or}
+use Rattle.std.specs.Prelude.{◌≡◌, List, map, Bool, true, false, not, cond, ℕ, zero, suc, ◌+◌, ◌-◌, ◌^◌, ◌≤◌, ◌<◌, eqb, length, take, get_or, Result, Ok, Err}
 use Rattle.std.specs.Int.Bits.{bit_and}
 use Rattle.refusals.specs.Answers.{number}
 use Rattle.table.specs.Tables.{no_rows, padded, blank_chain}
@@ -9,7 +9,7 @@ use Rattle.sets.specs.Lists.{all_below}
 use Rattle.table.specs.Pairs.{row}
 use Rattle.rules.specs.Machine.{Phase, Down, Handed, Back, Ended, State, Move, gives, nothing, hands, ends, move_in, ReachedBy}
 use Rattle.rules.specs.ByNumber.{move}
-use Rattle.rules.specs.Calls.{spent, handed, end, Call, result, carry_by, most_budget}
+use Rattle.rules.specs.Calls.{Reply, refused, spent, handed, end, Call, result, carry_by, most_budget}
 use Rattle.rules.specs.Keeping.{move_keeping}
 use Rattle.rules.specs.private.Fitting.{Valid, Fits}
 use Rattle.lists.specs.Lists.{Side}
@@ -26,14 +26,21 @@ use Rattle.preference.specs.Placing.{renumber}
 use Rattle.table.specs.declared.Table.{Table}
 use Rattle.table.specs.declared.Chain.{Chain}
 use Rattle.runs.specs.Paused.{Value, numbered, mode_phase, no_numbers}
-use Rattle.runs.specs.Calling.{Step, outcome, refusal_step}
-use Rattle.runs.specs.declared.Outcome.{Outcome}
-use Rattle.runs.specs.declared.Outcome.TheVariants.{HandedOut, Spent, End, Refused}
-use Rattle.runs.specs.declared.engine.Mode.TheVariants.{Down as mode_down}
+use Rattle.runs.specs.Calling.{Step, refusal_step}
+use Rattle.runs.specs.declared.engine.Stop.{Stop}
+use Rattle.runs.specs.declared.engine.Stop.TheVariants.{HandedOut, Spent, End, Refused}
+use Rattle.runs.specs.declared.Phase.TheVariants.{Down as mode_down}
 use Rattle.runs.specs.declared.engine.Spot.{Spot}
 use Rattle.runs.specs.declared.engine.Report.{Report}
 use Rattle.runs.specs.declared.engine.Moved.{Moved}
 use Rattle.runs.specs.declared.engine.Moved.TheVariants.{On, Out, Over}
+
+-- 01's answer for each way to stop: a refusal by its number, a hand-out by its rows
+abbrev pub stop_reply : Stop → List ℕ → Reply
+stop_reply HandedOut rows = handed rows
+stop_reply Spent rows = spent
+stop_reply End rows = end
+stop_reply (Refused x) rows = refused (number x)
 
 -- the rows of a side: at most 64 of them count, in an array of 64, each within the 64 cases
 pub record Sized (n : ℕ) (rows : List ℕ) : Type 0 where
@@ -124,8 +131,8 @@ move_by r true w x = move_keeping (move (candidates r)) (chain_of r) (hands_over
 
 -- ---- a call's moves, by the rule mv
 -- b moves from the state x come out as o, in k moves, at the state y, whatever is handed out for the picks there
-abbrev pub ComesOut : (State → Move) → ℕ → State → Outcome → ℕ → State → Type 0
-ComesOut mv b x o k y = (out : List ℕ → List ℕ) → carry_by mv out b x ≡ result (outcome o (out y.picks)) k y
+abbrev pub ComesOut : (State → Move) → ℕ → State → Stop → ℕ → State → Type 0
+ComesOut mv b x o k y = (out : List ℕ → List ℕ) → carry_by mv out b x ≡ result (stop_reply o (out y.picks)) k y
 
 pub record Advanced (mv : State → Move) (n : ℕ) (rows c k : List ℕ) (b : ℕ) (x : State) (r : Report) : Type 0 where
   pub comes : ComesOut mv b x r.outcome r.moves (state_of k r.spot)
@@ -201,11 +208,11 @@ abbrev pub CarriesOn : (State → Move) → List ℕ → List ℕ → ℕ → Ph
 CarriesOn mv r k count f b c' k' o = CarriesBy mv (FitsOn r) (chain_of r) k count f b c' k' o
 
 -- what the checks of such a call give, before it moves: a refusal, or a spot that holds the value's state
-pub record Opens (n : ℕ) (rows k : List ℕ) (count : ℕ) (f : Phase) (b : ℕ) (c' : List ℕ) (o : Report) : Type 0 where
-  pub value : ((s : State) → StandsFor (take n rows) k count f s → ⊥) → o.outcome ≡ Refused NotReached
-  pub large : (s : State) → StandsFor (take n rows) k count f s → most_budget < b → o.outcome ≡ Refused BudgetTooLarge
-  pub opens : (s : State) → StandsFor (take n rows) k count f s → b ≤ most_budget → (o.outcome ≡ Spent) × (state_of k o.spot ≡ s)
-  pub holds : ((why : Refusal) → o.outcome ≡ Refused why → ⊥) → (b ≤ most_budget) × Holds n rows c' k o.spot
+pub record Opens (n : ℕ) (rows k : List ℕ) (count : ℕ) (f : Phase) (b : ℕ) (c' : List ℕ) (o : Result Spot Refusal) : Type 0 where
+  pub value : ((s : State) → StandsFor (take n rows) k count f s → ⊥) → o ≡ Err NotReached
+  pub large : (s : State) → StandsFor (take n rows) k count f s → most_budget < b → o ≡ Err BudgetTooLarge
+  pub opens : (s : State) → StandsFor (take n rows) k count f s → b ≤ most_budget → (x : Spot) × (o ≡ Ok x) × (state_of k x ≡ s)
+  pub holds : (x : Spot) → o ≡ Ok x → (b ≤ most_budget) × Holds n rows c' k x
 
 -- ---- under a preference, on the rows r
 -- the moves of the core: rules 1 to 5 by place, and where it omits, nothing is given of a set that has no pair of w
@@ -240,7 +247,7 @@ refused_report why = record { outcome = Refused why; moves = 0; spot = spot_down
 abbrev pub next_of : Table → List ℕ → Bool → Report → List ℕ → Value
 next_of t order omit o k = record { table = t; order = order; picks = k; count = o.spot.count; phase = mode_phase o.spot.mode; omit = omit }
 
-abbrev pub step_by : Table → List ℕ → Bool → Report → List ℕ → List ℕ → Outcome → Step
+abbrev pub step_by : Table → List ℕ → Bool → Report → List ℕ → List ℕ → Stop → Step
 step_by t order omit o k rows HandedOut =
     record {
       answer = handed (take t.gauges rows);

@@ -1,5 +1,5 @@
 -- `samples::sample_table` meets its contract: each answer is the definition's by the tests that led to it.
-use mathlib.Core.Path.{◌≡◌, ◌∙◌}
+use mathlib.Core.Path.{◌≡◌}
 use Rattle.refusals.specs.declared.Refusal.TheVariants.{TableShape, SampleInput}
 use Rattle.refusals.proofs.Answering.{answer-refused, answer_given}
 use Rattle.samples.specs.Samples.{shape_refusal}
@@ -10,8 +10,8 @@ use Rattle.samples.proofs.sample_table.Goals as goal
 pub returns-then-not-in_range : goal.returns-then-not-in_range
 returns-then-not-in_range c =
     record {
-      result_value = c.refuse.ensures
-          ∙ answer-refused TableShape _ _ _
+      result_value =
+          answer-refused TableShape _ _ _
           (refused_shape _ _ _ _ (bad_gauges _ _ _ c.in_range.ensures c.if-not-in_range.true));
       claims = sample_claims _ _ _ _;
     }
@@ -19,8 +19,8 @@ returns-then-not-in_range c =
 pub returns-then-not-in_range-2 : goal.returns-then-not-in_range-2
 returns-then-not-in_range-2 c =
     record {
-      result_value = c.refuse-then-not-in_range-2.ensures
-          ∙ answer-refused TableShape _ _ _
+      result_value =
+          answer-refused TableShape _ _ _
           (refused_shape _ _ _ _
           (bad-cases _ _ _ c.in_range.ensures c.if-not-in_range.false _
           c.in_range-2.ensures c.if-not-in_range-2.true));
@@ -32,7 +32,7 @@ returns-then-start-eq0 c =
     let shape : shape_refusal c.args.gauges c.args.cases ≡ 0 = good-shape _ _ _ c.in_range.ensures c.if-not-in_range.false _
     c.in_range-2.ensures c.if-not-in_range-2.false in
     record {
-      result_value = c.refuse-then-start-eq0.ensures ∙ answer-refused SampleInput _ _ _ (refused_input _ _ _ _ shape (bad_start _ _ c.if-start-eq0.true));
+      result_value = answer-refused SampleInput _ _ _ (refused_input _ _ _ _ shape (bad_start _ _ c.if-start-eq0.true));
       claims = sample_claims _ _ _ _;
     }
 
@@ -41,8 +41,8 @@ returns-then-density-gt-MOST_DENSITY c =
     let shape : shape_refusal c.args.gauges c.args.cases ≡ 0 = good-shape _ _ _ c.in_range.ensures c.if-not-in_range.false _
     c.in_range-2.ensures c.if-not-in_range-2.false in
     record {
-      result_value = c.refuse-then-density-gt-MOST_DENSITY.ensures
-          ∙ answer-refused SampleInput _ _ _
+      result_value =
+          answer-refused SampleInput _ _ _
           (refused_input _ _ _ _ shape (bad-density _ _ c.if-start-eq0.false c.if-density-gt-MOST_DENSITY.true));
       claims = sample_claims _ _ _ _;
     }

@@ -6,8 +6,5 @@ use Rattle.search.specs.Finding.{candidate_in, within}
 use Rattle.search.proofs.Within.{Passed}
 use Rattle.search.proofs.next_candidate_of.Given as goal
 
-abbrev pub invariant-loop-rest : goal.invariant-loop-rest
-invariant-loop-rest l = Passed (λ (i : ℕ). candidate_in (within l.set l.rows) l.left 64 i ≡ false) l.initial.rest l.rest
-
-abbrev pub decreases-loop-rest : goal.decreases-loop-rest
-decreases-loop-rest l = l.rest
+abbrev pub invariant-loop-g : goal.invariant-loop-g
+invariant-loop-g l = Passed (λ (i : ℕ). candidate_in (within l.set l.rows) l.left 64 i ≡ false) l.places (l.g-iterator).0

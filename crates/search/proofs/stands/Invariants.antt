@@ -9,8 +9,5 @@ use Rattle.search.specs.Finding.{blocks}
 use Rattle.search.proofs.Within.{Passed}
 use Rattle.search.proofs.stands.Given as goal
 
-abbrev pub invariant-loop-rest : goal.invariant-loop-rest
-invariant-loop-rest l = Passed (λ (h : ℕ). blocks (bit_and (row l.rows l.g) l.left) (bit_and (row l.rows h) l.left) (ltb h l.g) ≡ false) l.set l.rest
-
-abbrev pub decreases-loop-rest : goal.decreases-loop-rest
-decreases-loop-rest l = l.rest
+abbrev pub invariant-loop-h : goal.invariant-loop-h
+invariant-loop-h l = Passed (λ (h : ℕ). blocks (bit_and (row l.rows l.g) l.left) (bit_and (row l.rows h) l.left) (ltb h l.g) ≡ false) l.set (l.h-iterator).0

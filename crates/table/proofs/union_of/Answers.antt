@@ -10,4 +10,4 @@ pub loop-i-preserved : goal.loop-i-preserved
 loop-i-preserved c = let l = c.loop-i in (omega arith, omega arith, union_more _ _ l.i _ l.invariant.0 l.invariant.2)
 
 pub returns : goal.returns
-returns c = union_done _ _ _ _ c.loop-i.i _ c.at_most_rows-last.ensures c.loop-i.invariant.1 c.loop-i-test.false c.loop-i.invariant.2
+returns c = union_done _ _ _ _ c.loop-i.i _ c.at_most_rows-i-end.ensures c.loop-i.invariant.1 c.loop-i-test.false c.loop-i.invariant.2

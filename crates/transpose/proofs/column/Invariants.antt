@@ -1,10 +1,6 @@
 -- `transpose::column` meets its contract: the number so far is the column of the rows passed.
-use Prim.Native.Nat.{◌≤◌}
 use Rattle.transpose.proofs.Columns.{Gathered}
 use Rattle.transpose.proofs.column.Given as goal
 
 abbrev pub invariant-loop-i : goal.invariant-loop-i
-invariant-loop-i l = (l.i ≤ l.many) × Gathered l.many l.k l.rows l.i l.set
-
-abbrev pub decreases-loop-i : goal.decreases-loop-i
-decreases-loop-i l = l.i
+invariant-loop-i l = Gathered l.many l.k l.rows l.i l.set

@@ -4,6 +4,3 @@ use Rattle.transpose.proofs.four_columns.Given as goal
 
 abbrev pub invariant-loop-i : goal.invariant-loop-i
 invariant-loop-i l = Fours l.many l.k l.rows l.i l.a l.b l.c l.d
-
-abbrev pub decreases-loop-i : goal.decreases-loop-i
-decreases-loop-i l = l.i

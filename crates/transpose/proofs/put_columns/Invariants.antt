@@ -1,11 +1,11 @@
 -- `transpose::put_columns` meets its contract: the columns below `k` are put.
-use Prim.Native.Nat.{◌-◌, ◌≤◌}
+use Prim.Native.Nat.{◌*◌}
 use Rattle.transpose.specs.Places.{places}
 use Rattle.transpose.specs.private.Puts.{Putting}
 use Rattle.transpose.proofs.put_columns.Given as goal
 
-abbrev pub invariant-loop-k : goal.invariant-loop-k
-invariant-loop-k l = (l.k ≤ l.width) × Putting (places l.many l.rows) l.initial.out l.at l.k l.out
+abbrev pub invariant-loop-q : goal.invariant-loop-q
+invariant-loop-q l = Putting (places l.many l.rows) l.initial.out l.at (4 * l.q) l.out
 
-abbrev pub decreases-loop-k : goal.decreases-loop-k
-decreases-loop-k l = l.width - l.k
+abbrev pub invariant-loop-k : goal.invariant-loop-k
+invariant-loop-k l = Putting (places l.many l.rows) l.fn.out l.at l.k l.out

@@ -1,5 +1,5 @@
--- What the private steps of a trial and a commit have at hand and compute: a place of a legal table, a chain of a table's shape, a row with one
--- place changed, and a number for each effect, by which two are compared. Places count from 0 here: place k of a row is case k + 1.
+-- What the private steps of a trial and a commit have at hand and compute: a place of a legal table, a chain of a table's shape, and a row with one
+-- place changed. Places count from 0 here: place k of a row is case k + 1.
 use Rattle.std.specs.Prelude.{◌≡◌, not, cond, ℕ, ◌≤◌, eqb}
 use Rattle.sets.specs.Sets.{bit}
 use Rattle.table.specs.declared.Table.{Table}
@@ -7,8 +7,6 @@ use Rattle.table.specs.declared.Chain.{Chain}
 use Rattle.table.specs.Pairs.{row}
 use Rattle.table.specs.Chains.{IsChain}
 use Rattle.table.specs.Tables.{Legal, chain_rows, table_refusal, chain_refusal}
-use Rattle.trials.specs.declared.Effect.{Effect}
-use Rattle.trials.specs.declared.Effect.TheVariants.{StillMaximal, OnlyChain, NotWithin}
 
 -- a place that the checks have passed: the table is legal, and has the gauge g and the case c
 pub record Placed (t : Table) (g c : ℕ) : Type 0 where
@@ -33,9 +31,3 @@ pub record Shaped (u : Table) (s : Chain) : Type 0 where
 -- r is the set a with place k the other way
 pub record Toggled (a k r : ℕ) : Type 0 where
   pub bits : (i : ℕ) → bit r i ≡ cond (eqb i k) (not (bit a i)) (bit a i)
-
--- the effects, numbered
-abbrev pub effect_number : Effect → ℕ
-effect_number StillMaximal = 0
-effect_number OnlyChain = 1
-effect_number NotWithin = 2

@@ -5,15 +5,15 @@ use Rattle.wiring.specs.private.Steps.{includes}
 use Rattle.wiring.proofs.contains.Goals as goal
 
 pub loop-i-init : goal.loop-i-init
-loop-i-init c = (omega arith, all_none _)
+loop-i-init c = all_none _
 
 pub returns-then-not-subset : goal.returns-then-not-subset
 unfolding includes
 returns-then-not-subset c = all_fails _ _ c.loop-i.i _ c.loop-i-test.true c.subset.ensures c.if-not-subset.true
 
 pub loop-i-preserved : goal.loop-i-preserved
-loop-i-preserved c = (omega arith, all_more _ _ _ c.loop-i.invariant.1 c.subset.ensures c.if-not-subset.false)
+loop-i-preserved c = all_more _ _ _ c.loop-i.invariant c.subset.ensures c.if-not-subset.false
 
 pub returns : goal.returns
 unfolding includes
-returns c = all_done _ _ _ c.loop-i.invariant.1 (omega arith)
+returns c = all_done _ _ _ c.loop-i.invariant (omega arith)

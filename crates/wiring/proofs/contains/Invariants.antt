@@ -1,5 +1,5 @@
 -- `wiring::contains` meets its contract: the test holds at each row passed.
-use Prim.Native.Nat.{ℕ, ◌≤◌, ◌-◌}
+use Prim.Native.Nat.{ℕ}
 use mathlib.Core.Path.{◌≡◌}
 use mathlib.Core.Bool.{true}
 use Rattle.sets.specs.Sets.{is_subset}
@@ -8,7 +8,4 @@ use Rattle.table.specs.Pairs.{row}
 use Rattle.wiring.proofs.contains.Given as goal
 
 abbrev pub invariant-loop-i : goal.invariant-loop-i
-invariant-loop-i l = (l.i ≤ l.n) × (all_below (λ (j : ℕ). is_subset (row l.rows j) (row l.outer j)) l.i ≡ true)
-
-abbrev pub decreases-loop-i : goal.decreases-loop-i
-decreases-loop-i l = l.n - l.i
+invariant-loop-i l = all_below (λ (j : ℕ). is_subset (row l.rows j) (row l.outer j)) l.i ≡ true

@@ -1,12 +1,9 @@
 -- `wiring::lowest_beyond` meets its contract: no place passed is beyond.
-use Prim.Native.Nat.{ℕ, ◌≤◌, ◌<◌, ◌-◌}
+use Prim.Native.Nat.{ℕ, ◌≤◌, ◌<◌}
 use mathlib.Core.Path.{◌≡◌}
 use mathlib.Core.Bool.{false}
 use Rattle.pair_orders.specs.private.Growing.{beyond}
 use Rattle.wiring.proofs.lowest_beyond.Given as goal
 
 abbrev pub invariant-loop-k : goal.invariant-loop-k
-invariant-loop-k l = (l.k ≤ 64) × ((i : ℕ) → 0 ≤ i → i < l.k → beyond l.wide l.own i ≡ false)
-
-abbrev pub decreases-loop-k : goal.decreases-loop-k
-decreases-loop-k l = 64 - l.k
+invariant-loop-k l = (i : ℕ) → 0 ≤ i → i < l.k → beyond l.wide l.own i ≡ false

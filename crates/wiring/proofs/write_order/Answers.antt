@@ -1,19 +1,20 @@
 -- `wiring::write_order` meets its contract: the pairs are counted before a byte is stored, and each return has its law.
 use Prim.Native.Nat.{◌+◌, ◌-◌}
-use mathlib.Core.Path.{◌≡◌, sym, ap}
+use mathlib.Core.Path.{◌≡◌, refl}
 use native.Mathlib.Omega.{arith}
 use lib.ListN.{length}
 use borrow.Author.Rules.{rules}
-use Rattle.refusals.specs.Answers.{verdict}
+use Rattle.std.specs.Prelude.{Err}
 use Rattle.pair_orders.specs.private.Growing.{pairs_in}
 use Rattle.pair_orders.proofs.Orders.{order_claims}
 use Rattle.wiring.proofs.Answers.{Plan, plan, plan-ready, wires_refused, wires-short, wires-written}
 use Rattle.wiring.proofs.write_order.Goals as goal
 
-pub returns-in-Refused : goal.returns-in-Refused
-returns-in-Refused c =
+pub returns-in_err-check : goal.returns-in_err-check
+returns-in_err-check c =
+    let up : c.from_residual.result ≡ Err c.in_err-check.field-0.0 = search rules in
     record {
-      wires = wires_refused _ _ _ _ _ c.check-checked.ensures c.in-Refused.why (sym (ap verdict c.in-Refused.is));
+      wires = rw up (wires_refused _ _ _ _ _ c.in_err-check.ensures c.in_err-check.field-0.0 refl);
       claims = order_claims;
     }
 
@@ -22,8 +23,7 @@ pairs_in-requires c =
     let table-size : length c.args.t.rows ≡ 64 = search rules in
     let chain-size : length c.args.s.rows ≡ 64 = search rules in
     let ladder-size : length c.args.ladder.rows ≡ 64 = search rules in
-    let planned : Plan c.args.t c.args.s c.args.ladder = plan _ _ _ table-size chain-size ladder-size _ c.check-checked.ensures
-    (ap verdict c.in_default.is) in
+    let planned : Plan c.args.t c.args.s c.args.ladder = plan _ _ _ table-size chain-size ladder-size _ c.in_ok-check.ensures refl in
     planned.between.few
 
 pub pairs_in-requires-2 : goal.pairs_in-requires-2
@@ -31,8 +31,7 @@ pairs_in-requires-2 c =
     let table-size : length c.args.t.rows ≡ 64 = search rules in
     let chain-size : length c.args.s.rows ≡ 64 = search rules in
     let ladder-size : length c.args.ladder.rows ≡ 64 = search rules in
-    let planned : Plan c.args.t c.args.s c.args.ladder = plan _ _ _ table-size chain-size ladder-size _ c.check-checked.ensures
-    (ap verdict c.in_default.is) in
+    let planned : Plan c.args.t c.args.s c.args.ladder = plan _ _ _ table-size chain-size ladder-size _ c.in_ok-check.ensures refl in
     planned.between.few
 
 pub overflow_sub-count : goal.overflow_sub-count
@@ -40,8 +39,7 @@ overflow_sub-count c =
     let table-size : length c.args.t.rows ≡ 64 = search rules in
     let chain-size : length c.args.s.rows ≡ 64 = search rules in
     let ladder-size : length c.args.ladder.rows ≡ 64 = search rules in
-    let planned : Plan c.args.t c.args.s c.args.ladder = plan _ _ _ table-size chain-size ladder-size _ c.check-checked.ensures
-    (ap verdict c.in_default.is) in
+    let planned : Plan c.args.t c.args.s c.args.ladder = plan _ _ _ table-size chain-size ladder-size _ c.in_ok-check.ensures refl in
     omega (arith, planned.count, c.pairs_in.ensures.0, c.pairs_in-2.ensures.0)
 
 pub returns-then-out-size : goal.returns-then-out-size
@@ -49,11 +47,10 @@ returns-then-out-size c =
     let table-size : length c.args.t.rows ≡ 64 = search rules in
     let chain-size : length c.args.s.rows ≡ 64 = search rules in
     let ladder-size : length c.args.ladder.rows ≡ 64 = search rules in
-    let planned : Plan c.args.t c.args.s c.args.ladder = plan _ _ _ table-size chain-size ladder-size _ c.check-checked.ensures
-    (ap verdict c.in_default.is) in
+    let planned : Plan c.args.t c.args.s c.args.ladder = plan _ _ _ table-size chain-size ladder-size _ c.in_ok-check.ensures refl in
     let counted : pairs_in c.args.ladder.rows c.args.t.gauges ≡ pairs_in c.args.s.rows c.args.t.gauges + (c.pairs_in.result - c.pairs_in-2.result) = omega (arith, planned.count, c.pairs_in.ensures.0, c.pairs_in-2.ensures.0) in
     record {
-      wires = wires-short _ _ _ _ _ c.check-checked.ensures (ap verdict c.in_default.is) planned _ counted c.if-out-size.true;
+      wires = wires-short _ _ _ _ _ c.in_ok-check.ensures refl planned _ counted c.if-out-size.true;
       claims = order_claims;
     }
 
@@ -62,21 +59,19 @@ put_order-requires c =
     let table-size : length c.args.t.rows ≡ 64 = search rules in
     let chain-size : length c.args.s.rows ≡ 64 = search rules in
     let ladder-size : length c.args.ladder.rows ≡ 64 = search rules in
-    let planned : Plan c.args.t c.args.s c.args.ladder = plan _ _ _ table-size chain-size ladder-size _ c.check-checked.ensures
-    (ap verdict c.in_default.is) in
+    let planned : Plan c.args.t c.args.s c.args.ladder = plan _ _ _ table-size chain-size ladder-size _ c.in_ok-check.ensures refl in
     let counted : pairs_in c.args.ladder.rows c.args.t.gauges ≡ pairs_in c.args.s.rows c.args.t.gauges + (c.pairs_in.result - c.pairs_in-2.result) = omega (arith, planned.count, c.pairs_in.ensures.0, c.pairs_in-2.ensures.0) in
-    plan-ready _ _ _ _ _ c.check-checked.ensures (ap verdict c.in_default.is) planned _ counted c.if-out-size.false
+    plan-ready _ _ _ _ _ c.in_ok-check.ensures refl planned _ counted c.if-out-size.false
 
 pub returns : goal.returns
 returns c =
     let table-size : length c.args.t.rows ≡ 64 = search rules in
     let chain-size : length c.args.s.rows ≡ 64 = search rules in
     let ladder-size : length c.args.ladder.rows ≡ 64 = search rules in
-    let planned : Plan c.args.t c.args.s c.args.ladder = plan _ _ _ table-size chain-size ladder-size _ c.check-checked.ensures
-    (ap verdict c.in_default.is) in
+    let planned : Plan c.args.t c.args.s c.args.ladder = plan _ _ _ table-size chain-size ladder-size _ c.in_ok-check.ensures refl in
     let counted : pairs_in c.args.ladder.rows c.args.t.gauges ≡ pairs_in c.args.s.rows c.args.t.gauges + (c.pairs_in.result - c.pairs_in-2.result) = omega (arith, planned.count, c.pairs_in.ensures.0, c.pairs_in-2.ensures.0) in
     record {
-      wires = wires-written _ _ _ _ _ c.check-checked.ensures (ap verdict c.in_default.is) planned _ counted c.if-out-size.false _
+      wires = wires-written _ _ _ _ _ c.in_ok-check.ensures refl planned _ counted c.if-out-size.false _
           c.put_order.ensures;
       claims = order_claims;
     }

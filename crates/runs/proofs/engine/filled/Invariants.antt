@@ -1,11 +1,7 @@
 -- `runs::engine::filled` meets its contract: what was counted is the number of the places passed that are not zero.
-use Prim.Native.Nat.{◌≤◌, ◌-◌}
 use mathlib.Core.Path.{◌≡◌}
 use Rattle.runs.specs.private.Working.{filled}
 use Rattle.runs.proofs.engine.filled.Given as goal
 
 abbrev pub invariant-loop-i : goal.invariant-loop-i
-invariant-loop-i l = (l.i ≤ 64) × (l.seen ≡ filled l.picks l.i)
-
-abbrev pub decreases-loop-i : goal.decreases-loop-i
-decreases-loop-i l = 64 - l.i
+invariant-loop-i l = l.seen ≡ filled l.picks l.i

@@ -1,6 +1,7 @@
 -- `runs::listing::list_on` meets its contract: the calls made are the first of those asked for (`Sofar`).
 use Rattle.runs.proofs.Turns.{place-room, holds_size, advanced_most}
 use Rattle.runs.proofs.Turns.{loop-next, loop-unwritten, loop-stop}
+use Rattle.runs.proofs.listing.list_on.Goals.{then-writing, else-writing}
 use Rattle.runs.proofs.listing.list_on.Goals as goal
 
 pub overflow_sub-rest : goal.overflow_sub-rest
@@ -14,12 +15,15 @@ hand-requires c =
     let size = holds_size _ _ _ _ _ c.requires.0 c.advance-report.ensures.holds in
     (place-room _ _ _ _ _ _ _ _ _ _ _ _ _ c.loop-room.invariant.1 c.if-writing.true c.loop-room-test.true, c.requires.2, size)
 
-pub loop-room-preserved-then-writing : goal.loop-room-preserved-then-writing
-loop-room-preserved-then-writing c =
-    loop-next _ _ _ _ _ _ _ _ _ _ _ _ _ _ _ _ _ c.loop-room.invariant.1 c.requires.3 c.loop-room-test.true _ _ _ c.advance-report.ensures
-    c.in-HandedOut.is c.if-writing.true _ c.hand.ensures
-
 pub loop-room-preserved : goal.loop-room-preserved
 loop-room-preserved c =
-    loop-unwritten _ _ _ _ _ _ _ _ _ _ _ _ _ _ _ _ _ c.loop-room.invariant.1 c.requires.3 c.loop-room-test.true _ _ _ c.advance-report.ensures
-    c.in-HandedOut.is c.if-writing.false
+    elim c.if-writing.branch [
+      | then-writing w ↦
+          rw (w.out-is, w.place-is)
+          (loop-next _ _ _ _ _ _ _ _ _ _ _ _ _ _ _ _ _ c.loop-room.invariant.1 c.requires.3 c.loop-room-test.true _ _ _ c.advance-report.ensures
+          c.in-HandedOut.is w.if-writing.true _ w.hand.ensures)
+      | else-writing w ↦
+          rw (w.out-is, w.place-is)
+          (loop-unwritten _ _ _ _ _ _ _ _ _ _ _ _ _ _ _ _ _ c.loop-room.invariant.1 c.requires.3 c.loop-room-test.true _ _ _ c.advance-report.ensures
+          c.in-HandedOut.is w.if-writing.false)
+    ]

@@ -1,5 +1,4 @@
 -- `runs::listing::put_numbered` meets its contract: the rows passed are stored.
-use Prim.Native.Nat.{◌-◌, ◌≤◌}
 use lib.ListN.{take}
 use Rattle.table.specs.Tables.{padded}
 use Rattle.preference.specs.Placing.{gathered}
@@ -7,7 +6,4 @@ use Rattle.runs.specs.private.Listing.{Puts}
 use Rattle.runs.proofs.listing.put_numbered.Given as goal
 
 abbrev pub invariant-loop-i : goal.invariant-loop-i
-invariant-loop-i l = (l.i ≤ l.many) × Puts l.initial.out l.at (take l.i (padded (gathered l.n l.rows l.places))) l.out
-
-abbrev pub decreases-loop-i : goal.decreases-loop-i
-decreases-loop-i l = l.many - l.i
+invariant-loop-i l = Puts l.initial.out l.at (take l.i (padded (gathered l.n l.rows l.places))) l.out

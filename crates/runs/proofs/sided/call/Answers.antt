@@ -1,44 +1,38 @@
--- `runs::sided::call` meets its contract: the moves under the order are the run's (`carried_by`), at the side that the mark names (`calls_at`).
-use mathlib.Core.Path.{refl}
+-- `runs::sided::call` meets its contract: the moves under the order are the run's, at the side (`carried_by`).
+use mathlib.Core.Path.{sym, ◌∙◌}
 use mathlib.Core.Bool.{false}
 use Rattle.basics.proofs.Clash.{clash}
-use Rattle.lists.specs.Lists.{gauge_side, case_side}
+use Rattle.table.specs.declared.Table.{Table}
+use Rattle.runs.specs.Sides.{side_of}
 use Rattle.runs.specs.private.Sided.{table_in}
-use Rattle.runs.proofs.Sides.{gauge_works}
-use Rattle.runs.proofs.SideRows.{calls_at_lem}
+use Rattle.runs.proofs.SideRows.{given_works, sized_as}
 use Rattle.runs.proofs.Wanting.{carried_by}
 use Rattle.runs.proofs.sided.call.Goals as goal
 
 pub call_omitting-requires : goal.call_omitting-requires
-call_omitting-requires c = (c.requires.0, c.requires.1, c.requires.2, c.requires.3, c.if-shape.true)
-
-pub returns-then-shape : goal.returns-then-shape
-returns-then-shape c = calls_at_lem c.if-mark.true c.args.shape c.args.rows.now c.call_omitting.ensures
+call_omitting-requires g c = (c.requires.0, c.requires.1, c.requires.2, c.requires.3, c.if-shape.true, c.side_count-n.ensures c.args.rows.now)
 
 pub call-requires : goal.call-requires
-call-requires c =
-    let v = c.side_rows-own.ensures in
-    (v.sized, c.requires.1, v.sized.size, c.requires.2, c.requires.3)
+call-requires g c =
+    let s = sized_as g.S.Side.CASES (table_in c.args.shape c.args.rows.now) _ (c.side_count-n.ensures c.args.rows.now) c.side_rows-own.ensures in
+    (s, c.requires.1, s.size, c.requires.2, c.requires.3)
 
-pub returns-then-mark : goal.returns-then-mark
-returns-then-mark c =
-    calls_at_lem c.if-mark.true c.args.shape c.args.rows.now
-    (carried_by (table_in c.args.shape c.args.rows.now) (case_side (table_in c.args.shape c.args.rows.now)) _ _ _ refl
-    c.side_rows-own.ensures _ false c.if-shape.false (λ x. clash cc) _ _ _ _ _ _ _ _ c.call.ensures)
-
-pub call_omitting-requires-then-shape-2 : goal.call_omitting-requires-then-shape-2
-call_omitting-requires-then-shape-2 c = (c.requires.0, c.requires.1, c.requires.2, c.requires.3, c.if-shape-2.true)
-
-pub returns-then-shape-2 : goal.returns-then-shape-2
-returns-then-shape-2 c = calls_at_lem c.if-mark.false c.args.shape c.args.rows.now c.call_omitting-then-shape-2.ensures
+pub returns-then-CASES : goal.returns-then-CASES
+returns-then-CASES g c =
+    let t : Table = table_in c.args.shape c.args.rows.now in
+    carried_by t (side_of g.S.Side.CASES t) _ _ _ (c.side_count-n.ensures c.args.rows.now) c.side_rows-own.ensures _ false c.if-shape.false (λ x. clash cc)
+    _ _ _ _ _ _ _ _ c.call.ensures
 
 pub call-requires-2 : goal.call-requires-2
-call-requires-2 c =
-    let v = gauge_works (table_in c.args.shape c.args.rows.now) c.requires.0 in
-    (v.sized, c.requires.1, v.sized.size, c.requires.2, c.requires.3)
+call-requires-2 g c =
+    let t : Table = table_in c.args.shape c.args.rows.now in
+    let s = sized_as g.S.Side.CASES t _ (c.side_count-n.ensures c.args.rows.now)
+    (given_works g.S.Side.CASES t c.requires.0 (sym c.CASES.ensures ∙ c.if-CASES.false)) in
+    (s, c.requires.1, s.size, c.requires.2, c.requires.3)
 
 pub returns : goal.returns
-returns c =
-    calls_at_lem c.if-mark.false c.args.shape c.args.rows.now
-    (carried_by (table_in c.args.shape c.args.rows.now) (gauge_side (table_in c.args.shape c.args.rows.now)) _ _ _ refl
-    (gauge_works (table_in c.args.shape c.args.rows.now) c.requires.0) _ false c.if-shape-2.false (λ x. clash cc) _ _ _ _ _ _ _ _ c.call-2.ensures)
+returns g c =
+    let t : Table = table_in c.args.shape c.args.rows.now in
+    carried_by t (side_of g.S.Side.CASES t) _ _ _ (c.side_count-n.ensures c.args.rows.now)
+    (given_works g.S.Side.CASES t c.requires.0 (sym c.CASES.ensures ∙ c.if-CASES.false)) _ false c.if-shape.false (λ x. clash cc) _ _ _ _ _ _ _ _
+    c.call-2.ensures

@@ -10,11 +10,11 @@ use Rattle.runs.proofs.BatchSides.{listed_by}
 use Rattle.runs.proofs.sided.list.Goals as goal
 
 pub call-requires : goal.call-requires
-call-requires c =
-    let counted : (c.side_count-n.result ≡ (side_in c.args.mark c.args.shape c.args.rows.now).count) = c.side_count-n.ensures c.args.rows.now in
+call-requires g c =
+    let counted : (c.side_count-n.result ≡ (side_in g.S.Side.CASES c.args.shape c.args.rows.now).count) = c.side_count-n.ensures c.args.rows.now in
     let wanted-length : length c.wanted_rows-want.result ≡ 64 = search rules in
     let v = c.side_rows-own.ensures in (
-      sized_as c.args.mark (table_in c.args.shape c.args.rows.now) _ counted v,
+      sized_as g.S.Side.CASES (table_in c.args.shape c.args.rows.now) _ counted v,
       c.requires.1,
       wanted-length,
       c.requires.2,
@@ -23,8 +23,8 @@ call-requires c =
     )
 
 pub returns : goal.returns
-returns c =
-    let counted : (c.side_count-n.result ≡ (side_in c.args.mark c.args.shape c.args.rows.now).count) = c.side_count-n.ensures c.args.rows.now in
+returns g c =
+    let counted : (c.side_count-n.result ≡ (side_in g.S.Side.CASES c.args.shape c.args.rows.now).count) = c.side_count-n.ensures c.args.rows.now in
     let t : Table = table_in c.args.shape c.args.rows.now in
-    listed_by t (side_of c.args.mark t) _ _ _ counted c.side_rows-own.ensures _ c.wanted_rows-want.ensures c.args.mark _ _
-    (λ p. side_out c.args.mark t c.requires.0 _ p) _ _ _ _ _ _ _ _ _ c.call.ensures
+    listed_by t (side_of g.S.Side.CASES t) _ _ _ counted c.side_rows-own.ensures _ c.wanted_rows-want.ensures c.CASES.result _ _
+    (λ p. rw c.CASES.ensures (side_out g.S.Side.CASES t c.requires.0 _ p)) _ _ _ _ _ _ _ _ _ c.call.ensures

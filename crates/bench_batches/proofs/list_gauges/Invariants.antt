@@ -1,4 +1,0 @@
-use Rattle.bench_batches.proofs.list_gauges.Given as goal
-
-abbrev pub decreases-loop-calls : goal.decreases-loop-calls
-decreases-loop-calls l = l.calls

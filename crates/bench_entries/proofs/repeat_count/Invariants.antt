@@ -1,4 +1,0 @@
-use Rattle.bench_entries.proofs.repeat_count.Given as goal
-
-abbrev pub decreases-loop-left : goal.decreases-loop-left
-decreases-loop-left l = l.left

@@ -1,0 +1,87 @@
+// What bench_runs and bench_batches share: what is listed and how, and the sum over the ladders handed out.
+#![tactic(auto)]
+
+use preference::{GaugeOrder, Order};
+use program_input::is_given;
+use refusals::Refusal;
+use runs::Run;
+use std::env::Env;
+use std::fmt;
+use table::{Side, Table};
+
+// A table, whether the ladders with no essential pair are omitted, whether the last number is preferred to the first, and the budget of a call.
+#[derive(Clone, Copy)]
+pub struct Listing {
+    pub table: Table,
+    pub omit: bool,
+    pub backward: bool,
+    pub budget: u64,
+}
+
+impl Listing {
+    // As the third argument asks.
+    pub fn asked(rt: &impl Env, table: Table, budget: u64) -> Listing {
+        Listing {
+            table,
+            omit: is_given(rt, 3, b"omit"),
+            backward: is_given(rt, 3, b"reversed"),
+            budget,
+        }
+    }
+
+    // The fresh run of a side.
+    pub fn run<S: Side>(self) -> Result<Run<S>, Refusal> {
+        let n = if S::CASES {
+            self.table.cases
+        } else {
+            self.table.gauges
+        };
+        let order = Order::new(numbers(n, self.backward));
+        Run::<S>::start(self.table, order, self.omit)
+    }
+}
+
+// The numbers of an order: 1, 2, 3, .., or from the last to the first.
+fn numbers(n: u64, backward: bool) -> [u8; 64] {
+    let mut numbers = GaugeOrder::plain(n).numbers;
+    if backward {
+        numbers[..n.min(64) as usize].reverse();
+    }
+    numbers
+}
+
+// The ladders so far, and their sum.
+#[derive(Clone, Copy, Default)]
+pub struct Tally {
+    pub count: u64,
+    pub sum: u64,
+}
+
+impl Tally {
+    // A ladder more: the sum goes one step on (shifts 13, 7, 17) and takes the ladder in, so that the order counts.
+    pub fn with(self, ladder: &[u64]) -> Tally {
+        let mut sum = self.sum;
+        sum ^= sum << 13;
+        sum ^= sum >> 7;
+        sum ^= sum << 17;
+        Tally {
+            count: self.count.wrapping_add(1),
+            sum: sum ^ folded(ladder),
+        }
+    }
+}
+
+// The rows as one number, each shifted by another multiple of 7: gauges and cases cannot be mistaken for each other.
+fn folded(rows: &[u64]) -> u64 {
+    let mut x = 0;
+    for i in 0..rows.len().min(64) {
+        x ^= rows[i] << (i * 7 % 64);
+    }
+    x
+}
+
+impl fmt::Display for Tally {
+    fn fmt<W: fmt::Write>(&self, f: &mut fmt::Formatter<W>) -> fmt::Result {
+        write!(f, "{} {}", self.count, self.sum)
+    }
+}

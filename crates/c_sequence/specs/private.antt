@@ -1,2 +1,0 @@
--- Definitions that only private steps of this crate's code or proofs mention. No public promise does, and a reader need not believe them.
-pub mod Either
