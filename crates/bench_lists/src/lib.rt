@@ -1,6 +1,8 @@
 // What bench_runs and bench_batches share: what is listed and how, and the sum over the ladders handed out.
 #![tactic(auto)]
 
+ghost use Rattle.std.specs.Prelude.{◌≡◌, ◌+◌, ◌%◌, ◌^◌, IfOk};
+
 use preference::{GaugeOrder, Order};
 use program_input::is_given;
 use refusals::Refusal;
@@ -20,7 +22,9 @@ pub struct Listing {
 
 impl Listing {
     // As the third argument asks.
-    pub fn asked(rt: &impl Env, table: Table, budget: u64) -> Listing {
+    pub fn asked(rt: &impl Env, table: Table, budget: u64) -> Listing
+        ensures { (result.table ≡ table) × (result.budget ≡ budget) }
+    {
         Listing {
             table,
             omit: is_given(rt, 3, b"omit"),
@@ -30,7 +34,9 @@ impl Listing {
     }
 
     // The fresh run of a side.
-    pub fn run<S: Side>(self) -> Result<Run<S>, Refusal> {
+    pub fn run<S: Side>(self) -> Result<Run<S>, Refusal>
+        ensures { IfOk result (λ run. (run.table ≡ self.table) × (run.omit ≡ self.omit)) }
+    {
         let n = if S::CASES {
             self.table.cases
         } else {
@@ -59,7 +65,9 @@ pub struct Tally {
 
 impl Tally {
     // A ladder more: the sum goes one step on (shifts 13, 7, 17) and takes the ladder in, so that the order counts.
-    pub fn with(self, ladder: &[u64]) -> Tally {
+    pub fn with(self, ladder: &[u64]) -> Tally
+        ensures { result.count ≡ (self.count + 1) % 2 ^ 64 }
+    {
         let mut sum = self.sum;
         sum ^= sum << 13;
         sum ^= sum >> 7;

@@ -28,7 +28,7 @@ use Rattle.lists.specs.Lists.{gauge_side}
 use Rattle.lists.specs.OnTable.{hand_out, ReachedOn}
 use Rattle.runs.specs.Calling.{arrangement}
 use Rattle.runs.specs.Omitting.{moves_of}
-use Rattle.runs.specs.Batches.{Ending, denied, full, used, over, Tale, onward, batch_by, joined}
+use Rattle.runs.specs.Batches.{Tale, onward, batch_by, joined}
 use Rattle.runs.specs.private.Either.{call_of}
 use Rattle.runs.specs.private.Listing.{words_of}
 use Rattle.runs.proofs.Carrying.{carry_most}
@@ -36,7 +36,7 @@ use Rattle.runs.proofs.Demands.{Started, reached_next}
 use Rattle.file_writer.specs.Writing.{write_file}
 use Rattle.file_writer.proofs.Sizes.{write_length, write_six}
 use Rattle.blocks.specs.Filling.{pair_table, files, longest, calls, after, is_end, is_none, has}
-use Rattle.blocks.specs.private.Turning.{shape, ladders, most_bytes, Lent}
+use Rattle.blocks.specs.private.Turning.{shape, ladders, most_bytes, Lent, stopped, ended}
 use Rattle.blocks.proofs.Chains.{pair_legal, handed_within, never_spent}
 
 -- ---- a larger budget
@@ -62,18 +62,6 @@ module _ (mv : State → Move) (out : List ℕ → List ℕ) where
   call_few b s l = subst (λ (x : Call). x.moves ≤ b) (sym (within_by mv out b s l)) (carry_most mv out b s)
 
 -- ---- a batch as calls
--- how a batch that stopped so says that a call handed nothing out, and that one answered end
-abbrev pub stopped : Ending → Bool
-stopped (denied n) = true
-stopped full = false
-stopped used = true
-stopped over = true
-
-abbrev pub ended : Ending → Bool
-ended (denied n) = true
-ended full = false
-ended used = false
-ended over = true
 
 -- what a batch with room for k ladders gives is so many calls, each with the greatest budget: all but the last hand a
 -- set out

@@ -42,9 +42,9 @@ use Rattle.runs.proofs.Words.{words_more}
 use Rattle.file_writer.specs.Writing.{write_file, write_refusal, write_answer}
 use Rattle.file_writer.proofs.Files.{long_enough}
 use Rattle.blocks.specs.Filling.{pair_table, files, longest, calls, text, Stops}
-use Rattle.blocks.specs.private.Turning.{Checked, placed, Put, PutAll, shape, ladders, most_bytes, Lent, Added, Turned}
+use Rattle.blocks.specs.private.Turning.{Checked, placed, Put, PutAll, shape, ladders, most_bytes, Lent, Added, Turned, stopped, ended}
 use Rattle.blocks.proofs.Calls.{files_append, files_some}
-use Rattle.blocks.proofs.Batching.{stopped, ended, Made, batch_made, ladders-joined, ladders_more, joined_words, files-shape, handed_all, handed_most}
+use Rattle.blocks.proofs.Batching.{Made, batch_made, ladders-joined, ladders_more, joined_words, files-shape, handed_all, handed_most}
 use Rattle.blocks.proofs.Batching.{all_legal, files_most, files_first}
 
 -- ---- what the rules give for a call

@@ -8,9 +8,10 @@ ghost use Rattle.std.specs.Prelude.{◌≡◌, Ok, ◌+◌, ◌≤◌, ◌<◌, 
 ghost use Rattle.table.specs.Tables.{padded};
 ghost use Rattle.refusals.specs.Answers.{verdict};
 ghost use Rattle.runs.specs.Paused.{gauge_value};
+ghost use Rattle.runs.specs.Batches.{closing};
 ghost use Rattle.runs.specs.private.Listing.{words_of};
 ghost use Rattle.blocks.specs.Filling.{Filled, block, CarriesList, longest};
-ghost use Rattle.blocks.specs.private.Turning.{Checked, FillsOn, Put, PutAll, Lent, Turned, shape, ladders};
+ghost use Rattle.blocks.specs.private.Turning.{Checked, FillsOn, Put, PutAll, Lent, Turned, stopped, ended, shape, ladders};
 
 use file_writer;
 use refusals::Refusal;
@@ -34,13 +35,12 @@ pub struct Block {
     pub over: bool,
 }
 
-// One turn: the run after it, the place behind what was written, whether nothing was handed out, and whether the list ended.
+// One turn: the run after it, the place behind what was written, and how its batch stopped; a refused one is the end.
 #[derive(Clone, Copy)]
 struct Turn {
     run: GaugeRun,
     next: usize,
-    stop: bool,
-    over: bool,
+    close: Close,
 }
 
 // Fills a buffer with the files of the next ladders, on any paused value: 10, 11, 27 and 15 are refused, then 16 for a buffer shorter than the
@@ -71,8 +71,10 @@ fn fill_on(start: GaugeRun, out: &mut [u8]) -> Block
         let turn = list_some(run, &mut words, out, used);
         run = turn.run;
         used = turn.next;
-        if turn.stop {
-            return filled(run, used, turn.over);
+        match turn.close {
+            Close::Full => {}
+            Close::Spent => return filled(run, used, false),
+            Close::End => return filled(run, used, true),
         }
     }
     filled(run, used, false)
@@ -95,7 +97,8 @@ fn check_run(run: GaugeRun) -> Result<(), Refusal>
 // One batch of calls of the run, and behind the first `at` bytes the files of the ladders that it hands out.
 fn list_some(run: GaugeRun, words: &mut [u64], out: &mut [u8], at: usize) -> Turn
     requires { (length words.old ≡ 1024) × (at + longest ≤ length out.old) }
-    ensures { Turned (gauge_value run) out.old at (gauge_value result.run) result.next result.stop result.over out.new }
+    ensures { Turned (gauge_value run) out.old at (gauge_value result.run) result.next
+        (stopped (closing result.close)) (ended (closing result.close)) out.new }
 {
     let t = run.table;
     let gauges = t.gauges;
@@ -106,25 +109,16 @@ fn list_some(run: GaugeRun, words: &mut [u64], out: &mut [u8], at: usize) -> Tur
     match run.list(BUDGET, &mut words[from..many]) {
         Ok(batch) => {
             let place = put_ladders(gauges, cases, words, batch.ladders as usize, out, at);
-            match batch.close {
-                Close::Full => turned(batch.next, place, false, false),
-                Close::Spent => turned(batch.next, place, true, false),
-                Close::End => turned(batch.next, place, true, true),
-            }
+            turned(batch.next, place, batch.close)
         }
-        Err(_) => turned(run, at, true, true),
+        Err(_) => turned(run, at, Close::End),
     }
 }
 
-fn turned(run: GaugeRun, next: usize, stop: bool, over: bool) -> Turn
-    ensures { result ≡ record { run = run; next = next; stop = stop; over = over } }
+fn turned(run: GaugeRun, next: usize, close: Close) -> Turn
+    ensures { result ≡ record { run = run; next = next; close = close } }
 {
-    Turn {
-        run: run,
-        next: next,
-        stop: stop,
-        over: over,
-    }
+    Turn { run, next, close }
 }
 
 // The words for as many ladders as are called for whatever their files: a call follows while the longest file has room, and a ladder of a table

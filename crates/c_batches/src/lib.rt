@@ -20,6 +20,7 @@ use words::SHORT;
 const HEAD: usize = 3;
 
 // A batch of the gauge run in `run`, which then holds the next paused value; how it stopped, and its ladders, go into `batch`.
+// A pair of names for the two sides, here and in the other crates of the C library: C has no generic function.
 pub fn list_gauges(run: &mut [u64], budget: u64, batch: &mut [u64]) -> u64
     ensures { Lists gauge_side 1 run.old budget batch.old run.new batch.new result }
 {

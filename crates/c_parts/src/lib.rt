@@ -19,6 +19,7 @@ use words::SHORT;
 const NUMBERS: usize = 64;
 
 // The gauges that the gauge run in `run` can pick next, into `numbers`: each names a part of this one.
+// A pair of names for the two sides, as `part_gauges` and `part_cases` are one: C has no generic function.
 pub fn candidates_gauges(run: &[u64], numbers: &mut [u64]) -> u64
     ensures { GivesCandidates gauge_side 1 run.now numbers.old numbers.new result }
 {
@@ -33,6 +34,7 @@ pub fn candidates_cases(run: &[u64], numbers: &mut [u64]) -> u64
 }
 
 // The part of the gauge run in `run` that has the candidate `number` as a pick more, into `part`.
+// A pair for C, as above.
 pub fn part_gauges(run: &[u64], number: u64, part: &mut [u64]) -> u64
     ensures { GivesPart gauge_side 1 run.now number part.old part.new result }
 {

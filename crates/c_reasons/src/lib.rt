@@ -20,6 +20,7 @@ use words::SHORT;
 const PICK: usize = 1;
 
 // The first picked gauge whose table row lacks the case.
+// A pair of names for the two sides: C has no generic function.
 pub fn explain_gauge(run: &[u64], gauge: u64, case: u64, pick: &mut [u64]) -> u64
     ensures explains { Explains gauge_side gauge_question 1 run.now gauge case pick.old pick.new result }
     ensures reasons { ClaimsReasons gauge_side gauge_question 1 run.now }

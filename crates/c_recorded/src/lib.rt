@@ -81,7 +81,7 @@ pub fn write_test(test: &[u64], readings: &[i32], bytes: &mut [u8], length: &mut
     0
 }
 
-// Whether two tests are equal, 1 or 0, into `answer`.
+// Whether two tests are equal, 1 or 0, into `answer`: what the C library's entry of this name does on slices, where no derived `==` applies.
 pub fn equal(
     test: &[u64],
     readings: &[i32],
@@ -195,7 +195,8 @@ fn put_readings(out: &mut [i32], readings: [i32; 4096])
     }
 }
 
-// Puts a reading at a place.
+// Puts a reading at a place. `words::put_word` does it with words: one function over both would be generic over a number, and want `Default` for a place
+// behind the end, for two lines.
 fn put_reading(out: &mut [i32], at: usize, v: i32)
     ensures { out.new ≡ set out.old at v }
 {

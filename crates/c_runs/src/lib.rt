@@ -20,6 +20,7 @@ use words::{ORDER, SHORT, TABLE};
 const STEP: usize = 131;
 
 // Puts a fresh gauge run into `run`.
+// A pair of names for the two sides, as `run_gauges` and `run_cases` are one: C has no generic function.
 pub fn start_gauges(table: &[u64], order: &[u64], omit: u64, run: &mut [u64]) -> u64
     ensures { Starts gauge_side 1 table.now order.now omit run.old run.new result }
 {
@@ -34,6 +35,7 @@ pub fn start_cases(table: &[u64], order: &[u64], omit: u64, run: &mut [u64]) -> 
 }
 
 // A call of the gauge run in `run`, which then holds the next paused value; the answer goes into `step`.
+// A pair for C, as above.
 pub fn run_gauges(run: &mut [u64], budget: u64, step: &mut [u64]) -> u64
     ensures { Runs gauge_side 1 run.old budget step.old run.new step.new result }
 {

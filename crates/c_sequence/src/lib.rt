@@ -17,6 +17,7 @@ use words::{CHAIN, ORDER, SHORT, TABLE};
 const NUMBERS: usize = 64;
 
 // The gauges of the ladder in `chain` in the order of its pick sequence, into `numbers`.
+// A pair of names for the two sides: C has no generic function.
 pub fn sequence_gauges(table: &[u64], order: &[u64], chain: &[u64], numbers: &mut [u64]) -> u64
     ensures { GivesSequence gauge_side table.now order.now chain.now numbers.old numbers.new result }
 {

@@ -30,6 +30,7 @@ const BYTES: usize = 80;
 const LENGTH: usize = 1;
 
 // Words as lent memory has them, padded with zeros, and how many bytes they are.
+// An array with its length, and no `String`: the C library has fixed memory and no heap.
 #[derive(Clone, Copy)]
 struct Text {
     pub bytes: [u8; 80],

@@ -25,11 +25,21 @@ pub enum Search {
     Spent,
 }
 
-// What the search found, and the cover, padded with zeros.
+// What the search found, and the cover, padded with zeros. The cover stands beside the answer, and not in it: `Finds`, which the promise says, speaks of
+// the list after every answer, zeros where there is none.
 #[derive(Clone, Copy)]
 pub struct Found {
     pub search: Search,
     pub cover: [u64; 8],
+}
+
+// An uncovered set under which each ladder is tried: its first pair, how many more ladders there may be, and the ladder's place in the cover.
+#[derive(Clone, Copy)]
+struct Step {
+    left: u64,
+    first: u64,
+    k: usize,
+    at: usize,
 }
 
 // The first cover of the places `left` by as few of the boards as do, at most 8, which tries at most `budget` of them.
@@ -83,42 +93,46 @@ fn cover_left(
     if k == 0 {
         return Search::Nothing(budget);
     }
-    next_ladder(ladders, 0, first as u64, left, k - 1, at, cover, budget)
+    let step = Step {
+        left,
+        first: first as u64,
+        k: k - 1,
+        at,
+    };
+    next_ladder(ladders, 0, step, cover, budget)
 }
 
 // One next ladder: the boards from place `i` on, each that holds the first uncovered pair in turn, and under it at
-// most `k` more.
+// most `step.k` more.
 #[cycle(cover_left_next_ladder)]
-fn next_ladder(
-    ladders: &[u64],
-    i: usize,
-    first: u64,
-    left: u64,
-    k: usize,
-    at: usize,
-    cover: &mut [u64; 8],
-    budget: u64,
-) -> Search
-    requires { at + k < 8 }
-    ensures { Finds at (spend budget (trying ladders.now i first left k)) cover.old result cover.new }
+fn next_ladder(ladders: &[u64], i: usize, step: Step, cover: &mut [u64; 8], budget: u64) -> Search
+    requires { step.at + step.k < 8 }
+    ensures { Finds step.at (spend budget (trying ladders.now i step.first step.left step.k)) cover.old result cover.new }
 {
     if ladders.len() <= i {
         return Search::Nothing(budget);
     }
     let ladder = ladders[i];
-    if !sets::has(ladder, first) {
-        return next_ladder(ladders, i + 1, first, left, k, at, cover, budget);
+    if !sets::has(ladder, step.first) {
+        return next_ladder(ladders, i + 1, step, cover, budget);
     }
     if budget == 0 {
         return Search::Spent;
     }
-    let below = cover_left(ladders, left & !ladder, k, at + 1, cover, budget - 1);
+    let below = cover_left(
+        ladders,
+        step.left & !ladder,
+        step.k,
+        step.at + 1,
+        cover,
+        budget - 1,
+    );
     match below {
         Search::Cover(_, _) => {
-            cover[at] = ladder;
+            cover[step.at] = ladder;
             below
         }
-        Search::Nothing(more) => next_ladder(ladders, i + 1, first, left, k, at, cover, more),
+        Search::Nothing(more) => next_ladder(ladders, i + 1, step, cover, more),
         Search::Spent => below,
     }
 }

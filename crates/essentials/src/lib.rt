@@ -28,6 +28,23 @@ pub struct PairSet {
     pub rows: [u64; 64],
 }
 
+// A table's rows, of which the first `n` are its gauges'.
+#[derive(Clone, Copy)]
+struct GaugeRows<'a> {
+    rows: &'a [u64; 64],
+    n: usize,
+    ghost few: { n ≤ 64 },
+}
+
+// The same with the store of their unions, lent: it is not to be copied.
+#[derive(Clone, Copy)]
+struct PairUnions<'a> {
+    rows: &'a [u64; 64],
+    n: usize,
+    store: &'a [u64; 4096],
+    ghost ready: { Ready rows.now n store.now },
+}
+
 // The places of a set of cases.
 const PLACES: usize = 64;
 
@@ -51,9 +68,15 @@ pub fn is_essential(t: Table, g: Gauge, c: Case) -> Result<bool, Refusal>
     check_pair(t, g, c)?;
     let rows = t.rows;
     let n = t.gauges as usize;
-    let store = unions(&rows, n);
+    let table = GaugeRows { rows: &rows, n };
+    let store = table.unions();
+    let pairs = PairUnions {
+        rows: &rows,
+        n,
+        store: &store,
+    };
     let i = (g.0 - 1) as usize;
-    Ok(!outdone(&store, &rows, n, i, c.0 - 1))
+    Ok(!pairs.outdone(i, c.0 - 1))
 }
 
 // All essential pairs of a table.
@@ -63,10 +86,16 @@ pub fn essential_rows(t: Table) -> Result<PairSet, Refusal>
     table::check_table(t)?;
     let rows = t.rows;
     let n = t.gauges as usize;
-    let store = unions(&rows, n);
+    let table = GaugeRows { rows: &rows, n };
+    let store = table.unions();
+    let pairs = PairUnions {
+        rows: &rows,
+        n,
+        store: &store,
+    };
     let mut found = [0u64; 64];
     for i in 0..n {
-        found[i] = essential_row(&store, &rows, n, i);
+        found[i] = pairs.essential_row(i);
     }
     Ok(PairSet { rows: found })
 }
@@ -112,39 +141,39 @@ fn minus(a: u64, b: u64) -> u64
     a - (a & b)
 }
 
-// The unions of all pairs of the first `n` rows: that of place `k` of row `i` is at 64 * i + k.
-fn unions(rows: &[u64; 64], n: usize) -> [u64; 4096]
-    requires { n ≤ 64 }
-    ensures { Stored rows.now n n result }
-{
-    let mut store = [0u64; 4096];
-    for i in 0..n {
-        store_row(&mut store, rows, n, i);
+impl GaugeRows<'_> {
+    // The unions of all pairs of the first `n` rows: that of place `k` of row `i` is at 64 * i + k.
+    fn unions(self) -> [u64; 4096]
+        ensures { Stored self.entry.rows.now self.entry.n self.entry.n result }
+    {
+        let mut store = [0u64; 4096];
+        for i in 0..self.n {
+            self.store_row(&mut store, i);
+        }
+        store
     }
-    store
-}
 
-// Stores the unions of the pairs of row `i`.
-fn store_row(store: &mut [u64; 4096], rows: &[u64; 64], n: usize, i: usize)
-    requires { (n ≤ 64) × (i < 64) × Stored rows.now n i store.old }
-    ensures { Stored rows.now n (i + 1) store.new }
-{
-    let own = rows[i];
-    for k in Places(own) {
-        store[i * 64 + k] = union_against(rows, n, own, k as u64);
+    // Stores the unions of the pairs of row `i`.
+    fn store_row(self, store: &mut [u64; 4096], i: usize)
+        requires { (i < 64) × Stored self.rows.now self.n i store.old }
+        ensures { Stored self.entry.rows.now self.entry.n (i + 1) store.new }
+    {
+        let own = self.rows[i];
+        for k in Places(own) {
+            store[i * 64 + k] = self.union_against(own, k as u64);
+        }
     }
-}
 
-// The union of the first `n` rows that have a conflict of place `k` of the row `own`.
-fn union_against(rows: &[u64; 64], n: usize, own: u64, k: u64) -> u64
-    requires { n ≤ 64 }
-    ensures { result ≡ against rows.now own k n }
-{
-    let mut seen: u64 = 0;
-    for i in 0..n {
-        seen = join_row(seen, rows[i], own, k);
+    // The union of the first `n` rows that have a conflict of place `k` of the row `own`.
+    fn union_against(self, own: u64, k: u64) -> u64
+        ensures { result ≡ against self.entry.rows.now own k self.entry.n }
+    {
+        let mut seen: u64 = 0;
+        for i in 0..self.n {
+            seen = join_row(seen, self.rows[i], own, k);
+        }
+        seen
     }
-    seen
 }
 
 // `seen` with the row, where this has a conflict of place `k` of the row `own`.
@@ -160,53 +189,55 @@ fn join_row(seen: u64, row: u64, own: u64, k: u64) -> u64
     seen | row
 }
 
-// The essential pairs of row `g`.
-fn essential_row(store: &[u64; 4096], rows: &[u64; 64], n: usize, g: usize) -> u64
-    requires { Ready rows.now n store.now × (g < n) }
-    ensures { EssentialRow rows.now g result }
-{
-    let own = rows[g];
-    let mut kept = own;
-    for k in Places(own) {
-        if outdone(store, rows, n, g, k as u64) {
-            kept = sets::without(kept, k as u64);
+impl PairUnions<'_> {
+    // The essential pairs of row `g`.
+    fn essential_row(self, g: usize) -> u64
+        requires { g < self.n }
+        ensures { EssentialRow self.entry.rows.now g result }
+    {
+        let own = self.rows[g];
+        let mut kept = own;
+        for k in Places(own) {
+            if self.outdone(g, k as u64) {
+                kept = sets::without(kept, k as u64);
+            }
         }
+        kept
     }
-    kept
-}
 
-// Whether some pair's conflicts strictly contain those of place `k` of row `g`.
-fn outdone(store: &[u64; 4096], rows: &[u64; 64], n: usize, g: usize, k: u64) -> bool
-    requires { Ready rows.now n store.now × Placed rows.now n g k }
-    ensures { (result ≡ true) ↔ Outdone rows.now g k }
-{
-    for h in 0..n {
-        if outdone_in(store, rows, n, g, k, h) {
-            return true;
+    // Whether some pair's conflicts strictly contain those of place `k` of row `g`.
+    fn outdone(self, g: usize, k: u64) -> bool
+        requires { Placed self.rows.now self.n g k }
+        ensures { (result ≡ true) ↔ Outdone self.entry.rows.now g k }
+    {
+        for h in 0..self.n {
+            if self.outdone_in(g, k, h) {
+                return true;
+            }
         }
+        false
     }
-    false
-}
 
-// Whether those of some pair of row `h` do.
-fn outdone_in(store: &[u64; 4096], rows: &[u64; 64], n: usize, g: usize, k: u64, h: usize) -> bool
-    requires { Ready rows.now n store.now × Placed rows.now n g k × (h < n) }
-    ensures { (result ≡ true) ↔ OutdoneIn rows.now g k h }
-{
-    let own = rows[g];
-    let other = rows[h];
-    let j = k as usize;
-    let union = store[g * 64 + j];
-    if !sets::subset(union & other, own) {
-        return false;
-    }
-    let places = minus(other, union);
-    for d in Places(places) {
-        if !included(store[h * 64 + d], k, own, other) {
-            return true;
+    // Whether those of some pair of row `h` do.
+    fn outdone_in(self, g: usize, k: u64, h: usize) -> bool
+        requires { Placed self.rows.now self.n g k × (h < self.n) }
+        ensures { (result ≡ true) ↔ OutdoneIn self.entry.rows.now g k h }
+    {
+        let own = self.rows[g];
+        let other = self.rows[h];
+        let j = k as usize;
+        let union = self.store[g * 64 + j];
+        if !sets::subset(union & other, own) {
+            return false;
         }
+        let places = minus(other, union);
+        for d in Places(places) {
+            if !included(self.store[h * 64 + d], k, own, other) {
+                return true;
+            }
+        }
+        false
     }
-    false
 }
 
 // Whether the conflicts of place `k` of the row `outer` include those of a pair of the row `inner` whose union is

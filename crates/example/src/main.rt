@@ -14,6 +14,7 @@ use table::{Case, Chain, Gauge, Table};
 use trials::Effect;
 
 // What ends the answers early: a refusal, which is said, or a line that could not be written.
+// The error enum of a program, and no result of its own: each variant is a way to fail.
 #[derive(Drop)]
 enum Failure {
     Refused(Refusal),

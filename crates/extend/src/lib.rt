@@ -8,11 +8,10 @@ ghost use Rattle.std.specs.Prelude.{◌≡◌, ◌≤◌, ◌<◌};
 ghost use Rattle.table.specs.Chains.{IsChain};
 ghost use Rattle.table.specs.Tables.{chain_rows};
 ghost use Rattle.table.proofs.Legality.{ChainFacts};
-ghost use Rattle.search.specs.Finding.{FirstOf};
 ghost use Rattle.preference.specs.Preferences.{order_of};
 ghost use Rattle.extend.specs.Extending.{extended, grow_refusal, FirstRows, Extends};
 ghost use Rattle.extend.specs.private.FirstByNumber.{FirstByNumber};
-ghost use Rattle.extend.specs.private.PickSteps.{fits_in};
+ghost use Rattle.extend.specs.private.PickSteps.{fits_in, FirstPlace};
 
 use judge;
 use preference;
@@ -78,10 +77,9 @@ fn first_rows(t: Table, s: Chain) -> [u64; 64]
     let mut rows = [0u64; 64];
     for _turn in 0..n {
         let all_owed = table::union_of(&owed, 0, n);
-        let g = next_fitting(&outer, unpicked, left, n, all_owed);
-        if n <= g {
+        let Some(g) = next_fitting(&outer, unpicked, left, n, all_owed) else {
             return rows;
-        }
+        };
         left = outer[g] & left;
         rows[g] = left;
         unpicked = sets::without(unpicked, g as u64);
@@ -90,17 +88,17 @@ fn first_rows(t: Table, s: Chain) -> [u64; 64]
     rows
 }
 
-// The lowest place of a gauge that fits, of the first `n`; `n` where there is none.
-fn next_fitting(rows: &[u64; 64], unpicked: u64, left: u64, n: usize, owed: u64) -> usize
+// The lowest place of a gauge that fits, of the first `n`.
+fn next_fitting(rows: &[u64; 64], unpicked: u64, left: u64, n: usize, owed: u64) -> Option<usize>
     requires { n ≤ 64 }
-    ensures { FirstOf (fits_in rows.now unpicked left owed) 0 n result }
+    ensures { FirstPlace (fits_in rows.now unpicked left owed) n result }
 {
     for g in 0..n {
         if fits(rows, unpicked, left, owed, g) {
-            return g;
+            return Some(g);
         }
     }
-    n
+    None
 }
 
 // Whether the gauge at place `g` is a candidate whose remainder contains `owed`.

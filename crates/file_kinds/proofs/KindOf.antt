@@ -1,7 +1,8 @@
 -- The kind of a line, by the tests that the code makes: a size and an entry out of range, an entry that is taken, the fields by the kind; that
 -- a size and an entry that are taken are in range, which `reader` rests on. The first line is in Opening.antt.
--- Pins, which nothing else cites: `head-gauges`, `head-cases`, `entry-gauge`, `entry_case`, `entry-entry`, `by_pattern`, `by_integer`.
-use Prim.Native.Nat.{ℕ, ◌≤◌}
+-- Pins, which nothing else cites: `head-gauges`, `head-cases`, `entry-gauge`, `entry_case`, `entry-reach`, `entry-entry`, `by_pattern`,
+-- `by_integer`.
+use Prim.Native.Nat.{ℕ, ◌≤◌, ◌<◌}
 use mathlib.Core.Path.{◌≡◌, refl, ap, sym, ◌∙◌}
 use mathlib.Core.List.{List}
 use mathlib.Core.Bool.{Bool, true, false, cond, ◌&&◌}
@@ -9,7 +10,7 @@ use native.Mathlib.Omega.{arith}
 use lib.ListN.{length}
 use lib.Dec.{ltb}
 use lib.IntN.{ℤ, pos, nat_abs}
-use borrow.Author.Tests.{le-ltb, le-leb, leb-true}
+use borrow.Author.Tests.{le-ltb, lt-leb, le-leb, leb-true}
 use Rattle.basics.proofs.Clash.{clash}
 use Rattle.file_text.specs.Fields.{fields}
 use Rattle.table.specs.Tables.{in_range}
@@ -61,6 +62,11 @@ module _ (l : List ℕ) where
 
           -- z is what the code handed on of v
           module _ (m : w ≡ true) (z : ℤ) (s : z ≡ v) (n : ℕ) (d : n ≡ nat_abs z) where
+            -- a reading beyond 1,000,000 is refused, once the pair is in range
+            pub entry-reach : 1000000 < n → bad_entry ReadingRange ≡ entry_line kind gs cs l
+            unfolding entry_of
+            entry-reach y = rw (← a, k, ← b, m, lt-leb (nat_abs v) 1000000 (omega (arith, d ∙ ap nat_abs s))) at by-entry
+
             pub entry-entry : n ≤ 1000000 → Entry (record { 0 = g }) (record { 0 = c }) z ≡ entry_line kind gs cs l
             unfolding entry_of
             entry-entry y =

@@ -41,6 +41,7 @@ pub enum EntryLine {
 }
 
 // "First line: 2 not the banner." Its words may have capitals; `integers` says whether the banner of an integer file is taken too.
+// A flag, as the clauses of the readers have it: it says which files are taken, and not which step to run.
 pub fn first_line(line: &[u8], integers: bool) -> Option<Kind>
     ensures { first_line_says result ≡ first_line_says (first_line integers line.now) }
 {

@@ -42,6 +42,15 @@ pub struct Found {
     pub len: usize,
 }
 
+// What a file's banner and size line say: its kind, the last gauge, the last case and the number of entries.
+#[derive(Clone, Copy)]
+struct Shape {
+    kind: Kind,
+    gauges: Gauge,
+    cases: Case,
+    count: u64,
+}
+
 // Why a file is refused, and the number of the line that failed.
 #[derive(Clone, Copy)]
 struct Failed {
@@ -134,12 +143,12 @@ fn read_recorded(file: &[u8], integers: bool) -> Result<Test, Failed>
 
 // The lines from a place on, of which the size line is still to come; `number` is the number of the line there.
 fn read_head(file: &[u8], from: usize, kind: Kind, number: u64) -> Result<Test, Failed>
-    requires { (from ≤ length file.now) × (length file.now ≤ 65536) × (number ≤ from + 2) }
+    requires { (length file.now ≤ 65536) × (number ≤ from + 2) }
     ensures { Gathers (read_head kind (lines (drop from file.now))) (stop_head kind number (lines (drop from file.now))) result }
 {
     let mut at = from;
     let mut line = number;
-    // By the place and not by an iterator: where the next line starts is known when this one is read, and the laws go by the place.
+    // By the place and not by an iterator: `line_at` gives a line's end and where the next one starts, so that an iterator would be these lines once more.
     while at < file.len() {
         let span = file_text::line_at(file, at);
         let end = span.end;
@@ -154,39 +163,36 @@ fn read_head(file: &[u8], from: usize, kind: Kind, number: u64) -> Result<Test, 
                 return refuse(why, line);
             }
             HeadLine::Size(gauges, cases, count) => {
-                return read_entries(file, next, kind, gauges, cases, count, line + 1);
+                let shape = Shape {
+                    kind,
+                    gauges,
+                    cases,
+                    count,
+                };
+                return read_entries(file, next, shape, line + 1);
             }
         }
     }
     refuse(Refusal::SizeFields, line)
 }
 
-// The entry lines from a place on, `count` in number, where `gauges` is the last gauge and `cases` the last case;
-// `number` is the number of the line there.
-fn read_entries(
-    file: &[u8],
-    from: usize,
-    kind: Kind,
-    gauges: Gauge,
-    cases: Case,
-    count: u64,
-    number: u64,
-) -> Result<Test, Failed>
-    requires { (from ≤ length file.now) × (gauges.0 ≤ 64) × (cases.0 ≤ 64) × (length file.now ≤ 65536) × (number ≤ from + 2) }
-    ensures { Gathers (read_entries kind gauges cases count no_rows no_readings (lines (drop from file.now)))
-        (stop_entries kind gauges cases count no_rows number (lines (drop from file.now))) result }
+// The entry lines of a file of a shape from a place on; `number` is the number of the line there.
+fn read_entries(file: &[u8], from: usize, shape: Shape, number: u64) -> Result<Test, Failed>
+    requires { (shape.gauges.0 ≤ 64) × (shape.cases.0 ≤ 64) × (length file.now ≤ 65536) × (number ≤ from + 2) }
+    ensures { Gathers (read_entries shape.kind shape.gauges shape.cases shape.count no_rows no_readings (lines (drop from file.now)))
+        (stop_entries shape.kind shape.gauges shape.cases shape.count no_rows number (lines (drop from file.now))) result }
 {
     let mut rows = [0u64; 64];
     let mut values = [0i32; 4096];
-    let mut left = count;
+    let mut left = shape.count;
     let mut at = from;
     let mut line = number;
-    // By the place and not by an iterator: where the next line starts is known when this one is read, and the laws go by the place.
+    // By the place and not by an iterator: `line_at` gives a line's end and where the next one starts, so that an iterator would be these lines once more.
     while at < file.len() {
         let span = file_text::line_at(file, at);
         let end = span.end;
         let next = span.next;
-        let entry = file_kinds::entry_line(&file[at..end], kind, gauges, cases);
+        let entry = file_kinds::entry_line(&file[at..end], shape.kind, shape.gauges, shape.cases);
         match entry {
             EntryLine::Skip => {
                 line += 1;
@@ -218,9 +224,9 @@ fn read_entries(
         return refuse(Refusal::PairCount, line);
     }
     Ok(Test {
-        kind,
-        gauges: gauges.0,
-        cases: cases.0,
+        kind: shape.kind,
+        gauges: shape.gauges.0,
+        cases: shape.cases.0,
         entries: rows,
         readings: values,
     })
@@ -243,12 +249,11 @@ fn refuse(why: Refusal, line: u64) -> Result<Test, Failed>
 
 // The `k`-th comment line from a place on.
 fn find_comment(file: &[u8], from: usize, k: u64) -> Result<Found, Refusal>
-    requires { from ≤ length file.now }
     ensures { found result ≡ comment_from k from (lines (drop from file.now)) }
 {
     let mut at = from;
     let mut left = k;
-    // By the place and not by an iterator: where the next line starts is known when this one is read, and the laws go by the place.
+    // By the place and not by an iterator: `line_at` gives a line's end and where the next one starts, so that an iterator would be these lines once more.
     while at < file.len() {
         let span = file_text::line_at(file, at);
         let end = span.end;

@@ -86,6 +86,7 @@ pub fn fields_of(line: &[u8]) -> Fields
 }
 
 // Whether two texts are the same.
+// One derived comparison; it stays, since it is public and an edit changes it.
 pub fn same_bytes(a: &[u8], b: &[u8]) -> bool
     ensures { result ≡ same_bytes a.now b.now }
 {
@@ -116,6 +117,7 @@ pub fn is_blank(b: u8) -> bool
 }
 
 // The value of a digit, `NO_DIGIT` for any other byte.
+// A number for none: its public clause, by `digit_of` of specs/Fields, says 10 there.
 pub fn digit_of(b: u8) -> u64
     ensures { result ≡ digit_of b }
 {
@@ -137,6 +139,7 @@ fn small(b: u8) -> u8
 }
 
 // The bytes of the end of line that comes next: 1 for LF, 2 for CR LF, 0 for none. A CR that no LF follows is an ordinary byte.
+// It is a length, and 0 that of no end: `end_size` gives it, and a span adds it to its place.
 fn end_at(rest: &[u8]) -> usize
     ensures { result ≡ end_size rest.now }
 {

@@ -14,6 +14,7 @@ ghost use Rattle.file_writer.specs.private.StoreSteps.{Room, Width, IsTotals, Al
 use recorded;
 use recorded::{Kind, Test};
 use refusals::Refusal;
+use sets::Places;
 use table::{Case, Gauge, Table};
 
 // The digit 0; a digit's byte is this and its value.
@@ -32,6 +33,15 @@ struct Totals {
     pub size: u64,
 }
 
+// What a file says of its entries beside their pairs: its kind, and in an integer file their readings. It is lent, since a ghost field
+// leaves no `Copy`.
+#[derive(Drop)]
+struct Entries<'a> {
+    kind: Kind,
+    readings: &'a [i32],
+    ghost suits: { Suits kind readings.now },
+}
+
 // Writes a table to the front of a buffer and gives the length of its file.
 #[tactic(auto, using(crate::proofs::Files::check_refused))]
 pub fn write(t: Table, out: &mut [u8]) -> Result<usize, Refusal>
@@ -40,7 +50,11 @@ pub fn write(t: Table, out: &mut [u8]) -> Result<usize, Refusal>
 {
     table::check_table(t)?;
     let none = [0i32; 1];
-    write_kind(out, Kind::Pattern, t, &none)
+    let entries = Entries {
+        kind: Kind::Pattern,
+        readings: &none,
+    };
+    write_kind(out, t, &entries)
 }
 
 // Writes a recorded test to the front of a buffer, as a file of its kind, and gives the length of that; 10, 11, 20, then 16 are refused.
@@ -50,44 +64,47 @@ pub fn write_test(t: Test, out: &mut [u8]) -> Result<usize, Refusal>
     ensures buffer { out.new ≡ test_buffer t out.old }
 {
     recorded::check_test(t)?;
-    let kind = t.kind;
-    let entries = t.entries;
+    let rows = t.entries;
     let readings = t.readings;
     let listed = Table {
         gauges: t.gauges,
         cases: t.cases,
-        rows: entries,
+        rows,
     };
-    write_kind(out, kind, listed, &readings)
+    let entries = Entries {
+        kind: t.kind,
+        readings: &readings,
+    };
+    write_kind(out, listed, &entries)
 }
 
 // Writes a file of a kind, of entries that are the pairs of a table, where the buffer is long enough.
-fn write_kind(out: &mut [u8], kind: Kind, t: Table, readings: &[i32]) -> Result<usize, Refusal>
-    requires { Legal t × Suits kind readings.now }
-    ensures result_value { written result ≡ room_answer 0 (file_of kind readings.now t) (length out.old) }
-    ensures buffer { out.new ≡ room_buffer 0 (file_of kind readings.now t) out.old }
+fn write_kind(out: &mut [u8], t: Table, entries: &Entries) -> Result<usize, Refusal>
+    requires { Legal t }
+    ensures result_value { written result ≡ room_answer 0 (file_of entries.now.kind entries.now.readings.now t) (length out.old) }
+    ensures buffer { out.new ≡ room_buffer 0 (file_of entries.now.kind entries.now.readings.now t) out.old }
 {
-    let totals = all_totals(kind, t, readings);
+    let totals = all_totals(t, entries);
     let count = totals.count;
-    let size = file_size(kind, t, readings, totals);
+    let size = file_size(t, entries, totals);
     if (out.len() as u64) < size {
         return Err(Refusal::BufferTooShort);
     }
-    let n = put_file(out, kind, t, readings, count);
+    let n = put_file(out, t, entries, count);
     Ok(n)
 }
 
 // The entries of a table, counted.
-fn all_totals(kind: Kind, t: Table, readings: &[i32]) -> Totals
-    requires { (t.gauges ≤ 64) × Suits kind readings.now }
-    ensures { AllTotals kind readings.now t result }
+fn all_totals(t: Table, entries: &Entries) -> Totals
+    requires { t.gauges ≤ 64 }
+    ensures { AllTotals entries.now.kind entries.now.readings.now t result }
 {
     let gauges = t.gauges;
     let rows = t.rows;
     let mut count: u64 = 0;
     let mut size: u64 = 0;
     for i in 0..gauges {
-        let one = line_totals(kind, Gauge(i + 1), rows[i as usize], readings);
+        let one = line_totals(Gauge(i + 1), rows[i as usize], entries);
         count += one.count;
         size += one.size;
     }
@@ -95,15 +112,17 @@ fn all_totals(kind: Kind, t: Table, readings: &[i32]) -> Totals
 }
 
 // The entries of a gauge, counted: the lines of its pairs, and in an integer file their readings.
-fn line_totals(kind: Kind, g: Gauge, row: u64, readings: &[i32]) -> Totals
-    requires { (1 ≤ g.0) × (g.0 ≤ 64) × Suits kind readings.now }
-    ensures { IsTotals (entry_text kind readings.now) (row_pairs g 64 1 row) result }
+// That a gauge or a case is one of 64 stands in each clause from here on: `Gauge` and `Case` are public types that take any number (01), and a private one
+// with a ghost field would be no plainer, since it would be made anew from each of the 4,096 places and taken apart at each use.
+fn line_totals(g: Gauge, row: u64, entries: &Entries) -> Totals
+    requires { (1 ≤ g.0) × (g.0 ≤ 64) }
+    ensures { IsTotals (entry_text entries.now.kind entries.now.readings.now) (row_pairs g 64 1 row) result }
 {
     let pairs = row_totals(g, row);
-    match kind {
+    match entries.kind {
         Kind::Pattern => pairs,
         Kind::Integer => {
-            let more = row_readings(g, row, readings);
+            let more = row_readings(g, row, entries.readings);
             Totals {
                 count: pairs.count,
                 size: pairs.size + more,
@@ -132,12 +151,8 @@ fn row_readings(g: Gauge, row: u64, readings: &[i32]) -> u64
     ensures { result ≡ value_bytes readings.now (row_pairs g 64 1 row) }
 {
     let mut size: u64 = 0;
-    let mut ahead = row;
-    // The lowest place first: `sets` gives a set's places one by one, by no iterator.
-    while ahead != 0 {
-        let k = sets::first(ahead) as u64;
-        ahead = sets::rest(ahead);
-        let v = reading_at(readings, g, Case(k + 1));
+    for k in Places(row) {
+        let v = reading_at(readings, g, Case(k as u64 + 1));
         size = size + 1 + reading_width(v);
     }
     size
@@ -164,7 +179,7 @@ fn reading_width(v: i32) -> u64
     width
 }
 
-// The digits of a number.
+// The digits of a number. That it has at most 9 stands in three clauses: a type for such numbers would be made anew at each call, and be no plainer.
 fn number_width(n: u64) -> u64
     requires { n < 10 ^ 9 }
     ensures { Width n result }
@@ -176,9 +191,9 @@ fn number_width(n: u64) -> u64
 }
 
 // The length of the file of a kind with its totals.
-fn file_size(kind: Kind, t: Table, readings: &[i32], totals: Totals) -> u64
-    requires { Legal t × Suits kind readings.now × AllTotals kind readings.now t totals }
-    ensures { result ≡ length (file_of kind readings.now t) }
+fn file_size(t: Table, entries: &Entries, totals: Totals) -> u64
+    requires { Legal t × AllTotals entries.now.kind entries.now.readings.now t totals }
+    ensures { result ≡ length (file_of entries.now.kind entries.now.readings.now t) }
 {
     let gauges = t.gauges;
     let cases = t.cases;
@@ -187,16 +202,16 @@ fn file_size(kind: Kind, t: Table, readings: &[i32], totals: Totals) -> u64
 }
 
 // Writes the file of a kind with its count of entries.
-fn put_file(out: &mut [u8], kind: Kind, t: Table, readings: &[i32], count: u64) -> usize
-    requires { (t.gauges ≤ 64) × (t.cases ≤ 64) × (count < 10000) × Suits kind readings.now × Room out.old 0 (file_bytes kind readings.now t count) }
-    ensures { Wrote out.old 0 (file_bytes kind readings.now t count) out.new result }
+fn put_file(out: &mut [u8], t: Table, entries: &Entries, count: u64) -> usize
+    requires { (t.gauges ≤ 64) × (t.cases ≤ 64) × (count < 10000) × Room out.old 0 (file_bytes entries.now.kind entries.now.readings.now t count) }
+    ensures { Wrote out.old 0 (file_bytes entries.now.kind entries.now.readings.now t count) out.new result }
 {
     let gauges = t.gauges;
     let cases = t.cases;
     let rows = t.rows;
-    let p = put_banner(out, kind);
+    let p = put_banner(out, entries.kind);
     let q = put_size(out, p, Gauge(gauges), Case(cases), count);
-    put_rows(out, q, kind, rows, Gauge(gauges), readings)
+    put_rows(out, q, rows, Gauge(gauges), entries)
 }
 
 // Writes the banner of a kind.
@@ -239,51 +254,40 @@ fn put_size(out: &mut [u8], at: usize, gauges: Gauge, cases: Case, count: u64) -
 }
 
 // Writes the entries of the gauges up to the last.
-fn put_rows(
-    out: &mut [u8],
-    at: usize,
-    kind: Kind,
-    rows: [u64; 64],
-    gauges: Gauge,
-    readings: &[i32],
-) -> usize
-    requires { (gauges.0 ≤ 64) × Suits kind readings.now × Room out.old at (rows_from kind readings.now gauges rows 0) }
-    ensures { Wrote out.old at (rows_from kind readings.now gauges rows 0) out.new result }
+fn put_rows(out: &mut [u8], at: usize, rows: [u64; 64], gauges: Gauge, entries: &Entries) -> usize
+    requires { (gauges.0 ≤ 64) × Room out.old at (rows_from entries.now.kind entries.now.readings.now gauges rows 0) }
+    ensures { Wrote out.old at (rows_from entries.now.kind entries.now.readings.now gauges rows 0) out.new result }
 {
     let most = gauges.0;
     let mut p = at;
     for i in 0..most {
-        p = put_row(out, p, kind, Gauge(i + 1), rows[i as usize], readings);
+        p = put_row(out, p, Gauge(i + 1), rows[i as usize], entries);
     }
     p
 }
 
 // Writes the entries of a gauge: the cases of its row, from the lowest on.
-fn put_row(out: &mut [u8], at: usize, kind: Kind, g: Gauge, row: u64, readings: &[i32]) -> usize
-    requires { (1 ≤ g.0) × (g.0 ≤ 64) × Suits kind readings.now × Room out.old at (row_lines kind readings.now g row) }
-    ensures { Wrote out.old at (row_lines kind readings.now g row) out.new result }
+fn put_row(out: &mut [u8], at: usize, g: Gauge, row: u64, entries: &Entries) -> usize
+    requires { (1 ≤ g.0) × (g.0 ≤ 64) × Room out.old at (row_lines entries.now.kind entries.now.readings.now g row) }
+    ensures { Wrote out.old at (row_lines entries.now.kind entries.now.readings.now g row) out.new result }
 {
     let mut p = at;
-    let mut left = row;
-    // The lowest place first: `sets` gives a set's places one by one, by no iterator.
-    while left != 0 {
-        let k = sets::first(left) as u64;
-        left = sets::rest(left);
-        p = put_entry(out, p, kind, g, Case(k + 1), readings);
+    for k in Places(row) {
+        p = put_entry(out, p, g, Case(k as u64 + 1), entries);
     }
     p
 }
 
 // Writes the line of an entry.
-fn put_entry(out: &mut [u8], at: usize, kind: Kind, g: Gauge, c: Case, readings: &[i32]) -> usize
-    requires { (1 ≤ g.0) × (g.0 ≤ 64) × (1 ≤ c.0) × (c.0 ≤ 64) × Suits kind readings.now × Room out.old at (entry_bytes kind readings.now g c) }
-    ensures { Wrote out.old at (entry_bytes kind readings.now g c) out.new result }
+fn put_entry(out: &mut [u8], at: usize, g: Gauge, c: Case, entries: &Entries) -> usize
+    requires { (1 ≤ g.0) × (g.0 ≤ 64) × (1 ≤ c.0) × (c.0 ≤ 64) × Room out.old at (entry_bytes entries.now.kind entries.now.readings.now g c) }
+    ensures { Wrote out.old at (entry_bytes entries.now.kind entries.now.readings.now g c) out.new result }
 {
-    match kind {
+    match entries.kind {
         Kind::Pattern => put_pair(out, at, g, c, b'\n'),
         Kind::Integer => {
             let p = put_pair(out, at, g, c, b' ');
-            put_reading(out, p, reading_at(readings, g, c))
+            put_reading(out, p, reading_at(entries.readings, g, c))
         }
     }
 }

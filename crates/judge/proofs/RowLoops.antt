@@ -1,16 +1,37 @@
 -- What each answer and each turn of the judges' private steps says of the tests that they compute.
-use mathlib.Core.Path.{◌≡◌, refl, sym, ap, ◌∙◌}
-use mathlib.Core.Bool.{Bool, true, false, and-false}
+use mathlib.Core.Path.{◌≡◌, refl, sym, ap, ◌∙◌, fun_ext}
+use mathlib.Core.Bool.{Bool, true, false, ◌&&◌, and-false}
 use mathlib.Core.List.{List}
-use Prim.Native.Nat.{ℕ, ◌+◌, ◌≤◌, ◌<◌}
+use Prim.Native.Nat.{ℕ, zero, suc, ◌+◌, ◌≤◌, ◌<◌}
 use native.Mathlib.Numerals.{add-one}
 use native.Mathlib.Omega.{arith}
 use lib.Bits.{bit_and}
 use lib.Dec.{eqb, ltb}
+use lib.ListN.{length, take}
+use Rattle.std.proofs.Common.{take_all}
+use Rattle.std.specs.List.{list_all}
+use Rattle.std.proofs.lemmas.List.Folds.{list_all_more}
 use borrow.Author.Tests.{eq-eqb, ne_eqb, lt-ltb, le-ltb, le-leb, lt-leb}
 use Rattle.sets.specs.Sets.{meet, is_subset, is_proper_subset}
+use Rattle.sets.specs.Lists.{all_below}
 use Rattle.table.specs.Pairs.{row}
 use Rattle.judge.specs.WidestRows.{narrowed, widest, widest_of}
+use Rattle.judge.specs.private.RowTests.{nested, nested_with, all_nested}
+
+-- ---- nested rows, as the chain of calls reads
+list_is_below : (p : ℕ → Bool) (xs : List ℕ) → list_all p xs ≡ all_below (λ i. p (row xs i)) (length xs)
+unfolding all_below
+list_is_below p xs = ap (list_all p) (sym (take_all (length xs) xs (omega arith))) ∙ go (length xs) (omega arith)
+  where
+    go : (i : ℕ) → i ≤ length xs → list_all p (take i xs) ≡ all_below (λ j. p (row xs j)) i
+    go zero h = refl
+    go (suc i) h = rw (← add-one i) (list_all_more p xs i 0 (omega arith)) ∙ ap (λ b. b && p (row xs i)) (go i (omega arith))
+
+pub nested_list : (xs : List ℕ) → list_all (λ a. list_all (nested a) xs) xs ≡ all_nested xs (length xs)
+unfolding all_nested nested_with
+nested_list xs =
+    list_is_below (λ a. list_all (nested a) xs) xs
+    ∙ ap (λ (f : ℕ → Bool). all_below f (length xs)) (fun_ext (λ i. list_is_below (nested (row xs i)) xs))
 
 -- ---- narrowed
 pub narrow_out : (x a b : ℕ) (t : Bool) → t ≡ is_subset a b → t ≡ false → x ≡ narrowed x a b

@@ -24,7 +24,7 @@ use Rattle.refusals.proofs.Answering.{number_pos, number_injective, answered_inj
 use Rattle.table.proofs.Legality.{ChainFacts, chain_facts, length-chain_rows, row-chain_rows, chain_within, row-table_rows}
 use Rattle.judge.specs.Judging.{judgement, Judged}
 use Rattle.judge.specs.WidestRows.{widest}
-use Rattle.judge.specs.private.RowTests.{nested, nested_with, all_nested, all_widest}
+use Rattle.judge.specs.private.RowTests.{all_nested, all_widest}
 use Rattle.judge.proofs.NestedTest.{chain_of_test, test_of_chain}
 use Rattle.judge.proofs.WidestTest.{maximal_of_test, test_of_maximal}
 
@@ -60,11 +60,7 @@ judged_unique n P (Err x) (Err y) a b = ap Err (number_injective x y (a.refusal 
 pub judgement_injective : (r q : Result Bool Refusal) → judgement r ≡ judgement q → r ≡ q
 judgement_injective = answered_injective false
 
--- the tests look at rows one by one, so they are the same of the 64 rows and of the first G
-nested_same : (s z : List ℕ) (n : ℕ) → ((i : ℕ) → row s i ≡ row z i) → all_nested s n ≡ all_nested z n
-unfolding all_nested nested_with
-nested_same s z n same = ap (λ (f : ℕ → ℕ). all_below (λ i. all_below (λ j. nested (f i) (f j)) n) n) (fun_ext same)
-
+-- the test of widest rows looks at rows one by one, so it is the same of the 64 rows and of the first G
 widest_same : (s z : List ℕ) (x i n : ℕ) → ((i : ℕ) → row s i ≡ row z i) → widest s x i n ≡ widest z x i n
 unfolding widest
 widest_same s z x i zero same = refl
@@ -83,32 +79,30 @@ module _ (t : Table) (s : Chain) (e : chain_refusal t s ≡ 0) (n : length t.row
   pub few_gauges : t.gauges ≤ 64
   few_gauges = facts.legal.gauges_high
 
-  chain_test : (a : Bool) → a ≡ all_nested s.rows t.gauges → a ≡ all_nested (chain_rows s) (length (chain_rows s))
-  chain_test a d =
-      d ∙ nested_same s.rows (chain_rows s) t.gauges (λ i. sym (row-chain_rows t s facts m i))
-      ∙ ap (all_nested (chain_rows s)) (sym (length-chain_rows t s facts m))
+  pub few_rows : s.gauges ≤ length s.rows
+  few_rows = omega (arith, facts.count, few_gauges)
 
-  is_chain : (a : Bool) → a ≡ all_nested s.rows t.gauges → a ≡ true → IsChain (chain_rows s)
-  is_chain a d h = chain_of_test (chain_rows s) (sym (chain_test a d) ∙ h)
+  is_chain : (a : Bool) → a ≡ all_nested (chain_rows s) (length (chain_rows s)) → a ≡ true → IsChain (chain_rows s)
+  is_chain a d h = chain_of_test (chain_rows s) (sym d ∙ h)
 
-  no_chain : (a : Bool) → a ≡ all_nested s.rows t.gauges → a ≡ false → ¬ IsChain (chain_rows s)
-  no_chain a d h c = let z : true ≡ false = sym (test_of_chain (chain_rows s) c) ∙ sym (chain_test a d) ∙ h in clash cc
+  no_chain : (a : Bool) → a ≡ all_nested (chain_rows s) (length (chain_rows s)) → a ≡ false → ¬ IsChain (chain_rows s)
+  no_chain a d h c = let z : true ≡ false = sym (test_of_chain (chain_rows s) c) ∙ sym d ∙ h in clash cc
 
-  pub chain_judged : (a : Bool) → a ≡ all_nested s.rows t.gauges → Judged (chain_refusal t s) (IsChain (chain_rows s)) (Ok a)
+  pub chain_judged : (a : Bool) → a ≡ all_nested (chain_rows s) (length (chain_rows s)) → Judged (chain_refusal t s) (IsChain (chain_rows s)) (Ok a)
   chain_judged true d = judged_yes (chain_refusal t s) e (is_chain true d refl)
   chain_judged false d = judged_no (chain_refusal t s) e (no_chain false d refl)
 
   -- no chain, so no maximal chain
-  pub maximal_no_chain : (a : Bool) → a ≡ all_nested s.rows t.gauges → a ≡ false → Judged (chain_refusal t s) (IsMaximal (table_rows t) (chain_rows s)) (Ok false)
+  pub maximal_no_chain : (a : Bool) → a ≡ all_nested (chain_rows s) (length (chain_rows s)) → a ≡ false → Judged (chain_refusal t s) (IsMaximal (table_rows t) (chain_rows s)) (Ok false)
   maximal_no_chain a d h = judged_no (chain_refusal t s) e (λ x. no_chain a d h x.chain)
 
-  module _ (a b : Bool) (da : a ≡ all_nested s.rows t.gauges) (ha : a ≡ true) (db : b ≡ all_widest t.rows s.rows t.gauges) where
+  module _ (a b : Bool) (da : a ≡ all_nested (chain_rows s) (length (chain_rows s))) (ha : a ≡ true) (db : b ≡ all_widest t.rows s.rows s.gauges) where
     wide_test : b ≡ all_widest (table_rows t) (chain_rows s) (length (chain_rows s))
     wide_test =
         db
-        ∙ all_widest_same t.rows (table_rows t) s.rows (chain_rows s) t.gauges (λ i. sym (row-table_rows t facts.legal i))
+        ∙ all_widest_same t.rows (table_rows t) s.rows (chain_rows s) s.gauges (λ i. sym (row-table_rows t facts.legal i))
         (λ i. sym (row-chain_rows t s facts m i))
-        ∙ ap (all_widest (table_rows t) (chain_rows s)) (sym (length-chain_rows t s facts m))
+        ∙ ap (all_widest (table_rows t) (chain_rows s)) (facts.count ∙ sym (length-chain_rows t s facts m))
 
     maximal-yes : b ≡ true → Judged (chain_refusal t s) (IsMaximal (table_rows t) (chain_rows s)) (Ok true)
     maximal-yes h =
@@ -122,15 +116,15 @@ module _ (t : Table) (s : Chain) (e : chain_refusal t s ≡ 0) (n : length t.row
         let z : true ≡ false = sym (test_of_maximal (table_rows t) (chain_rows s) (chain_within t s facts m) (is_chain a da ha) x) ∙ sym wide_test ∙ h in
         clash cc)
 
-  pub maximal_judged : (a b : Bool) → a ≡ all_nested s.rows t.gauges → a ≡ true → b ≡ all_widest t.rows s.rows t.gauges
+  pub maximal_judged : (a b : Bool) → a ≡ all_nested (chain_rows s) (length (chain_rows s)) → a ≡ true → b ≡ all_widest t.rows s.rows s.gauges
       → Judged (chain_refusal t s) (IsMaximal (table_rows t) (chain_rows s)) (Ok b)
   maximal_judged a true d h f = maximal-yes a true d h f refl
   maximal_judged a false d h f = maximal-no a false d h f refl
 
   pub maximal_dec : Dec (IsMaximal (table_rows t) (chain_rows s))
-  maximal_dec = go (all_nested s.rows t.gauges) refl (all_widest t.rows s.rows t.gauges) refl
+  maximal_dec = go (all_nested (chain_rows s) (length (chain_rows s))) refl (all_widest t.rows s.rows s.gauges) refl
     where
-      go : (a : Bool) → all_nested s.rows t.gauges ≡ a → (b : Bool) → all_widest t.rows s.rows t.gauges ≡ b
+      go : (a : Bool) → all_nested (chain_rows s) (length (chain_rows s)) ≡ a → (b : Bool) → all_widest t.rows s.rows s.gauges ≡ b
           → Dec (IsMaximal (table_rows t) (chain_rows s))
       go false p b q = no (λ x. no_chain false (sym p) refl x.chain)
       go true p true q = yes ((maximal-yes true true (sym p) refl (sym q) refl).yes refl)

@@ -3,12 +3,13 @@
 // and for others: how wide a row of a chain can be.
 #![tactic(auto)]
 
-ghost use Rattle.std.specs.Prelude.{◌≡◌, ◌≤◌, ◌<◌};
+ghost use Rattle.std.specs.Prelude.{◌≡◌, ◌≤◌, length};
+ghost use Rattle.std.specs.List.{list_all};
 ghost use Rattle.table.specs.Chains.{IsChain, IsMaximal};
 ghost use Rattle.table.specs.Tables.{table_rows, chain_rows, chain_refusal};
 ghost use Rattle.judge.specs.Judging.{Judged};
 ghost use Rattle.judge.specs.WidestRows.{narrowed as narrowed_to, widest_of};
-ghost use Rattle.judge.specs.private.RowTests.{nested as is_nested, nested_with, all_nested, all_widest};
+ghost use Rattle.judge.specs.private.RowTests.{nested as is_nested, all_nested, all_widest};
 
 use refusals::Refusal;
 use sets;
@@ -24,8 +25,8 @@ pub fn judge_chain(t: Table, s: Chain) -> Result<bool, Refusal>
 {
     table::check_chain(t, s)?;
     let pairs = s.rows;
-    let n = t.gauges as usize;
-    Ok(all_nested(&pairs, n))
+    let n = s.gauges as usize;
+    Ok(all_nested(&pairs[..n]))
 }
 
 // Whether `s` is a maximal chain of `t`.
@@ -35,8 +36,8 @@ pub fn judge_maximal(t: Table, s: Chain) -> Result<bool, Refusal>
     table::check_chain(t, s)?;
     let outer = t.rows;
     let rows = s.rows;
-    let n = t.gauges as usize;
-    if !all_nested(&rows, n) {
+    let n = s.gauges as usize;
+    if !all_nested(&rows[..n]) {
         return Ok(false);
     }
     Ok(all_widest(&outer, &rows, n))
@@ -60,31 +61,18 @@ pub fn widest(rows: &[u64; 64], most: u64, i: usize, n: usize) -> u64
     wide
 }
 
-// Any two of the first `n` rows are nested.
-fn all_nested(rows: &[u64; 64], n: usize) -> bool
-    requires { n ≤ 64 }
-    ensures { result ≡ all_nested rows.now n }
+// Any two of the rows are nested.
+fn all_nested(rows: &[u64]) -> bool
+    ensures { result ≡ all_nested rows.now (length rows.now) }
 {
-    for i in 0..n {
-        if !nested_with(rows, n, i) {
-            return false;
-        }
-    }
-    true
+    rows.iter().all(|&own| nested_with(own, rows))
 }
 
-// Row `i` is nested with each of the first `n`.
-fn nested_with(rows: &[u64; 64], n: usize, i: usize) -> bool
-    requires { (n ≤ 64) × (i < 64) }
-    ensures { result ≡ nested_with rows.now n i }
+// A set is nested with each of the rows.
+fn nested_with(own: u64, rows: &[u64]) -> bool
+    ensures { result ≡ list_all (is_nested own) rows.now }
 {
-    let own = rows[i];
-    for j in 0..n {
-        if !nested(own, rows[j]) {
-            return false;
-        }
-    }
-    true
+    rows.iter().all(|&other| nested(own, other))
 }
 
 // One of two sets includes the other.

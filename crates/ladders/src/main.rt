@@ -26,6 +26,7 @@ const MOST_CUTOFF: u64 = 1_000_000;
 const ABOVE: u64 = 1_000_001;
 
 // Why the ladders of a file were not all listed.
+// The error enum of a program: each variant is a way to fail, `Refused` one of them.
 #[derive(Clone, Copy, PartialEq, Eq)]
 enum Stop {
     Refused(Refusal),

@@ -8,7 +8,7 @@
 -- Elsewhere: so many calls of the greatest budget, blocks/proofs/Calls; that they hand out the run's list, `demand3` in lists/proofs/Demand; that this is
 -- the gauge list, `plain_list` in blocks/proofs/PlainBlocks.
 use mathlib.Core.Path.{◌≡◌, refl, sym, ap, ap₂, ◌∙◌, subst}
-use mathlib.Core.Bool.{Bool, true, false, cond}
+use mathlib.Core.Bool.{Bool, false, cond}
 use mathlib.Core.List.Memᴰ
 use mathlib.Core.List.{List, [], ◌∷◌, ◌++◌, map, append-nil, Memᴰ}
 use Prim.Native.Nat.{ℕ, suc, ◌+◌, ◌≤◌, ◌<◌}
@@ -18,7 +18,6 @@ use lib.Dec.{eqb}
 use lib.ListN.{length, take, set, replicate, length-append, length-set}
 use lib.Pow.{pow_mono}
 use lib.Seq.{take-suc-set}
-use Rattle.basics.proofs.Clash.{clash}
 use Rattle.table.specs.declared.Table.{Table}
 use Rattle.table.specs.Pairs.{Within}
 use Rattle.table.specs.Tables.{Legal, table_rows, padded}
@@ -51,7 +50,7 @@ use Rattle.boards.specs.Boards.{board, corner}
 use Rattle.boards.proofs.Boards.{Fits8, small_within}
 use Rattle.boards.proofs.Packing.{corner-board}
 use Rattle.mechanisms.specs.Covering.{most_ladders}
-use Rattle.mechanisms.specs.private.Steps.{SmallTable, Handed, Hands, Lists}
+use Rattle.mechanisms.specs.private.Steps.{SmallTable, Handed, OneCall, Ends, Hands, Lists}
 
 -- ---- a small table fits a board
 pub small_fits : (t : Table) → SmallTable t → Fits8 t.cases (table_rows t)
@@ -96,35 +95,27 @@ module _ (v : Value) (r : Step) (called : CalledOf gauge_side v most_budget r) w
     as-answered : (a : Reply) → r.answer ≡ a → r ≡ by_rules v.table (gauge_side v.table) v.order false a made.moves made.next
     as-answered a e = by-rules ∙ ap (λ (x : Reply). by_rules v.table (gauge_side v.table) v.order false x made.moves made.next) (same_answer ∙ e)
 
-    -- nothing was handed out, and that is the end
-    no_more : made.answer ≡ end → (b : ℕ) (w : Value) → Handed v.table made true b w
-    no_more e b w = record { ends = λ _. e; hands = λ z. clash cc }
+  pub hands_end : r.answer ≡ end → Ends v
+  hands_end e l d o s p = same_answer l d o s p ∙ e
 
-  pub hands_end : r.answer ≡ end → (b : ℕ) (w : Value) → Hands v true b w
-  hands_end e b w l d o s p = no_more l d o s p (same_answer l d o s p ∙ e) b w
-
-  pub hands_spent : r.answer ≡ spent → (b : ℕ) (w : Value) → Hands v true b w
-  hands_spent e b w l d o s p =
+  pub hands_spent : r.answer ≡ spent → Ends v
+  hands_spent e l d o s p =
       absurd (never_spent v.table v.order (begun l d o s p) most_budget (omega arith) (omega arith) s p.reached (same_answer l d o s p ∙ e))
 
-  pub hands_refused : (n : ℕ) → r.answer ≡ refused n → (b : ℕ) (w : Value) → Hands v true b w
-  hands_refused n e b w l d o s p =
+  pub hands_refused : (n : ℕ) → r.answer ≡ refused n → Ends v
+  hands_refused n e l d o s p =
       absurd ((only18_by (move_on (gauge_side v.table) (held gauge_side v)) (hand_out (gauge_side v.table)) most_budget s).else (omega arith) n
       (same_answer l d o s p ∙ e))
 
-  pub hands_given : (x : List ℕ) → r.answer ≡ handed x → (b : ℕ) → b ≡ board (corner r.chain.rows) → (w : Value) → w ≡ r.next → Hands v false b w
+  pub hands_given : (x : List ℕ) → r.answer ≡ handed x → (b : ℕ) → b ≡ board (corner r.chain.rows) → (w : Value) → w ≡ r.next → Hands v b w
   hands_given x e b f w q l d o s p =
       let given : r ≡ by_rules v.table (gauge_side v.table) v.order false (handed x) (made l d o s p).moves (made l d o s p).next =
-      as-answered l d o s p (handed x) e in
-      record {
-        ends = λ z. clash cc;
-        hands = λ _. (
-          x,
-          same_answer l d o s p ∙ e,
-          f ∙ ap (λ (y : Step). board (corner y.chain.rows)) given,
-          q ∙ ap (λ (y : Step). y.next) given ∙ ap (λ (k : List ℕ). paused v.table k false (made l d o s p).next) d,
-        );
-      }
+      as-answered l d o s p (handed x) e in (
+        x,
+        same_answer l d o s p ∙ e,
+        f ∙ ap (λ (y : Step). board (corner y.chain.rows)) given,
+        q ∙ ap (λ (y : Step). y.next) given ∙ ap (λ (k : List ℕ). paused v.table k false (made l d o s p).next) d,
+      )
 
 -- ---- so many calls in plain order, each of which handed a ladder out
 abbrev order : Table → List ℕ
@@ -173,9 +164,9 @@ module _ (t : Table) (h : SmallTable t) (n : ℕ) (v : Value) (boards : List ℕ
   abbrev last : Call
   last = call_on (gauge_side t) o most_budget state
 
-  one_call : (over : Bool) (b : ℕ) (w : Value) → Hands v over b w → Handed t last over b w
-  one_call over b w f =
-      let g : Hands (paused t (order t) false state) over b w = subst (λ (y : Value). Hands y over b w) i.value f in
+  one_call : (P : Table → Call → Type 0) → OneCall P v → P t last
+  one_call P f =
+      let g : OneCall P (paused t (order t) false state) = subst (OneCall P) i.value f in
       g h.legal refl refl state
       record { reached = reached_after t (order t) false n fresh (record { count = 0; leads = refl }); stands = refl }
 
@@ -196,15 +187,15 @@ module _ (t : Table) (h : SmallTable t) (n : ℕ) (v : Value) (boards : List ℕ
   the_list : (xs : List (List ℕ)) → GaugeList t xs → demand.hands.list ≡ xs
   the_list xs g = list_unique demand.hands.list xs demand.hands.listed ((plain_list t h.legal xs).1 g)
 
-  listing_ends : (b : ℕ) (w : Value) → Hands v true b w → Lists t n boards
-  listing_ends b w f = record {
+  listing_ends : Ends v → Lists t n boards
+  listing_ends f = record {
     size = i.size;
     whole = λ _ xs g. i.given ∙ ap (map board) (all xs g);
     more = λ m xs g. absurd (omega (arith, i.few, m));
   }
     where
       ended : last.answer ≡ end
-      ended = (one_call true b w f).ends refl
+      ended = one_call (λ t c. c.answer ≡ end) f
 
       all : (xs : List (List ℕ)) → GaugeList t xs → handouts (sofar t n) ≡ xs
       all xs g =
@@ -214,9 +205,9 @@ module _ (t : Table) (h : SmallTable t) (n : ℕ) (v : Value) (boards : List ℕ
           ∙ the_list xs g
 
   -- a ladder more
-  module _ (b : ℕ) (w : Value) (f : Hands v false b w) where
+  module _ (b : ℕ) (w : Value) (f : Hands v b w) where
     handed_out : (x : List ℕ) × (last.answer ≡ handed x) × (b ≡ board (corner (padded x))) × (w ≡ paused t (order t) false last.next)
-    handed_out = (one_call false b w f).hands refl
+    handed_out = one_call (λ t c. Handed t c b w) f
 
     abbrev x : List ℕ
     x = handed_out.0
@@ -261,19 +252,13 @@ pub record ListingFrom (u : Value) (n : ℕ) (v : Value) (boards : List ℕ) : T
   pub few : n ≤ most_ladders
   pub on : (t : Table) → SmallTable t → u ≡ begin t → Listing t n v boards
 
-module _ (u : Value) (n : ℕ) (v : Value) (boards : List ℕ) (i : ListingFrom u n v boards) (over : Bool) (b : ℕ) (w : Value) (f : Hands v over b w) where
-  abbrev Said : Bool → Type 0
-  Said o = Hands v o b w
-
-  pub listing_turn : over ≡ false → n < most_ladders → ListingFrom u (n + 1) w (set boards n b)
-  listing_turn o l = record {
-    few = omega arith;
-    on = λ t h e. listing-next t h n v boards (i.on t h e) b w (subst Said o f) l;
-  }
+module _ (u : Value) (n : ℕ) (v : Value) (boards : List ℕ) (i : ListingFrom u n v boards) where
+  pub listing_turn : (b : ℕ) (w : Value) → Hands v b w → n < most_ladders → ListingFrom u (n + 1) w (set boards n b)
+  listing_turn b w f l = record { few = omega arith; on = λ t h e. listing-next t h n v boards (i.on t h e) b w f l }
 
   module _ (t : Table) (h : SmallTable t) (e : u ≡ begin t) where
-    pub listing-stops : over ≡ true → Lists t n boards
-    listing-stops o = listing_ends t h n v boards (i.on t h e) b w (subst Said o f)
+    pub listing-stops : Ends v → Lists t n boards
+    listing-stops = listing_ends t h n v boards (i.on t h e)
 
-    pub listing-passes : over ≡ false → most_ladders ≤ n → Lists t (n + 1) boards
-    listing-passes o l = listing-more t h n v boards (i.on t h e) b w (subst Said o f) l
+    pub listing-passes : (b : ℕ) (w : Value) → Hands v b w → most_ladders ≤ n → Lists t (n + 1) boards
+    listing-passes b w f l = listing-more t h n v boards (i.on t h e) b w f l

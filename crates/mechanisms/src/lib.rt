@@ -3,10 +3,10 @@
 // `requires` and is lent no memory. The search is in `cover_search`, on the boards of `boards`; the ladders come from the gauge run.
 #![tactic(auto)]
 
-ghost use Rattle.std.specs.Prelude.{◌≡◌, ◌≤◌, length, take};
+ghost use Rattle.std.specs.Prelude.{◌≡◌, ◌≤◌, length, take, MatchOption};
 ghost use Rattle.runs.specs.Paused.{gauge_value};
 ghost use Rattle.mechanisms.specs.Covering.{fewest, fewest_says, no_chains, most_ladders, Covers};
-ghost use Rattle.mechanisms.specs.private.Steps.{SmallTable, Hands, Lists, Ready, Answers, shown};
+ghost use Rattle.mechanisms.specs.private.Steps.{SmallTable, Ends, Hands, Lists, Ready, Answers, shown};
 
 use boards;
 use cover_search;
@@ -29,6 +29,7 @@ const MOST_LADDERS: usize = 1_024;
 const MOVES: u64 = 1_000_000;
 
 // A cover of the least number: how many ladders it has, the ladders tried, and the cover, with blank chains behind it.
+// An array with its number, and no `Vec`: the library has fixed memory and no heap.
 #[derive(Clone, Copy, Debug, PartialEq, Eq)]
 pub struct Cover {
     pub number: u64,
@@ -43,12 +44,11 @@ pub enum Fewest {
     Spent(u64),
 }
 
-// The run after a call, and the board of the ladder that it handed out, or that there was none.
+// A ladder that a call handed out, by its board, and the run after that call.
 #[derive(Clone, Copy)]
 struct Next {
     run: GaugeRun,
     board: u64,
-    over: bool,
 }
 
 // The fewest ladders of `t` that hold every pair, by trying at most `budget` ladders.
@@ -73,7 +73,8 @@ pub fn fewest_ladders(t: Table, budget: u64) -> Result<Fewest, Refusal>
     Ok(search(t, &ladders[..count], budget))
 }
 
-// The boards of the ladders of `t`, in gauge order, and how many there are; 1,025 where there are more than 1,024.
+// The boards of the ladders of `t`, in gauge order, and how many there are; 1,025 where there are more than 1,024. No `Option`: the comparison with 1,024
+// in `fewest_ladders`, which the edit `refused_at_1024` turns, bounds the slice there, and would become a clause here.
 fn list_ladders(t: Table, ladders: &mut [u64; 1024]) -> usize
     requires small_table { SmallTable t }
     requires room { length ladders.old ≡ most_ladders }
@@ -82,43 +83,35 @@ fn list_ladders(t: Table, ladders: &mut [u64; 1024]) -> usize
     // the table was checked and the order is plain, so that nothing is refused
     let mut run = GaugeRun::start(t, GaugeOrder::plain(t.gauges), false).unwrap();
     for n in 0..MOST_LADDERS {
-        let next = next_ladder(run);
-        if next.over {
+        let Some(next) = next_ladder(run) else {
             return n;
-        }
+        };
         ladders[n] = next.board;
         run = next.run;
     }
-    let last = next_ladder(run);
-    if last.over {
-        return MOST_LADDERS;
+    match next_ladder(run) {
+        Some(_) => MOST_LADDERS + 1,
+        None => MOST_LADDERS,
     }
-    MOST_LADDERS + 1
 }
 
-// One call of the run.
-fn next_ladder(run: GaugeRun) -> Next
-    ensures { Hands (gauge_value run) result.over result.board (gauge_value result.run) }
+// One call of the run: the ladder that it handed out, or none where the run is over.
+fn next_ladder(run: GaugeRun) -> Option<Next>
+    ensures { MatchOption result (Ends (gauge_value run)) (λ next. Hands (gauge_value run) next.board (gauge_value next.run)) }
 {
-    let last = Next {
-        run,
-        board: 0,
-        over: true,
-    };
     match run.call(MOVES) {
         Ok(step) => match step.outcome {
             Outcome::HandedOut(ladder) => {
                 let rows = ladder.chain.rows;
-                Next {
+                Some(Next {
                     run: step.next,
                     board: boards::board_of(&rows),
-                    over: false,
-                }
+                })
             }
-            Outcome::Spent => last,
-            Outcome::End => last,
+            Outcome::Spent => None,
+            Outcome::End => None,
         },
-        Err(_) => last,
+        Err(_) => None,
     }
 }
 

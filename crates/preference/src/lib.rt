@@ -136,7 +136,7 @@ pub fn renumber_one(numbers: &[u8; 64], n: usize, g: usize) -> usize
     usize::from(numbers[g - 1])
 }
 
-// The same of a pick.
+// The same of a pick. Not by `renumber_one`: its answer would be cast down, with a proof that the cast loses nothing.
 fn renumber_pick(numbers: &[u8; 64], n: usize, pick: u8) -> u8
     ensures { result ≡ renumber_by numbers.now n pick }
 {

@@ -2,7 +2,8 @@
 // pointer and then its length in elements, and one that is written overlaps no other of the call. Each entry takes
 // every input and returns 0, or 100 where a slice is shorter than its layout, or the number of the refusal; a refusal
 // leaves all lent memory as it was. What an entry does is in the crate that it calls, under the same contract; only
-// entries of this crate get into the archive.
+// entries of this crate get into the archive. What there is of either side has a pair of entries, `rg_.._gauges` and
+// `rg_.._cases`: C has no generic function.
 #![tactic(auto)]
 
 ghost use Rattle.std.specs.Prelude.{◌≡◌};

@@ -3,7 +3,7 @@
 // and none is lent memory. Signed arithmetic is done in `magnitude` alone.
 #![tactic(auto)]
 
-ghost use Rattle.std.specs.Prelude.{◌≡◌, ◌↔◌, true, ◌<◌, nat_abs, length};
+ghost use Rattle.std.specs.Prelude.{◌≡◌, ◌↔◌, true, ◌<◌, nat_abs};
 ghost use Rattle.sets.specs.Lists.{all_below, tabulate};
 ghost use Rattle.table.specs.Pairs.{row as row_of};
 ghost use Rattle.table.specs.Tables.{made};
@@ -37,7 +37,7 @@ pub enum Kind {
 }
 
 // A recorded test: its shape, its entries as rows of case bits, and a reading for each place, 0 where there is no entry. The reading of
-// gauge g under case c is number (g - 1) * 64 + (c - 1).
+// gauge g under case c is number (g - 1) * 64 + (c - 1). Arrays beside the shape, and no `Vec`: fixed memory, no heap, and C lends them as so many words.
 #[derive(Clone, Copy, PartialEq, Eq)]
 pub struct Test {
     pub kind: Kind,
@@ -94,6 +94,7 @@ pub fn table_at(t: Test, cutoff: u64) -> Result<Table, Refusal>
 
 // Whether two tests are equal: of one kind and shape, with the same entries and the same readings; no cutoff enters. 10, 11 and 20 of the first test
 // and then of the second are refused.
+// No derived `==` stands for it: a test that is handed in is refused before it is compared.
 pub fn equal_tests(a: Test, b: Test) -> Result<bool, Refusal>
     ensures { ComparedAs a b result }
 {
@@ -122,7 +123,6 @@ fn readable(kind: Kind, entries: [u64; 64]) -> [u64; 64]
 // No reading but zero where none may be.
 #[tactic(auto, using(sets::proofs::Tabulated::all_none, sets::proofs::Tabulated::all_more, sets::proofs::Tabulated::all_fails, crate::proofs::Turns::fits_place))]
 fn readings_fit(rows: &[u64; 64], readings: &[i32; 4096]) -> bool
-    requires { (length rows.now ≡ 64) × (length readings.now ≡ 4096) }
     ensures { result ≡ all_below (fits_at rows.now readings.now) 4096 }
 {
     for p in 0..READINGS {
@@ -146,7 +146,6 @@ fn place_fits(row: u64, k: u64, v: i32) -> bool
 // Every reading from -1,000,000 to 1,000,000.
 #[tactic(auto, using(sets::proofs::Tabulated::all_none, sets::proofs::Tabulated::all_more, sets::proofs::Tabulated::all_fails, crate::proofs::Turns::within_no, crate::proofs::Turns::within_yes))]
 fn readings_within(readings: &[i32; 4096]) -> bool
-    requires { length readings.now ≡ 4096 }
     ensures { result ≡ all_below (within_at readings.now) 4096 }
 {
     for p in 0..READINGS {
@@ -169,7 +168,6 @@ fn rows_at(kind: Kind, entries: [u64; 64], readings: [i32; 4096], cutoff: u64) -
 
 // The rows of the entries whose readings reach a cutoff.
 fn reaching_rows(entries: &[u64; 64], readings: &[i32; 4096], cutoff: u64) -> [u64; 64]
-    requires { (length entries.now ≡ 64) × (length readings.now ≡ 4096) }
     ensures { result ≡ tabulate (λ i. row_at cutoff (row_of entries.now i) readings.now i) 64 }
 {
     let mut rows = [0u64; 64];
@@ -181,7 +179,7 @@ fn reaching_rows(entries: &[u64; 64], readings: &[i32; 4096], cutoff: u64) -> [u
 
 // The entries of row `i` whose readings reach a cutoff.
 fn reaching_row(row: u64, readings: &[i32; 4096], i: usize, cutoff: u64) -> u64
-    requires { (i < 64) × (length readings.now ≡ 4096) }
+    requires { i < 64 }
     ensures { result ≡ row_at cutoff row readings.now i }
 {
     let mut set: u64 = 0;
@@ -203,6 +201,7 @@ fn reaches(row: u64, k: u64, v: i32, cutoff: u64) -> bool
 }
 
 // Whether two tests are the same in every part. A listed zero is an entry, so the entries are compared too, and not the readings alone.
+// One derived comparison, in a function of its own: a must-fail edit changes it, and its clause says it for whole tests.
 fn same_parts(a: Test, b: Test) -> bool
     ensures { (result ≡ true) ↔ (a ≡ b) }
 {

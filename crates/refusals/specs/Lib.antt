@@ -1,2 +1,3 @@
--- What a reader must believe of refusals: the number of each in 01, and how an answer reads.
+-- What a reader must believe of refusals: the number of each in 01, how an answer reads, and how a refusal is printed.
 pub mod Answers
+pub mod Printing

@@ -3,8 +3,9 @@
 // and in `named` and `named-number` of proofs/Answering.antt. No function has a `requires`.
 #![tactic(auto)]
 
-ghost use Rattle.std.specs.Prelude.{◌≡◌};
+ghost use Rattle.std.specs.Prelude.{◌≡◌, Some};
 ghost use Rattle.refusals.specs.Answers.{number};
+ghost use Rattle.refusals.specs.Printing.{printed};
 
 use std::error::Error;
 use std::fmt;
@@ -53,6 +54,8 @@ impl Refusal {
 
 // A refusal as the programs print it.
 impl fmt::Display for Refusal {
+    ghost output = { λ why. Some (printed why) };
+
     fn fmt<W: fmt::Write>(&self, f: &mut fmt::Formatter<W>) -> fmt::Result {
         write!(f, "refused {}", self.number())
     }

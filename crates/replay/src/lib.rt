@@ -61,6 +61,7 @@ pub fn replay(rows: &[u64; 64], n: usize, picks: &[u8; 64], count: usize) -> Opt
 
 // A pick that leaves fewer cases starts anew; one that has all left cases has left the same as the last picks, and
 // comes after the last; no other pick can have been made. The answer is the cases before the last picks that left the same.
+// `left`, `before` and `last` go on to two functions below as three numbers: in a struct they would be taken apart again at each comparison.
 fn judge(row: u64, own: u64, before: u64, left: u64, last: usize, g: usize) -> Option<u64>
     ensures { Judges row own before left last g result }
 {

@@ -136,7 +136,7 @@ pub fn close_number(close: Close) -> u64
 }
 
 // Puts the answer of a call over the front of a slice.
-fn put_answer(out: &mut [u64], outcome: u64, moves: u64, chain: Chain, picks: [u8; 64])
+pub fn put_answer(out: &mut [u64], outcome: u64, moves: u64, chain: Chain, picks: [u8; 64])
     ensures { Put out.old 0 (answer_words outcome moves chain picks) out.new }
 {
     words::put_word(out, 0, outcome);

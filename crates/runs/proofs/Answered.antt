@@ -1,13 +1,16 @@
 -- From the core's words to the public ones, for either side: a value of which the core says that it represents a
 -- state is the paused value of a reached state; refusals and fresh starts. A call that is not refused is in
 -- SideCalls.antt.
+--
+-- Pins, which nothing else cites: `refusal_step_lem`.
 use mathlib.Core.Path.{◌≡◌, refl, sym, ap, ◌∙◌}
 use mathlib.Core.Bool.{Bool, true, false}
 use mathlib.Core.List.{List, map}
 use Prim.Native.Nat.{ℕ, suc, ◌<◌}
 use native.Mathlib.Omega.{arith}
 use lib.ListN.{length}
-use Rattle.table.specs.Tables.{padded}
+use Rattle.table.specs.Tables.{padded, blank_chain}
+use Rattle.table.specs.declared.Chain.{Chain}
 use Rattle.refusals.specs.Answers.{number, answer}
 use Rattle.refusals.specs.declared.Refusal.{Refusal}
 use Rattle.refusals.proofs.Answering.{answer-refused}
@@ -15,7 +18,8 @@ use Rattle.table.specs.declared.Table.{Table}
 use Rattle.rules.specs.Machine.{Phase, State, fresh}
 use Rattle.lists.specs.Lists.{Side}
 use Rattle.lists.specs.OnTable.{ReachedOn}
-use Rattle.runs.specs.Paused.{Value, numbered, paused, blank_value}
+use Rattle.rules.specs.Calls.{refused}
+use Rattle.runs.specs.Paused.{Value, numbered, paused, blank_value, no_numbers}
 use Rattle.runs.specs.Calling.{Step, refusal_step, told, held, value_refusal, PausedAt, Called}
 use Rattle.runs.specs.Omitting.{CalledEither}
 use Rattle.runs.specs.private.Either.{call_of, CalledOf}
@@ -84,6 +88,11 @@ module _ (side : Table → Side) (v : Value) (b : ℕ) (r : Step) where
   -- and of a value whose run omits nothing `Called` is all
   pub called_plain : v.omit ≡ false → Called side v b r → CalledOf side v b r
   called_plain e c = record { table = c.table; value = c.value; rules = λ z s p. c.rules e z s p ∙ ap (λ (x : Bool). by_kind x s) (sym e) }
+
+-- the step that a refusal reads as: its chain and its value are blank
+pub refusal_step_lem : (n : ℕ) (c : Chain) (v : Value) → c ≡ blank_chain → v ≡ blank_value
+    → record { answer = refused n; moves = 0; chain = c; picks = no_numbers; next = v } ≡ refusal_step n
+refusal_step_lem n c v e w = rw (e, w)
 
 -- ---- fresh starts
 -- a refused start

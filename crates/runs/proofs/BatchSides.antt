@@ -9,6 +9,7 @@ use native.Mathlib.Omega.{arith}
 use lib.ListN.{length, take, drop}
 use Rattle.basics.proofs.Clash.{clash}
 use Rattle.refusals.specs.Answers.{number}
+use Rattle.std.specs.Prelude.{Result, Ok, Err}
 use Rattle.refusals.specs.declared.Refusal.{Refusal}
 use Rattle.refusals.specs.declared.Refusal.TheVariants.{NotReached, BudgetTooLarge, NotAnArrangement}
 use Rattle.table.specs.Tables.{Legal, table_refusal, padded}
@@ -30,11 +31,10 @@ use Rattle.runs.specs.Batches.{joined, denial, Denied, given, Comes, batch_on, b
 use Rattle.runs.specs.private.Working.{Works, placed_move}
 use Rattle.runs.specs.private.Listing.{ladder_of, ladder_for, WentOn, ListsBy, ListsIn}
 use Rattle.runs.specs.private.Sided.{Wants, batch_from}
-use Rattle.runs.specs.declared.engine.Stop.TheVariants.{Refused}
 use Rattle.runs.specs.declared.listing.Tally.{Tally}
 use Rattle.runs.proofs.Padding.{take-padded}
 use Rattle.runs.proofs.Words.{stored_front}
-use Rattle.runs.proofs.SideCalls.{NotRefused}
+use Rattle.runs.proofs.Opening.{value_of}
 use Rattle.runs.proofs.Sides.{gauge_chain, case_chain}
 use Rattle.runs.proofs.Wanting.{core_moves}
 use Rattle.runs.proofs.Answered.{stands_paused, paused_stands}
@@ -42,27 +42,27 @@ use Rattle.runs.proofs.Demands.{Starts, calls_made, calls_only, calls_as, calls_
 
 -- ---- the run's moves and ladders
 pub listed_by : (t : Table) (s : Side) (w : List ℕ) (n : ℕ) (R : List ℕ) → n ≡ s.count → Works s s.count R → (omit : Bool) → (omit ≡ true → Wants t s w)
-    → (turning : Bool) (g : ℕ) (order : List ℕ) → ((p : List ℕ) → ladder_for turning true order s.count g s.rows p ≡ hand_out s p)
-    → (room : ℕ) (k : List ℕ) (count : ℕ) (f : Phase) (b : ℕ) (before k' now : List ℕ) (o : Tally)
-    → ListsIn (λ q. placed_move (take n R) q omit w) (ladder_for turning true order n g (take n R)) room n (take n R) order k count f b before k' now o
+    → (turning : Bool) (g : ℕ) (order : List ℕ) → ((p : List ℕ) → ladder_for turning true [] s.count g s.rows p ≡ hand_out s p)
+    → (room : ℕ) (k : List ℕ) (count : ℕ) (f : Phase) (b : ℕ) (before k' now : List ℕ) (o : Result Tally Refusal)
+    → ListsIn (λ q. placed_move (take n R) q omit w) (ladder_for turning true [] n g (take n R)) room n (take n R) order k count f b before k' now o
     → ListsIn (λ q. moves_of t s q omit) (hand_out s) room s.count s.rows order k count f b before k' now o
 listed_by t s w n R z v omit h turning g order same room k count f b before k' now o d =
     subst (λ (m : List ℕ → State → Move). ListsIn m (hand_out s) room s.count s.rows order k count f b before k' now o)
     (fun_ext (λ q. core_moves t s w q omit h))
     (subst (λ (out : List ℕ → List ℕ). ListsIn (λ q. placed_move s.rows q omit w) out room s.count s.rows order k count f b before k' now o)
     (fun_ext same)
-    (subst (λ (r : List ℕ). ListsIn (λ q. placed_move r q omit w) (ladder_for turning true order s.count g r) room
+    (subst (λ (r : List ℕ). ListsIn (λ q. placed_move r q omit w) (ladder_for turning true [] s.count g r) room
     s.count r order k count f b before k' now o)
     v.rows_are
-    (subst (λ (i : ℕ). ListsIn (λ q. placed_move (take i R) q omit w) (ladder_for turning true order i g (take i R)) room i (take i R) order k count f b before
+    (subst (λ (i : ℕ). ListsIn (λ q. placed_move (take i R) q omit w) (ladder_for turning true [] i g (take i R)) room i (take i R) order k count f b before
     k' now o) z d)))
 
-module _ (t : Table) (l : Legal t) (order p : List ℕ) where
-  pub gauge_out : ladder_for false true order t.gauges t.gauges (gauge_side t).rows p ≡ hand_out (gauge_side t) p
+module _ (t : Table) (l : Legal t) (p : List ℕ) where
+  pub gauge_out : ladder_for false true [] t.gauges t.gauges (gauge_side t).rows p ≡ hand_out (gauge_side t) p
   unfolding ladder_of
   gauge_out = let a = gauge_chain t l p (padded (hand_out (gauge_side t) p)) refl in take-padded (hand_out (gauge_side t) p) t.gauges (sym a.size)
 
-  pub case_out : ladder_for true true order t.cases t.gauges (case_side t).rows p ≡ hand_out (case_side t) p
+  pub case_out : ladder_for true true [] t.cases t.gauges (case_side t).rows p ≡ hand_out (case_side t) p
   unfolding ladder_of
   case_out =
       let a = case_chain t l p _ _ refl refl in
@@ -212,12 +212,13 @@ adds_calls side v words b g ok s p l = record {
     calls = subst (λ (x : Value). CallsEither side x bs rs) (sym p.stands) made
 
 -- ---- a batch on the value v of a legal table, where the core left the picks k' and the buffer now
-pub record Listed (side : Table → Side) (v : Value) (b : ℕ) (before k' now : List ℕ) (o : Tally) : Type 0 where
+pub record Listed (side : Table → Side) (v : Value) (b : ℕ) (before k' now : List ℕ) (o : Result Tally Refusal) : Type 0 where
   pub passed : table_refusal v.table ≡ 0
   pub lists : ListsIn (λ q. moves_of v.table (side v.table) q v.omit) (hand_out (side v.table)) (length before / v.table.gauges)
       (side v.table).count (side v.table).rows v.order v.picks v.count v.phase b before k' now o
 
-pub listed_at : (side : Table → Side) (v : Value) (b : ℕ) (before k' now : List ℕ) (o : Tally) → table_refusal v.table ≡ 0 → (f : Phase) → f ≡ v.phase
+pub listed_at : (side : Table → Side) (v : Value) (b : ℕ) (before k' now : List ℕ) (o : Result Tally Refusal) → table_refusal v.table ≡ 0
+    → (f : Phase) → f ≡ v.phase
     → ListsIn (λ q. moves_of v.table (side v.table) q v.omit) (hand_out (side v.table)) (length before / v.table.gauges) (side v.table).count
     (side v.table).rows v.order v.picks v.count f b before k' now o
     → Listed side v b before k' now o
@@ -232,7 +233,7 @@ batched_refused side v b n before e l r d = record {
   rules = λ z s p w. absurd (omega (arith, e, z));
 }
 
-module _ (side : Table → Side) (v : Value) (b : ℕ) (before k' now : List ℕ) (o : Tally) (h : Listed side v b before k' now o) where
+module _ (side : Table → Side) (v : Value) (b : ℕ) (before k' now : List ℕ) (o : Result Tally Refusal) (h : Listed side v b before k' now o) where
   abbrev t : Table
   t = v.table
 
@@ -258,11 +259,11 @@ module _ (side : Table → Side) (v : Value) (b : ℕ) (before k' now : List ℕ
   by_value z = h.lists.listed z
 
   -- ---- a refusal
-  module _ (why : Refusal) (e : o.outcome ≡ Refused why) (r : Batch) (d : r ≡ denial (number why)) where
-    number-as : (x : Refusal) → o.outcome ≡ Refused x → number why ≡ number x
+  module _ (why : Refusal) (e : o ≡ Err why) (r : Batch) (d : r ≡ denial (number why)) where
+    number-as : (x : Refusal) → o ≡ Err x → number why ≡ number x
     number-as x z = let y : why ≡ x = cc in ap number y
 
-    deny : (x : Refusal) (i : ℕ) → number x ≡ i → (o.outcome ≡ Refused x) × (now ≡ before) → Denied i before r now
+    deny : (x : Refusal) (i : ℕ) → number x ≡ i → (o ≡ Err x) × (now ≡ before) → Denied i before r now
     deny x i a w = record { says = d ∙ ap denial (number-as x w.0 ∙ a); buffer = w.1 }
 
     pub batch-refused : Batched side v b before r now
@@ -280,44 +281,49 @@ module _ (side : Table → Side) (v : Value) (b : ℕ) (before k' now : List ℕ
           value = λ y none. deny NotReached 15 refl ((by_value z).value (λ s x. none s (stands_paused side v s x)));
           large = λ y s p l. deny BudgetTooLarge 18 refl ((by_value z).large s (paused_stands side v s p) l);
           rules = λ y s p l.
-              let w = (by_value z).moves s (paused_stands side v s p) l in
-              absurd (not_denied mv (hand_out (side t)) room b s (number why) l (ap (λ (u : Tale). u.ending) w.comes ∙ ap stop_ending e));
+              let w = ((by_value z).moves s (paused_stands side v s p) l).1 in
+              let x = sym e ∙ w in clash cc;
         }
 
   -- ---- what the calls give
-  module _ (c : NotRefused o.outcome) where
+  module _ (a : Tally) (c : o ≡ Ok a) where
     abbrev answer : Batch
-    answer = batch_from v (stop_ending o.outcome) k' o
+    answer = batch_from v k' a
 
-    never : (x : Refusal) → o.outcome ≡ Refused x → ⊥
-    never x e = c x e
+    never : (x : Refusal) → o ≡ Err x → ⊥
+    never x e = let z = sym c ∙ e in clash cc
 
     same : (e : Ending) (lad i : ℕ) (ph : Phase) (k : List ℕ) (l : List (List ℕ)) (y : State) → lad ≡ length l → k ≡ padded (map suc y.picks)
         → i ≡ length y.picks → ph ≡ numbered y.phase
         → ◌≡◌ {A = Batch} (record {
           ending = e;
           ladders = lad;
-          moves = o.moves;
+          moves = a.moves;
           next = record { table = t; order = v.order; picks = k; count = i; phase = ph; omit = v.omit };
         })
-        (given t v.order v.omit (tale e l o.moves y))
-    same e lad i ph k l y a x z w = rw (a, x, z, w)
+        (given t v.order v.omit (tale e l a.moves y))
+    same e lad i ph k l y d x z w = rw (d, x, z, w)
 
-    pub batch-given : (e : Ending) → stop_ending o.outcome ≡ e → (r : Batch) → r ≡ batch_from v e k' o → Batched side v b before r now
-    batch-given e d r w =
-        subst (λ (x : Batch). Batched side v b before x now) (ap (λ (y : Ending). batch_from v y k' o) d ∙ sym w) (go (is_preference n v.order) refl)
+    pub batch-given : (r : Batch) → r ≡ batch_from v k' a → Batched side v b before r now
+    batch-given r w =
+        subst (λ (x : Batch). Batched side v b before x now) (sym w) (go (is_preference n v.order) refl)
       where
-        comes : (s : State) → WentOn mv (ReachedOn (side t) q) (hand_out (side t)) room b s before k' now o
+        comes : (s : State) → WentOn mv (ReachedOn (side t) q) (hand_out (side t)) room b s before k' now a
             → Comes t v.order v.omit (batch_on side v (length before) b s) before answer now
         comes s w = record {
           says =
-              same (stop_ending o.outcome) o.ladders o.spot.count (mode_phase o.spot.mode) k' w.sets w.to w.counted w.stands.picked
+              same (stop_ending a.outcome) a.ladders a.spot.count (mode_phase a.spot.mode) k' w.sets w.to w.counted w.stands.picked
               w.stands.counted w.stands.phased
               ∙ ap (given t v.order v.omit) (sym w.comes);
           buffer =
               w.buffer ∙ stored_front before (joined w.sets) w.fits
               ∙ ap (λ (u : Tale). joined u.sets ++ drop (length (joined u.sets)) before) (sym w.comes);
         }
+
+        -- what was listed is the tally
+        found : {s : State} → (m : Tally) × (o ≡ Ok m) × WentOn mv (ReachedOn (side t) q) (hand_out (side t)) room b s before k' now m
+            → WentOn mv (ReachedOn (side t) q) (hand_out (side t)) room b s before k' now a
+        found {s} m = subst (WentOn mv (ReachedOn (side t) q) (hand_out (side t)) room b s before k' now) (value_of (sym m.1 ∙ c)) m.2
 
         go : (x : Bool) → is_preference n v.order ≡ x → Batched side v b before answer now
         go false z = record {
@@ -330,5 +336,5 @@ module _ (side : Table → Side) (v : Value) (b : ℕ) (before k' now : List ℕ
           table = λ w. absurd (omega (arith, some_val z));
           value = λ y none. absurd (never NotReached ((by_value z).value (λ s x. none s (stands_paused side v s x))).0);
           large = λ y s p l. absurd (never BudgetTooLarge ((by_value z).large s (paused_stands side v s p) l).0);
-          rules = λ y s p l. comes s ((by_value z).moves s (paused_stands side v s p) l);
+          rules = λ y s p l. comes s (found ((by_value z).moves s (paused_stands side v s p) l));
         }

@@ -10,7 +10,7 @@ use lib.Seq.{take-suc, get_or-take, take-length}
 use Rattle.sets.specs.Sets.{meet}
 use Rattle.sets.proofs.Order.{meet_comm}
 use Rattle.table.specs.Pairs.{row}
-use Rattle.table.specs.Tables.{padded}
+use Rattle.table.specs.Tables.{no_rows, padded}
 use Rattle.rules.proofs.Trees.{valid_kid}
 use Rattle.lists.specs.Picks.{common}
 use Rattle.lists.specs.ByNumber.{candidates}
@@ -24,7 +24,7 @@ use Rattle.runs.specs.private.Working.{Sized, places_of, Laying}
 use Rattle.runs.proofs.Holding.{full_is, common_none}
 use Rattle.runs.proofs.Stepping.{side_length, side_rows}
 
-module _ (n : ℕ) (rows c₀ k : List ℕ) (count : ℕ) (z : Sized n rows) (h : Laying n rows c₀ k count) where
+module _ (n : ℕ) (rows k : List ℕ) (count : ℕ) (z : Sized n rows) (h : Laying n rows k count) where
   abbrev r : List ℕ
   r = take n rows
 
@@ -34,10 +34,10 @@ module _ (n : ℕ) (rows c₀ k : List ℕ) (count : ℕ) (z : Sized n rows) (h 
     pub chained : c ≡ padded (chain_of r (take i h.picks))
     pub remains : left ≡ common r (take i h.picks) full
 
-  pub laid_none : Laid c₀ (2 ^ 64 - 1) 0
+  pub laid_none : Laid no_rows (2 ^ 64 - 1) 0
   laid_none = record {
     most = omega arith;
-    chained = h.empty ∙ chain_none r (side_rows n rows z).few;
+    chained = chain_none r (side_rows n rows z).few;
     remains = sym full_is ∙ sym (common_none r full);
   }
 

@@ -11,6 +11,7 @@ use Rattle.table.specs.Tables.{Legal, blank_chain, chain_rows, padded}
 use Rattle.table.specs.declared.Table.{Table}
 use Rattle.table.specs.declared.Chain.{Chain}
 use Rattle.refusals.specs.Answers.{number}
+use Rattle.std.specs.Prelude.{Result, Ok, Err}
 use Rattle.refusals.specs.declared.Refusal.{Refusal}
 use Rattle.rules.specs.Machine.{Phase, fresh}
 use Rattle.rules.specs.Calls.{spent, handed, end}
@@ -28,7 +29,7 @@ use Rattle.runs.specs.private.Working.{stop_reply, chain_with}
 use Rattle.runs.specs.private.Listing.{turned_rows}
 use Rattle.runs.specs.private.Sided.{Reports}
 use Rattle.runs.specs.declared.engine.Stop.{Stop}
-use Rattle.runs.specs.declared.engine.Stop.TheVariants.{HandedOut, Spent, End, Refused}
+use Rattle.runs.specs.declared.engine.Stop.TheVariants.{HandedOut, Spent, End}
 use Rattle.runs.specs.declared.engine.Report.{Report}
 use Rattle.runs.proofs.SideCalls.{Told, told_refused, told-handed, told-other, promise}
 use Rattle.runs.proofs.Sides.{Ladder, gauge_chain, case_chain}
@@ -84,20 +85,22 @@ side_ladder false t l p chain e = gauge_chain t l p chain e
 side_ladder true t l p chain e = case_chain t l p chain _ e refl
 
 -- what the core's call was told, as the answer of the run
-module _ (b : Bool) (v : Value) (budget : ℕ) (chain picks : List ℕ) (o : Report) (size : length v.table.rows ≡ 64) (long : length v.order ≡ 64)
-    (h : Reports (side_of b) v budget chain picks o) where
-  told_side : Told (side_of b) v budget chain picks o
-  told_side = record { size = size; long = long; fair = side_fair b v.table; few = side_low b v.table; reports = h }
+module _ (b : Bool) (v : Value) (budget : ℕ) (chain picks : List ℕ) (size : length v.table.rows ≡ 64) (long : length v.order ≡ 64) where
+  told_side : (o : Result Report Refusal) → Reports (side_of b) v budget chain picks o → Told (side_of b) v budget chain picks o
+  told_side o h = record { size = size; long = long; fair = side_fair b v.table; few = side_low b v.table; reports = h }
 
   promises : (r : Step) → CalledOf (side_of b) v budget r → Promises b v budget r
   promises r c =
       let p = promise (side_of b) v budget r (side_started b v size long) c in
       record { called = p.0; demand = p.1.0; either = p.1.1.0; omits = p.1.1.1 }
 
-  pub side_refused : (why : Refusal) → o.outcome ≡ Refused why → Promises b v budget (refusal_step (number why))
-  side_refused why e = promises _ (told_refused (side_of b) v budget chain picks o told_side why e (refusal_step (number why)) refl)
+  pub side_refused : (why : Refusal) → Reports (side_of b) v budget chain picks (Err why) → Promises b v budget (refusal_step (number why))
+  side_refused why h = promises _ (told_refused (side_of b) v budget chain picks why (told_side (Err why) h))
 
-  module _ (f : Phase) (ef : f ≡ mode_phase o.spot.mode) (k : List ℕ) (ek : k ≡ picks) where
+  module _ (o : Report) (h : Reports (side_of b) v budget chain picks (Ok o)) (f : Phase) (ef : f ≡ mode_phase o.spot.mode) (k : List ℕ) (ek : k ≡ picks) where
+    told_ok : Told (side_of b) v budget chain picks (Ok o)
+    told_ok = told_side (Ok o) h
+
     abbrev goes_on : Value
     goes_on = record { table = v.table; order = v.order; picks = k; count = o.spot.count; phase = f; omit = v.omit }
 
@@ -105,11 +108,11 @@ module _ (b : Bool) (v : Value) (budget : ℕ) (chain picks : List ℕ) (o : Rep
         → o.outcome ≡ HandedOut → Promises b v budget (record { answer = handed (chain_rows c); moves = o.moves; chain = c; picks = p; next = goes_on })
     side_handed c d p ep e =
         rw (ek, ep)
-        (promises _ (told-handed (side_of b) v budget chain picks o told_side f ef c _ d e (λ l q w. side_ladder b v.table l q chain w)))
+        (promises _ (told-handed (side_of b) v budget chain picks o told_ok f ef c _ d e (λ l q w. side_ladder b v.table l q chain w)))
 
-    other : (c : Chain) → c ≡ blank_chain → (x : Stop) → o.outcome ≡ x → ((why : Refusal) → x ≡ Refused why → ⊥) → (x ≡ HandedOut → ⊥)
+    other : (c : Chain) → c ≡ blank_chain → (x : Stop) → o.outcome ≡ x → (x ≡ HandedOut → ⊥)
         → Promises b v budget (record { answer = stop_reply x (chain_rows c); moves = o.moves; chain = c; picks = no_numbers; next = goes_on })
-    other c d x e moved out =
+    other c d x e out =
         rw ek
         (subst (λ (y : Stop). Promises b v budget (record {
           answer = stop_reply y (chain_rows c);
@@ -118,11 +121,11 @@ module _ (b : Bool) (v : Value) (budget : ℕ) (chain picks : List ℕ) (o : Rep
           picks = no_numbers;
           next = record { table = v.table; order = v.order; picks = picks; count = o.spot.count; phase = f; omit = v.omit };
         })) e
-        (promises _ (told-other (side_of b) v budget chain picks o told_side f ef c d (λ why w. moved why (sym e ∙ w)) (λ w. out (sym e ∙ w)))))
+        (promises _ (told-other (side_of b) v budget chain picks o told_ok f ef c d (λ w. out (sym e ∙ w)))))
 
     pub side_spent : o.outcome ≡ Spent
         → Promises b v budget (record { answer = spent; moves = o.moves; chain = blank_chain; picks = no_numbers; next = goes_on })
-    side_spent e = other blank_chain refl Spent e (λ why w. clash cc) (λ w. clash cc)
+    side_spent e = other blank_chain refl Spent e (λ w. clash cc)
 
     pub side_over : o.outcome ≡ End → Promises b v budget (record { answer = end; moves = o.moves; chain = blank_chain; picks = no_numbers; next = goes_on })
-    side_over e = other blank_chain refl End e (λ why w. clash cc) (λ w. clash cc)
+    side_over e = other blank_chain refl End e (λ w. clash cc)

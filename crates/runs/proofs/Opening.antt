@@ -7,7 +7,7 @@ use Prim.Native.Nat.{ℕ, ◌-◌, ◌≤◌, ◌<◌}
 use native.Mathlib.Omega.{arith}
 use lib.ListN.{length, take}
 use Rattle.basics.proofs.Clash.{clash}
-use Rattle.table.specs.Tables.{no_rows, padded}
+use Rattle.table.specs.Tables.{padded}
 use Rattle.refusals.specs.declared.Refusal.{Refusal}
 use Rattle.refusals.specs.declared.Refusal.TheVariants.{NotReached, BudgetTooLarge}
 use Rattle.rules.specs.Machine.{Phase, State, at}
@@ -27,7 +27,7 @@ use Rattle.runs.proofs.Holding.{stands_unique, state_is, holds_own}
 use Rattle.runs.proofs.Checking.{Front, stands-filled, stands-picked, made_front, no-phase, legal-of}
 
 -- what was given, out of its mark
-pub value_of : {x y : Spot} → ◌≡◌ {A = Result Spot Refusal} (Ok x) (Ok y) → x ≡ y
+pub value_of : {A : Type 0} {x y : A} → ◌≡◌ {A = Result A Refusal} (Ok x) (Ok y) → x ≡ y
 value_of e = cc
 
 -- ---- 15
@@ -92,8 +92,8 @@ module _ (n : ℕ) (rows k : List ℕ) (count : ℕ) (m : Stage ℕ) (b : ℕ) (
   abbrev spot : Spot
   spot = record { count = count; unpicked = s.unpicked; left = s.left; mode = m }
 
-  pub may_lay : (c : List ℕ) → c ≡ no_rows → Laying n rows c k count
-  may_lay c e = record { empty = e; picks = front.picks; numbers = front.numbers; counted = front.counted; valid = front.valid }
+  pub may_lay : Laying n rows k count
+  may_lay = record { picks = front.picks; numbers = front.numbers; counted = front.counted; valid = front.valid }
 
   module _ (c : List ℕ) (laid : c ≡ padded (chain_of r (places_of k count))) where
     standing : HoldsAt r u c k spot from

@@ -1,9 +1,11 @@
--- A call by place from the core's call by number (`carried_over`): where the moves follow one another, number for
+-- A call by place from the core's call by number (`carried_over`, `stopped_over`): where the moves follow one another, number for
 -- number, and the arrays represent one another's states. So it is for the plain order, where both are the same
 -- (`plain_carried`), and for any other order, on the gathered rows and the picks by place (`arranged-carried`).
 --
 -- In order: the law; the side that rows are; the plain order; rows gathered, values by place, values by number again,
 -- chains; any order.
+--
+-- Pins, which nothing else cites: `flag_found`.
 use mathlib.Core.Path.{◌≡◌, refl, sym, ap, ap₂, ◌∙◌, subst, fun_ext}
 use mathlib.Core.Bool.{Bool, true, false, not}
 use mathlib.Core.List.{List, [], map}
@@ -49,11 +51,17 @@ use Rattle.preference.proofs.PlainOrder.{plain_is, plain_order, plain_passes}
 use Rattle.runs.specs.Paused.{numbered, mode_phase}
 use Rattle.runs.specs.Calling.{}
 use Rattle.runs.specs.private.Working.{stop_reply}
-use Rattle.runs.specs.private.Working.{Sized, apart, hands_over, move_by, StandsBy, WentBy, CarriesBy, FitsOn, CarriesOn, placed_move, ReachedIn}
-use Rattle.runs.specs.private.Working.{renumbered_phase, InOrder, refused_report}
+use Rattle.runs.specs.private.Working.{Sized, apart, hands_over, omits, wanted_in, gathered_wanted, move_by, StandsBy, WentBy, CarriesBy, FitsOn, CarriesOn, placed_move, ReachedIn}
+use Rattle.runs.specs.private.Working.{renumbered_phase, InOrder}
+use Rattle.refusals.specs.declared.Refusal.{Refusal}
 use Rattle.refusals.specs.declared.Refusal.TheVariants.{NotAnArrangement}
+use Rattle.std.specs.Prelude.{Result, Ok, Err, Option, Some, None}
+use Rattle.std.specs.Borrow.{Bor}
+use Rattle.std.specs.Option.{option_copied}
+use Rattle.runs.proofs.Turns.{gathered_long}
 use Rattle.runs.specs.declared.engine.Stop.{Stop}
 use Rattle.runs.specs.declared.engine.Report.{Report}
+use Rattle.runs.proofs.Opening.{value_of}
 use Rattle.runs.proofs.Padding.{take-padded}
 
 -- ---- from one call to the other
@@ -72,12 +80,24 @@ pub record Turned (f : ℕ → ℕ) (good good' : State → Type 0) (chain chain
 
 module _ {f : ℕ → ℕ} {good good' : State → Type 0} {mv mv' : State → Move} {chain chain' : List ℕ → List ℕ} (w : Follows f good mv mv')
     (from : (y : State) → good' y → (x : State) × good x × (renamed f x ≡ y)) where
+  stopped_over : (k₁ k : List ℕ) (count : ℕ) (p₁ p : Phase) (b : ℕ) (c₁ k₁' c k' : List ℕ) (why : Refusal) → Stand f good good' k₁ k count p₁ p
+      → CarriesBy mv good chain k₁ count p₁ b c₁ k₁' (Err why) → CarriesBy mv' good' chain' k count p b c k' (Err why)
+  stopped_over k₁ k count p₁ p b c₁ k₁' c k' why s h = record {
+    value = λ none. h.value (λ x z. none (renamed f x) (s.there x z));
+    large = λ y z l. let q = from y z.fits in h.large q.0 (s.again q.0 q.1 (subst (StandsBy good' k count p) (sym q.2) z)) l;
+    moves = λ y z l.
+        let q = from y z.fits in
+        let g = h.moves q.0 (s.again q.0 q.1 (subst (StandsBy good' k count p) (sym q.2) z)) l in
+        let e = g.1 in clash cc;
+  }
+
   carried_over : (k₁ k : List ℕ) (count : ℕ) (p₁ p : Phase) (b : ℕ) (c₁ k₁' c k' : List ℕ) (o₁ o : Report) → Stand f good good' k₁ k count p₁ p
-      → Turned f good good' chain chain' c₁ k₁' c k' o₁ o → CarriesBy mv good chain k₁ count p₁ b c₁ k₁' o₁ → CarriesBy mv' good' chain' k count p b c k' o
+      → Turned f good good' chain chain' c₁ k₁' c k' o₁ o → CarriesBy mv good chain k₁ count p₁ b c₁ k₁' (Ok o₁)
+      → CarriesBy mv' good' chain' k count p b c k' (Ok o)
   carried_over k₁ k count p₁ p b c₁ k₁' c k' o₁ o s t h = record {
-    value = λ none. t.same_outcome ∙ h.value (λ x z. none (renamed f x) (s.there x z));
-    large = λ y z l. let q = from y z.fits in t.same_outcome ∙ h.large q.0 (its y z) l;
-    moves = λ y z l. went y z l;
+    value = λ none. let e = h.value (λ x z. none (renamed f x) (s.there x z)) in clash cc;
+    large = λ y z l. let q = from y z.fits in let e = h.large q.0 (its y z) l in clash cc;
+    moves = λ y z l. (o, refl, went y z l);
   }
     where
       -- the state by number
@@ -89,7 +109,8 @@ module _ {f : ℕ → ℕ} {good good' : State → Type 0} {mv mv' : State → M
       went : (y : State) (z : StandsBy good' k count p y) → b ≤ most_budget → WentBy mv' good' chain' b y c k' o
       went y z l =
           let q = from y z.fits in
-          let g = h.moves q.0 (its y z) l in
+          let m = h.moves q.0 (its y z) l in
+          let g = subst (WentBy mv good chain b q.0 c₁ k₁') (sym (value_of m.1)) m.2 in
           record {
             to = renamed f g.to;
             comes = λ out.
@@ -200,16 +221,21 @@ module _ (n : ℕ) (r : List ℕ) (counted : length r ≡ n) where
           ap (λ (z : List ℕ). hands_over true (length r) w (chain_of r z)) (ap (map (index_at o)) d ∙ same_picks x h ∙ sym d)
 
   plain_carried : n ≤ 64 → (order : List ℕ) → order ≡ numbers_of (plain n) → (omit : Bool) (w k : List ℕ) (count : ℕ) (p : Phase) (b : ℕ)
-      (c k' : List ℕ) (rep : Report) → CarriesOn (move_by r omit w) r k count p b c k' rep
+      (c k' : List ℕ) (rep : Result Report Refusal) → CarriesOn (move_by r omit w) r k count p b c k' rep
       → InOrder (λ q. placed_move r q omit w) n r order k count p b c k' rep
   plain_carried few order e omit w k count p b c k' rep h = record {
     none = λ z. absurd (fails (sym (plain_passes n few) ∙ ap (is_preference n) (sym e) ∙ z));
     carried = λ z.
         subst (λ (q : List ℕ). CarriesBy (placed_move r q omit w) (ReachedIn r q) (chain_of r) k count p b c k' rep)
         (sym (ap (order_of n) e ∙ plain_order n))
-        (carried_over (plain_moves omit w) plain_from k k count p p b c k' c k' rep rep (plain_stand k count p) (plain_turned c k' rep) h);
+        (over rep h);
   }
     where
+      over : (o : Result Report Refusal) → CarriesOn (move_by r omit w) r k count p b c k' o
+          → CarriesBy (placed_move r (plain n) omit w) (ReachedIn r (plain n)) (chain_of r) k count p b c k' o
+      over (Ok rep) h = carried_over (plain_moves omit w) plain_from k k count p p b c k' c k' rep rep (plain_stand k count p) (plain_turned c k' rep) h
+      over (Err why) h = stopped_over (plain_moves omit w) plain_from k k count p p b c k' c k' why (plain_stand k count p) h
+
       fails : true ≡ false → ⊥
       fails z = clash cc
 
@@ -413,42 +439,65 @@ module _ (n : ℕ) (rows order : List ℕ) (z : Sized n rows) (long : length ord
     abbrev asked : List ℕ
     asked = padded (gathered n w order)
 
-    pub arranged-carried : (c₁ k₁' c k' : List ℕ) (rep₁ rep : Report) → CarriesOn (move_by (take n arr) omit asked) (take n arr) made count p₁ b c₁ k₁' rep₁
+    turned : (c₁ k₁' : List ℕ) (o : Result Report Refusal) → CarriesOn (move_by (take n arr) omit asked) (take n arr) made count p₁ b c₁ k₁' o
+        → CarriesOn (move_by (arrange q r) omit asked) (arrange q r) (renumbered places n k) count p₁ b c₁ k₁' o
+    turned c₁ k₁' o h =
+        subst (λ (x : List ℕ). CarriesOn (move_by x omit asked) x (renumbered places n k) count p₁ b c₁ k₁' o) (ap (take n) rows_are ∙ arranged_rows)
+        (subst (λ (m : List ℕ). CarriesOn (move_by (take n arr) omit asked) (take n arr) m count p₁ b c₁ k₁' o)
+        (picks-are ∙ ap (λ (l : List ℕ). renumbered l n k) places-are) h)
+
+    stand : Stand num Fit Reach (renumbered places n k) k count p₁ p
+    stand = arranged_stand k lk count p p₁ (phase-is ∙ ap (λ (l : List ℕ). renumbered_phase l n p) places-are)
+
+    never : {P : Type 0} → is_preference n order ≡ false → P
+    never e = let y : ◌≡◌ {A = Bool} true false = sym ok ∙ e in clash cc
+
+    pub arranged-stopped : (c₁ k₁' c k' : List ℕ) (why : Refusal)
+        → CarriesOn (move_by (take n arr) omit asked) (take n arr) made count p₁ b c₁ k₁' (Err why)
+        → InOrder (λ o. placed_move r o omit w) n r order k count p b c k' (Err why)
+    arranged-stopped c₁ k₁' c k' why h = record {
+      none = never;
+      carried = λ e.
+          stopped_over (arranged_moves omit w lw) from_reach (renumbered places n k) k count p₁ p b c₁ k₁' c k' why stand
+          (turned c₁ k₁' (Err why) h);
+    }
+
+    pub arranged-carried : (c₁ k₁' c k' : List ℕ) (rep₁ rep : Report)
+        → CarriesOn (move_by (take n arr) omit asked) (take n arr) made count p₁ b c₁ k₁' (Ok rep₁)
         → c ≡ padded (gathered n c₁ pl) → k' ≡ renumbered order n k₁' → rep.outcome ≡ rep₁.outcome → rep.moves ≡ rep₁.moves
         → rep.spot.count ≡ rep₁.spot.count → mode_phase rep.spot.mode ≡ renumbered_phase order n (mode_phase rep₁.spot.mode)
-        → InOrder (λ o. placed_move r o omit w) n r order k count p b c k' rep
+        → InOrder (λ o. placed_move r o omit w) n r order k count p b c k' (Ok rep)
     arranged-carried c₁ k₁' c k' rep₁ rep h ec ek eo em et ep = record {
-      none = λ e. absurd (fails (sym ok ∙ e));
+      none = never;
       carried = λ e.
-          carried_over (arranged_moves omit w lw) from_reach (renumbered places n k) k count p₁ p b c₁ k₁' c k' rep₁ rep
-          (arranged_stand k lk count p p₁ (phase-is ∙ ap (λ (l : List ℕ). renumbered_phase l n p) places-are))
-          (arranged-turned c₁ k₁' c k' rep₁ rep (ec ∙ ap (λ (l : List ℕ). padded (gathered n c₁ l)) places-are) ek eo em et ep) turned;
+          carried_over (arranged_moves omit w lw) from_reach (renumbered places n k) k count p₁ p b c₁ k₁' c k' rep₁ rep stand
+          (arranged-turned c₁ k₁' c k' rep₁ rep (ec ∙ ap (λ (l : List ℕ). padded (gathered n c₁ l)) places-are) ek eo em et ep)
+          (turned c₁ k₁' (Ok rep₁) h);
     }
-      where
-        fails : true ≡ false → ⊥
-        fails y = clash cc
-
-        turned : CarriesOn (move_by (arrange q r) omit asked) (arrange q r) (renumbered places n k) count p₁ b c₁ k₁' rep₁
-        turned =
-            subst (λ (x : List ℕ). CarriesOn (move_by x omit asked) x (renumbered places n k) count p₁ b c₁ k₁' rep₁) (ap (take n) rows_are ∙ arranged_rows)
-            (subst (λ (m : List ℕ). CarriesOn (move_by (take n arr) omit asked) (take n arr) m count p₁ b c₁ k₁' rep₁)
-            (picks-are ∙ ap (λ (l : List ℕ). renumbered l n k) places-are) h)
 
 -- ---- the steps of a call
--- what is wanted is looked at only where the run omits
-pub asked_for : (r : List ℕ) (omit flag : Bool) → omit ≡ flag → (w v : List ℕ) → (flag ≡ true → w ≡ v) → (k : List ℕ) (count : ℕ) (f : Phase) (b : ℕ)
-    (c' k' : List ℕ) (rep : Report) → CarriesOn (move_by r flag w) r k count f b c' k' rep → CarriesOn (move_by r omit v) r k count f b c' k' rep
-asked_for r omit flag e w v h k count f b c' k' rep d =
-    subst (λ (x : Bool). CarriesOn (move_by r x v) r k count f b c' k' rep) (sym e)
-    (subst (λ (mv : State → Move). CarriesOn mv r k count f b c' k' rep) (same flag h) d)
-  where
-    same : (x : Bool) → (x ≡ true → w ≡ v) → move_by r x w ≡ move_by r x v
-    same false g = number_moves r w ∙ sym (number_moves r v)
-    same true g = ap (move_by r true) (g refl)
+-- the pairs that are wanted, as the order has them
+abbrev pairs : Option (List ℕ) → List ℕ
+pairs None = []
+pairs (Some l) = l
+
+pub gathered_size : (w : Option (Bor (List ℕ))) (n : ℕ) (o : List ℕ) (r : Option (Bor (List ℕ))) → option_copied r ≡ gathered_wanted w n o
+    → length (wanted_in r) ≡ 64
+gathered_size None n o None e = refl
+gathered_size None n o (Some v) e = clash cc
+gathered_size (Some w) n o None e = clash cc
+gathered_size (Some w) n o (Some v) e = ap (λ (l : Option (List ℕ)). length (pairs l)) e ∙ gathered_long n w.now o
+
+pub gathered_moves : (rows : List ℕ) (w : Option (Bor (List ℕ))) (n : ℕ) (o : List ℕ) (r : Option (Bor (List ℕ))) → option_copied r ≡ gathered_wanted w n o
+    → move_by rows (omits r) (wanted_in r) ≡ move_by rows (omits w) (padded (gathered n (wanted_in w) o))
+gathered_moves rows None n o None e = number_moves rows (padded []) ∙ sym (number_moves rows (padded (gathered n (padded []) o)))
+gathered_moves rows None n o (Some v) e = clash cc
+gathered_moves rows (Some w) n o None e = clash cc
+gathered_moves rows (Some w) n o (Some v) e = ap (λ (l : Option (List ℕ)). move_by rows true (pairs l)) e
 
 -- the plain order goes straight to the core
 pub plain_call : (n : ℕ) (rows order : List ℕ) → Sized n rows → length order ≡ 64 → (test : Bool) → test ≡ is_plain n order → test ≡ true → (omit : Bool)
-    (w k : List ℕ) (count : ℕ) (p : Phase) (b : ℕ) (c k' : List ℕ) (rep : Report)
+    (w k : List ℕ) (count : ℕ) (p : Phase) (b : ℕ) (c k' : List ℕ) (rep : Result Report Refusal)
     → CarriesOn (move_by (take n rows) omit w) (take n rows) k count p b c k' rep
     → InOrder (λ q. placed_move (take n rows) q omit w) n (take n rows) order k count p b c k' rep
 plain_call n rows order z long test e d omit w k count p b c k' rep h =
@@ -457,15 +506,15 @@ plain_call n rows order z long test e d omit w k count p b c k' rep h =
 
 -- a call with the flag as it was found to be is the call with the flag
 pub flag_found : (r : List ℕ) (omit flag : Bool) → omit ≡ flag → (w : List ℕ) (n : ℕ) (order k : List ℕ) (count : ℕ) (f : Phase) (b : ℕ)
-    (c' k' : List ℕ) (rep : Report) → InOrder (λ q. placed_move r q flag w) n r order k count f b c' k' rep
+    (c' k' : List ℕ) (rep : Result Report Refusal) → InOrder (λ q. placed_move r q flag w) n r order k count f b c' k' rep
     → InOrder (λ q. placed_move r q omit w) n r order k count f b c' k' rep
 flag_found r omit flag e w n order k count f b c' k' rep h =
     subst (λ (x : Bool). InOrder (λ q. placed_move r q x w) n r order k count f b c' k' rep) (sym e) h
 
 -- ---- 27
-pub refused_order : (mv : List ℕ → State → Move) (n : ℕ) (r order k : List ℕ) (count : ℕ) (f : Phase) (b : ℕ) (c' k' : List ℕ) (rep : Report)
-    → is_preference n order ≡ false → rep ≡ refused_report NotAnArrangement → InOrder mv n r order k count f b c' k' rep
-refused_order mv n r order k count f b c' k' rep e d = record {
-  none = λ _. ap (λ (x : Report). x.outcome) d;
+pub refused_order : (mv : List ℕ → State → Move) (n : ℕ) (r order k : List ℕ) (count : ℕ) (f : Phase) (b : ℕ) (c' k' : List ℕ)
+    → is_preference n order ≡ false → InOrder mv n r order k count f b c' k' (Err NotAnArrangement)
+refused_order mv n r order k count f b c' k' e = record {
+  none = λ _. refl;
   carried = λ h. clash cc;
 }

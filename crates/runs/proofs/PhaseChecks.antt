@@ -1,5 +1,8 @@
 -- The checks of a value by a run call without a budget, which makes no move (`spent-at`): what its outcome says where the call is refused
--- (`call-refuses`); and the checks at one phase (`checks_at`, of Down and Handed `checks_down` and `checks_handed`). What a refused number and what 0 say: `never-at`, `passes_at`, `some_at`.
+-- (`call-refuses`), where the phase does not fit, and where nothing is refused (`phase-refuses`, `nothing-refuses`); and the checks at one phase
+-- (`checks_at`, of Down and Handed `checks_down` and `checks_handed`). What a refused number and what 0 say: `never-at`, `passes_at`, `some_at`.
+--
+-- Pins, which nothing else cites: `phase-refuses`, `nothing-refuses`; the check finds the two goals that they say by itself.
 use mathlib.Core.Path.{◌≡◌, refl, sym, ap, ◌∙◌, subst}
 use mathlib.Core.Bool.{Bool, true, false}
 use mathlib.Core.List.{List}
@@ -50,6 +53,31 @@ module _ (side : Table → Side) (v : Value) where
           other = λ f z. n15 z;
           stands = λ f z s p. absurd (none z s p);
         }
+
+    -- a call that is not refused leaves 15, where the phase does not fit, and nothing
+    module _ (unrefused : (n : ℕ) → r.answer ≡ refused n → ⊥) where
+      passes : Passes
+      passes = go (ℕ_discrete (value_refusal side v) 0)
+        where
+          go : Dec Passes → Passes
+          go (yes e) = e
+          go (no e) = absurd (unrefused (value_refusal side v) (ap (λ (x : Step). x.answer) (called.table (omega arith))))
+
+      pub phase-refuses : fits ≡ false → ChecksPhase side v fits 15
+      phase-refuses f = record {
+        table = λ l. absurd (omega (arith, passes));
+        value = λ z n. refl;
+        other = λ e z. refl;
+        stands = λ e z s p. let y : true ≡ false = sym e ∙ f in clash cc;
+      }
+
+      pub nothing-refuses : fits ≡ true → ChecksPhase side v fits 0
+      nothing-refuses f = record {
+        table = λ l. absurd (omega (arith, passes));
+        value = λ z n. absurd (unrefused 15 (ap (λ (x : Step). x.answer) (called.value z n)));
+        other = λ e z. let y : true ≡ false = sym f ∙ e in clash cc;
+        stands = λ e z s p. refl;
+      }
 
   -- ---- at the phase f, which `is` tells from the others
   checks_at : (is : Phase → Bool) (f : Phase) → is (numbered f) ≡ true → ((g : Phase) → is (numbered g) ≡ true → g ≡ f) → (n : ℕ) (fits : Bool)

@@ -2,7 +2,7 @@
 -- nothing, what `Called` says (`called_plain_unique`), and no two answers of the code read alike (`side_value_injective`,
 -- `side_start_injective`, `side_step_injective`). For `Called` two steps that are not different are equal, since each field of a step is decided.
 --
--- Pins, which nothing else cites: `called_plain_unique`, `gauge_started_injective`, `case_started_injective`, `gauge_step_injective`,
+-- Pins, which nothing else cites: `case_value_injective`, `called_plain_unique`, `gauge_started_injective`, `case_started_injective`, `gauge_step_injective`,
 -- `case_step_injective`, `gauge_call_unique`, `case_call_unique`.
 use Rattle.std.specs.Prelude.{Result, Ok, Err}
 use Rattle.refusals.specs.declared.Refusal.{Refusal}
@@ -32,7 +32,7 @@ use Rattle.runs.specs.declared.paused.Ladder.{Ladder}
 use Rattle.runs.specs.declared.paused.Outcome.{Outcome}
 use Rattle.runs.specs.declared.paused.Outcome.TheVariants.{HandedOut, Spent, End}
 use Rattle.runs.specs.declared.paused.Step.{Step as CallStep}
-use Rattle.runs.specs.Paused.{Value, phase_of, value_of, gauge_value, start_of}
+use Rattle.runs.specs.Paused.{Value, phase_of, value_of, gauge_value, case_value, start_of}
 use Rattle.runs.specs.Calling.{Step, outcome, chain_out, picks_out, step_of, value_refusal, PausedAt, Called}
 use Rattle.runs.specs.Omitting.{CalledEither}
 use Rattle.runs.specs.private.Either.{CalledOf}
@@ -202,6 +202,9 @@ case_own x y e = ap (λ (k : ℕ). record { 0 = k }) e
 
 pub gauge_value_injective : (p q : Run Gauge) → gauge_value p ≡ gauge_value q → p ≡ q
 gauge_value_injective = side_value_injective (λ x. x.0) gauge_own
+
+pub case_value_injective : (p q : Run Case) → case_value p ≡ case_value q → p ≡ q
+case_value_injective = side_value_injective (λ x. x.0) case_own
 
 pub gauge_call_unique : (v : Value) (b : ℕ) (r q : Result (CallStep Gauge) Refusal) → CalledEither gauge_side v b (step_of (λ x. x.0) r)
     → CalledEither gauge_side v b (step_of (λ x. x.0) q)

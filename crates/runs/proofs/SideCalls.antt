@@ -10,6 +10,7 @@ use native.Mathlib.Omega.{arith}
 use lib.ListN.{length, take}
 use Rattle.basics.proofs.Clash.{clash}
 use Rattle.refusals.specs.Answers.{number}
+use Rattle.std.specs.Prelude.{Result, Ok, Err}
 use Rattle.table.specs.Tables.{Legal, chain_rows, blank_chain, table_refusal, padded}
 use Rattle.table.proofs.Legality.{legal_of}
 use Rattle.refusals.proofs.Answering.{number_pos}
@@ -36,18 +37,16 @@ use Rattle.runs.specs.Omitting.{CalledEither, CarriesOmits}
 use Rattle.runs.specs.private.Sided.{Reports}
 use Rattle.runs.specs.private.Working.{StandsBy, WentBy, CarriesBy, InOrder, next_of, step_by}
 use Rattle.runs.specs.declared.engine.Stop.{Stop}
-use Rattle.runs.specs.declared.engine.Stop.TheVariants.{HandedOut, Spent, End, Refused}
+use Rattle.runs.specs.declared.engine.Stop.TheVariants.{HandedOut, Spent, End}
 use Rattle.runs.specs.declared.engine.Report.{Report}
+use Rattle.runs.proofs.Opening.{value_of}
 use Rattle.runs.proofs.Padding.{take-padded}
 use Rattle.runs.proofs.Answered.{called_both, stands_paused, paused_stands, called_refused}
 use Rattle.runs.proofs.Sides.{Ladder}
 use Rattle.runs.proofs.HandOuts.{sequence_of_lem, handed_out}
 use Rattle.runs.proofs.Demands.{Starts, carries_demand, carries_omits}
 
--- an outcome that is no refusal, and one that is no hand-out
-abbrev pub NotRefused : Stop → Type 0
-NotRefused o = (why : Refusal) → o ≡ Refused why → ⊥
-
+-- an outcome that is no hand-out
 abbrev pub NotHanded : Stop → Type 0
 NotHanded o = o ≡ HandedOut → ⊥
 
@@ -69,10 +68,9 @@ by_moves t s order omit o k rows x y HandedOut e w =
     let (a, n, q) = e refl in ap (handed_with t order omit o k rows) q ∙ rw (a, w, take-padded x t.gauges (sym n))
 by_moves t s order omit o k rows x y Spent e w = rw w
 by_moves t s order omit o k rows x y End e w = rw w
-by_moves t s order omit o k rows x y (Refused why) e w = refl
 
 -- a call on the value v of a legal table, where the core left the chain c' and the picks k'
-record Worked (side : Table → Side) (v : Value) (b : ℕ) (c' k' : List ℕ) (o : Report) : Type 0 where
+record Worked (side : Table → Side) (v : Value) (b : ℕ) (c' k' : List ℕ) (o : Result Report Refusal) : Type 0 where
   pub passed : table_refusal v.table ≡ 0
   pub fair : Fair v.table (side v.table)
   pub few : (side v.table).count ≤ 64
@@ -80,7 +78,17 @@ record Worked (side : Table → Side) (v : Value) (b : ℕ) (c' k' : List ℕ) (
   pub ordered : InOrder (λ q. moves_of v.table (side v.table) q v.omit) (side v.table).count (side v.table).rows v.order v.picks
       v.count v.phase b c' k' o
 
-module _ (side : Table → Side) (v : Value) (b : ℕ) (c' k' : List ℕ) (o : Report) (h : Worked side v b c' k' o) where
+-- the step that the answer o gives, with the chain by gauge rows
+abbrev step_of : Value → List ℕ → List ℕ → Result Report Refusal → Step
+step_of v k rows (Ok r) = step_by v.table v.order v.omit r k rows r.outcome
+step_of v k rows (Err why) = refusal_step (number why)
+
+-- where it hands out, the rows are those of the ladder
+abbrev Shows : (Table → Side) → Value → List ℕ → List ℕ → Result Report Refusal → Type 0
+Shows side v c' rows o = (r : Report) → o ≡ Ok r → r.outcome ≡ HandedOut → (p : List ℕ) → c' ≡ padded (chain_of (side v.table).rows p)
+    → Ladder v.table (side v.table) p rows
+
+module _ (side : Table → Side) (v : Value) (b : ℕ) (c' k' : List ℕ) (o : Result Report Refusal) (h : Worked side v b c' k' o) where
   abbrev t : Table
   t = v.table
 
@@ -93,12 +101,11 @@ module _ (side : Table → Side) (v : Value) (b : ℕ) (c' k' : List ℕ) (o : R
   abbrev mv : State → Move
   mv = moves_of t (side t) q v.omit
 
-  -- the step that the report o gives
-  abbrev step : List ℕ → Stop → Step
-  step rows oc = step_by t v.order v.omit o k' rows oc
+  abbrev step : List ℕ → Result Report Refusal → Step
+  step rows = step_of v k' rows
 
   -- ---- the preference is none
-  order_answer : is_preference n v.order ≡ false → (rows : List ℕ) (r : Step) → r ≡ step rows o.outcome → CalledOf side v b r
+  order_answer : is_preference n v.order ≡ false → (rows : List ℕ) (r : Step) → r ≡ step rows o → CalledOf side v b r
   order_answer z rows r e =
       called_refused side v b 27 (sym (preference_refused t n v.order h.passed z)) (omega arith) r (e ∙ ap (step rows) (h.ordered.none z))
 
@@ -110,8 +117,7 @@ module _ (side : Table → Side) (v : Value) (b : ℕ) (c' k' : List ℕ) (o : R
     carries : CarriesBy mv (ReachedOn (side t) q) (chain_of (side t).rows) v.picks v.count v.phase b c' k' o
     carries = h.ordered.carried z
 
-    value-answer : (rows : List ℕ) → (o.outcome ≡ HandedOut → (p : List ℕ) → c' ≡ padded (chain_of (side t).rows p) → Ladder t (side t) p rows)
-        → (r : Step) → r ≡ step rows o.outcome → CalledOf side v b r
+    value-answer : (rows : List ℕ) → Shows side v c' rows o → (r : Step) → r ≡ step rows o → CalledOf side v b r
     value-answer rows chain r e = record {
       table = λ l. absurd (omega (arith, both_pass t n v.order h.passed z));
       value = λ y none. e ∙ ap (step rows) (carries.value (λ s l. none s (stands_paused side v s l)));
@@ -124,126 +130,100 @@ module _ (side : Table → Side) (v : Value) (b : ℕ) (c' k' : List ℕ) (o : R
             e ∙ ap (step rows) (carries.large s l (omega arith))
             ∙ sym (ap (told t (side t) v.order v.omit) (above_by mv (hand_out (side t)) b s (omega arith)))
         by-rules s l (yes y) =
-            let w = carries.moves s l y in
+            let (m, is, w) = carries.moves s l y in
             e
-            ∙ by_moves t (side t) v.order v.omit o k' rows (hand_out (side t) w.to.picks) w.to o.outcome
-            (λ d. let a = chain d w.to.picks w.chained in (a.rows_are, a.size, sequence-is d w))
-            (value_of w.to w.stands)
+            ∙ ap (step rows) is
+            ∙ by_moves t (side t) v.order v.omit m k' rows (hand_out (side t) w.to.picks) w.to m.outcome
+            (λ d. let a = chain m is d w.to.picks w.chained in (a.rows_are, a.size, sequence-is m d w))
+            (next-is m w.to w.stands)
             ∙ sym (ap (told t (side t) v.order v.omit) (within_by mv (hand_out (side t)) b s y ∙ w.comes (hand_out (side t))))
           where
             -- the picks that the core left are the pick sequence of the chain handed out
-            sequence-is : o.outcome ≡ HandedOut → (w : WentBy mv (ReachedOn (side t) q) (chain_of (side t).rows) b s c' k' o)
+            sequence-is : (m : Report) → m.outcome ≡ HandedOut → (w : WentBy mv (ReachedOn (side t) q) (chain_of (side t).rows) b s c' k' m)
                 → k' ≡ sequence (side t) q (hand_out (side t) w.to.picks)
-            sequence-is d w =
+            sequence-is m d w =
                 w.stands.picked
                 ∙ sequence_of_lem t (side t) h.fair q arranged w.to w.stands.fits
-                (handed_out t (side t) q v.omit b s o.outcome o.moves w.to d (w.comes (hand_out (side t))))
+                (handed_out t (side t) q v.omit b s m.outcome m.moves w.to d (w.comes (hand_out (side t))))
 
-            value_of : (y : State) → StandsBy (ReachedOn (side t) q) k' o.spot.count (mode_phase o.spot.mode) y
-                → next_of t v.order v.omit o k' ≡ paused t v.order v.omit y
-            value_of y g = same o.spot.count (mode_phase o.spot.mode) k' g.picked g.counted g.phased
+            next-is : (m : Report) (y : State) → StandsBy (ReachedOn (side t) q) k' m.spot.count (mode_phase m.spot.mode) y
+                → next_of t v.order v.omit m k' ≡ paused t v.order v.omit y
+            next-is m y g = same m.spot.count (mode_phase m.spot.mode) k' g.picked g.counted g.phased
               where
                 same : (c : ℕ) (f : Phase) (k : List ℕ) → k ≡ padded (map suc y.picks) → c ≡ length y.picks → f ≡ numbered y.phase
                     → record { table = t; order = v.order; picks = k; count = c; phase = f; omit = v.omit } ≡ paused t v.order v.omit y
                 same c f k a d g = rw (a, d, g)
 
-  -- what the core reports, whichever it is, is the answer of the call
-  call_answer : (rows : List ℕ) → (o.outcome ≡ HandedOut → (p : List ℕ) → c' ≡ padded (chain_of (side t).rows p) → Ladder t (side t) p rows)
-      → (r : Step) → r ≡ step rows o.outcome → CalledOf side v b r
+  -- what the core answers, whichever it is, is the answer of the call
+  call_answer : (rows : List ℕ) → Shows side v c' rows o → (r : Step) → r ≡ step rows o → CalledOf side v b r
   call_answer rows chain r e = go (is_preference n v.order) refl
     where
       go : (x : Bool) → is_preference n v.order ≡ x → CalledOf side v b r
       go true z = value-answer z rows chain r e
       go false z = order_answer z rows r e
 
-  -- ---- the answers
-  call_refused : (why : Refusal) → o.outcome ≡ Refused why → (r : Step) → r ≡ refusal_step (number why) → CalledOf side v b r
-  call_refused why e r d = call_answer [] (λ x. clash cc) r (d ∙ sym (ap (step []) e))
-
-  module _ (f : Phase) (ef : f ≡ mode_phase o.spot.mode) where
-    abbrev next : Value
-    next = record { table = t; order = v.order; picks = k'; count = o.spot.count; phase = f; omit = v.omit }
-
-    call-handed : (rows : List ℕ) → o.outcome ≡ HandedOut → ((p : List ℕ) → c' ≡ padded (chain_of (side t).rows p) → Ladder t (side t) p rows)
-        → CalledOf side v b (record {
-          answer = handed (take t.gauges rows);
-          moves = o.moves;
-          chain = record { gauges = t.gauges; rows = rows };
-          picks = k';
-          next = next;
-        })
-    call-handed rows e chain =
-        call_answer rows (λ x. chain) (record {
-          answer = handed
-              (take t.gauges rows);
-          moves = o.moves;
-          chain = record { gauges = t.gauges; rows = rows };
-          picks = k';
-          next = next;
-        })
-        (rw ef (sym (ap (step rows) e)))
-
-    call-other : (c : Chain) → c ≡ blank_chain → NotRefused o.outcome → NotHanded o.outcome
-        → CalledOf side v b (record { answer = stop_reply o.outcome (chain_rows c); moves = o.moves; chain = c; picks = no_numbers; next = next })
-    call-other c ec moved other =
-        call_answer [] (λ e. absurd (other e))
-        (record { answer = stop_reply o.outcome (chain_rows c); moves = o.moves; chain = c; picks = no_numbers; next = next }) (as_step o.outcome moved other)
-      where
-        as_step : (oc : Stop) → NotRefused oc → NotHanded oc
-            → ◌≡◌ {A = Step} (record { answer = stop_reply oc (chain_rows c); moves = o.moves; chain = c; picks = no_numbers; next = next })
-            (step [] oc)
-        as_step HandedOut a d = absurd (d refl)
-        as_step Spent a d = rw (ec, ef)
-        as_step End a d = rw (ec, ef)
-        as_step (Refused why) a d = absurd (a why refl)
-
 -- ---- what a call on any value is told, and its answers
-pub record Told (side : Table → Side) (v : Value) (b : ℕ) (c' k' : List ℕ) (o : Report) : Type 0 where
+pub record Told (side : Table → Side) (v : Value) (b : ℕ) (c' k' : List ℕ) (o : Result Report Refusal) : Type 0 where
   pub size : length v.table.rows ≡ 64
   pub long : length v.order ≡ 64
   pub fair : Legal v.table → Fair v.table (side v.table)
   pub few : Legal v.table → (side v.table).count ≤ 64
   pub reports : Reports side v b c' k' o
 
-module _ (side : Table → Side) (v : Value) (b : ℕ) (c' k' : List ℕ) (o : Report) (h : Told side v b c' k' o) where
-  legal : table_refusal v.table ≡ 0 → Legal v.table
-  legal z = legal_of v.table h.size z
+module _ (side : Table → Side) (v : Value) (b : ℕ) (c' k' : List ℕ) where
+  legal : (o : Result Report Refusal) → Told side v b c' k' o → table_refusal v.table ≡ 0 → Legal v.table
+  legal o h z = legal_of v.table h.size z
 
-  worked : table_refusal v.table ≡ 0 → Worked side v b c' k' o
-  worked z = record { passed = z; fair = h.fair (legal z); few = h.few (legal z); long = h.long; ordered = h.reports.rules z }
+  worked : (o : Result Report Refusal) (h : Told side v b c' k' o) → table_refusal v.table ≡ 0 → Worked side v b c' k' o
+  worked o h z = record { passed = z; fair = h.fair (legal o h z); few = h.few (legal o h z); long = h.long; ordered = h.reports.rules z }
 
   -- its table is refused, or the core worked
-  by_table : (r : Step) → ((why : Refusal) → o.outcome ≡ Refused why → number why ≡ table_refusal v.table → CalledOf side v b r)
+  by_table : (o : Result Report Refusal) → Told side v b c' k' o → (r : Step)
+      → ((why : Refusal) → o ≡ Err why → number why ≡ table_refusal v.table → CalledOf side v b r)
       → (table_refusal v.table ≡ 0 → CalledOf side v b r) → CalledOf side v b r
-  by_table r refuses works = go (dec_lt 0 (table_refusal v.table))
+  by_table o h r refuses works = go (dec_lt 0 (table_refusal v.table))
     where
       go : Dec (0 < table_refusal v.table) → CalledOf side v b r
       go (yes l) = let w = h.reports.table l in refuses w.0 w.1.0 w.1.1
       go (no n) = works (omega arith)
 
-  pub told_refused : (why : Refusal) → o.outcome ≡ Refused why → (r : Step) → r ≡ refusal_step (number why) → CalledOf side v b r
-  told_refused why e r d =
-      by_table r
+  pub told_refused : (why : Refusal) → Told side v b c' k' (Err why) → CalledOf side v b (refusal_step (number why))
+  told_refused why h =
+      by_table (Err why) h (refusal_step (number why))
       (λ w x n. let y : why ≡ w = cc in
       called_refused side v b (number why)
-      (table_first_lem v.table (side v.table).count v.order (number why) (number_pos why) (ap number y ∙ n)) (number_pos why) r d)
-      (λ z. call_refused side v b c' k' o (worked z) why e r d)
+      (table_first_lem v.table (side v.table).count v.order (number why) (number_pos why) (ap number y ∙ n)) (number_pos why) _ refl)
+      (λ z. call_answer side v b c' k' (Err why) (worked (Err why) h z) [] (λ r e. clash cc) _ refl)
 
-  module _ (f : Phase) (ef : f ≡ mode_phase o.spot.mode) where
+  -- of a report
+  module _ (o : Report) (h : Told side v b c' k' (Ok o)) (f : Phase) (ef : f ≡ mode_phase o.spot.mode) where
     abbrev after : Value
     after = record { table = v.table; order = v.order; picks = k'; count = o.spot.count; phase = f; omit = v.omit }
+
+    told_as : (rows : List ℕ) → Shows side v c' rows (Ok o) → (r : Step) → r ≡ step_of v k' rows (Ok o) → CalledOf side v b r
+    told_as rows chain r e =
+        by_table (Ok o) h r (λ w x n. clash cc) (λ z. call_answer side v b c' k' (Ok o) (worked (Ok o) h z) rows chain r e)
 
     pub told-handed : (c : Chain) (rows : List ℕ) → c ≡ record { gauges = v.table.gauges; rows = rows } → o.outcome ≡ HandedOut
         → (Legal v.table → (p : List ℕ) → c' ≡ padded (chain_of (side v.table).rows p) → Ladder v.table (side v.table) p rows)
         → CalledOf side v b (record { answer = handed (chain_rows c); moves = o.moves; chain = c; picks = k'; next = after })
     told-handed c rows d e ladder =
         subst (λ (x : Chain). CalledOf side v b (record { answer = handed (chain_rows x); moves = o.moves; chain = x; picks = k'; next = after })) (sym d)
-        (by_table _ (λ w x n. clash cc) (λ z. call-handed side v b c' k' o (worked z) f ef rows e (ladder (legal z))))
+        (by_table (Ok o) h _ (λ w x n. clash cc)
+        (λ z. call_answer side v b c' k' (Ok o) (worked (Ok o) h z) rows (λ r x y. ladder (legal (Ok o) h z)) _
+        (rw ef (sym (ap (step_by v.table v.order v.omit o k' rows) e)))))
 
-    pub told-other : (c : Chain) → c ≡ blank_chain → NotRefused o.outcome → NotHanded o.outcome
+    pub told-other : (c : Chain) → c ≡ blank_chain → NotHanded o.outcome
         → CalledOf side v b (record { answer = stop_reply o.outcome (chain_rows c); moves = o.moves; chain = c; picks = no_numbers; next = after })
-    told-other c d moved other =
-        by_table _ (λ w x n. absurd (moved w x)) (λ z. call-other side v b c' k' o (worked z) f ef c d moved other)
+    told-other c ec other =
+        told_as [] (λ r x e. absurd (other (ap (λ (y : Report). y.outcome) (value_of x) ∙ e))) _ (as_step o.outcome other)
+      where
+        as_step : (oc : Stop) → NotHanded oc
+            → ◌≡◌ {A = Step} (record { answer = stop_reply oc (chain_rows c); moves = o.moves; chain = c; picks = no_numbers; next = after })
+            (step_by v.table v.order v.omit o k' [] oc)
+        as_step HandedOut d = absurd (d refl)
+        as_step Spent d = rw (ec, ef)
+        as_step End d = rw (ec, ef)
 
 -- ---- what it is told: its table's refusal, or what the core gives
 

@@ -16,7 +16,6 @@ use Rattle.transpose.specs.Putting.{PutsIn}
 use Rattle.rules.specs.Machine.{State, Move}
 use Rattle.rules.specs.Calls.{Call, most_budget}
 use Rattle.rules.proofs.Calls.{within_by}
-use Rattle.lists.specs.OnTable.{chain_of}
 use Rattle.runs.specs.Calling.{}
 use Rattle.runs.specs.private.Working.{stop_reply}
 use Rattle.runs.specs.Batches.{Tale, tale, behind, onward, batch_by, joined, Ending}
@@ -25,13 +24,11 @@ use Rattle.table.proofs.Padding.{pad_length, pad_get_or}
 use Rattle.table.proofs.Places.{row_past}
 use Rattle.sets.proofs.Tabulated.{length-tabulate, get_or-tabulate}
 use Rattle.preference.specs.Placing.{row_numbered, gathered}
-use Rattle.lists.proofs.ChainRows.{length-chain_of}
-use Rattle.runs.specs.private.Working.{Sized, Holds, state_of, ComesOut, Advanced}
-use Rattle.runs.specs.declared.engine.Spot.{Spot}
+use Rattle.runs.specs.private.Working.{Holds, state_of, ComesOut, Advanced}
 use Rattle.runs.specs.declared.engine.Report.{Report}
 use Rattle.runs.specs.private.Listing.{turned_rows, numbered_rows, ladder_of, ladder_for, Puts, Hands, words_of, written_in, Lists, Sofar}
 use Rattle.runs.specs.declared.engine.Stop.{Stop}
-use Rattle.runs.specs.declared.engine.Stop.TheVariants.{HandedOut, Spent, End, Refused}
+use Rattle.runs.specs.declared.engine.Stop.TheVariants.{HandedOut, Spent, End}
 use Rattle.runs.proofs.Padding.{take-padded}
 use Rattle.runs.proofs.SideCalls.{NotHanded}
 use Rattle.runs.proofs.Carrying.{carry_most}
@@ -47,9 +44,9 @@ module _ (c pl : List ℕ) (n g : ℕ) (before : List ℕ) (at : ℕ) (now rows 
     size = ap (λ (l : List ℕ). length (take g l)) (sym e) ∙ length-take-le g rows (omega (arith, size));
   }
 
-  -- with the flags as they were found
-  pub hands_as : (t p t' p' : Bool) → t ≡ t' → p ≡ p' → rows ≡ turned_rows t' n g (numbered_rows p' pl n c) → Hands t p c pl n g before at now
-  hands_as t p t' p' a b e = rw (a, b) (hands_is t' p' e)
+  -- with the flag as it was found
+  pub hands_as : (t p t' : Bool) → t ≡ t' → rows ≡ turned_rows t' n g (numbered_rows p pl n c) → Hands t p c pl n g before at now
+  hands_as t p t' a e = rw a (hands_is t' p e)
 
 -- ---- by number again, row by row
 module _ (n : ℕ) (rows numbers : List ℕ) where
@@ -86,9 +83,9 @@ module _ (n g : ℕ) (before : List ℕ) (at : ℕ) (now rows : List ℕ) (room 
           sym (take-padded (transpose (min g 64) (places n rows)) g (sym turned_size))
           ∙ ap (λ (l : List ℕ). take g (padded (transpose (min g 64) (places n l)))) e
 
-  -- with the flags as they were found
-  pub turns_as : (c pl : List ℕ) (t p p' : Bool) → t ≡ true → p ≡ p' → rows ≡ numbered_rows p' pl n c → Hands t p c pl n g before at now
-  turns_as c pl t p p' a b e = rw (a, b) (turns_is c pl p' e)
+  -- with the flag as it was found
+  pub turns_as : (c pl : List ℕ) (t p : Bool) → t ≡ true → rows ≡ numbered_rows p pl n c → Hands t p c pl n g before at now
+  turns_as c pl t p a e = rw a (turns_is c pl p e)
 
 -- ---- calls
 module _ (mv : State → Move) (out : List ℕ → List ℕ) where
@@ -202,15 +199,8 @@ module _ (mv : State → Move) (out : List ℕ → List ℕ) where
           last HandedOut r = absurd (r refl)
           last Spent r = same (stop_ending Spent)
           last End r = same (stop_ending End)
-          last (Refused w) r = same (stop_ending (Refused w))
 
 -- ---- as the loop has it: the ladders of the chain at a spot that holds
-pub holds_size : (n : ℕ) (rows c k : List ℕ) (s : Spot) → Sized n rows → Holds n rows c k s → length c ≡ 64
-holds_size n rows c k s z h =
-    ap length h.chained
-    ∙ pad_length (chain_of (take n rows) (state_of k s).picks)
-    (omega (arith, length-chain_of (take n rows) (state_of k s).picks, length-take-le n rows (omega (arith, z.few, z.size)), z.few))
-
 pub advanced_most : (mv : State → Move) (n : ℕ) (rows c k : List ℕ) (b : ℕ) (x : State) (r : Report) → Advanced mv n rows c k b x r → r.moves ≤ b
 advanced_most mv n rows c k b x r a = comes_most mv (λ p. p) b x r.outcome r.moves (state_of k r.spot) a.comes
 

@@ -25,6 +25,8 @@ use Rattle.table.proofs.Padding.{pad_get_or}
 use Rattle.table.proofs.Places.{has_place, place_has, row_past}
 use Rattle.table.proofs.Legality.{length_rows, legal_cases, legal_passes}
 use Rattle.refusals.specs.Answers.{Answer}
+use Rattle.refusals.specs.declared.Refusal.{Refusal}
+use Rattle.std.specs.Prelude.{Result}
 use Rattle.transpose.specs.Transposing.{transpose}
 use Rattle.transpose.proofs.Transposition.{length-transpose, cases_transpose, has_transpose, cases_within}
 use Rattle.rules.specs.Machine.{Phase, State, Move, Given, nothing, hands, ends, gives}
@@ -107,7 +109,7 @@ module _ (t : Table) (s : Side) (w : List ℕ) where
 
   -- so a call of the core is one of the run
   pub carried_by : (n : ℕ) (R : List ℕ) → n ≡ s.count → Works s s.count R → (omit flag : Bool) → omit ≡ flag → (flag ≡ true → Wants t s w)
-      → (order k : List ℕ) (count : ℕ) (f : Phase) (b : ℕ) (c' k' : List ℕ) (o : Report)
+      → (order k : List ℕ) (count : ℕ) (f : Phase) (b : ℕ) (c' k' : List ℕ) (o : Result Report Refusal)
       → InOrder (λ q. placed_move (take n R) q flag w) n (take n R) order k count f b c' k' o
       → InOrder (λ q. moves_of t s q omit) s.count s.rows order k count f b c' k' o
   carried_by n R z v omit flag e h order k count f b c' k' o d =

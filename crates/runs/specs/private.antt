@@ -2,5 +2,6 @@
 pub mod Either
 pub mod Working
 pub mod Listing
+pub mod Core
 pub mod Sided
 pub mod Checks

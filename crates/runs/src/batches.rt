@@ -3,12 +3,14 @@ ghost use Rattle.std.specs.Prelude.{◌≡◌, Ok, length};
 ghost use Rattle.runs.specs.Paused.{value_of};
 ghost use Rattle.runs.specs.Sides.{side_of};
 ghost use Rattle.runs.specs.Batches.{batch_of, closing, Batched, CarriesBatch};
+ghost use Rattle.runs.specs.private.Listing.{stop_ending};
 ghost use Rattle.runs.specs.private.Sided.{batch_from};
 
 use crate::engine::Stop;
 use crate::listing::Tally;
 use crate::paused::{Picks, Run};
-use crate::sided::Shape;
+use crate::sided::Checked;
+use crate::work::Asked;
 use crate::{paused, sided};
 use refusals::Refusal;
 use table;
@@ -44,39 +46,45 @@ impl<S: Side> Run<S> {
     {
         let t = self.table;
         table::check_table(t)?;
-        let shape = Shape {
-            gauges: t.gauges,
-            cases: t.cases,
+        let on = Checked {
+            table: &t,
             omit: self.omit,
         };
-        let rows = t.rows;
         let order = self.order.numbers;
         let mut picks = self.picks.numbers;
-        let at = paused::mode_of(self.phase);
-        let tally = sided::list::<S>(
-            shape, &rows, &order, &mut picks, self.count, at, budget, out,
-        );
-        match tally.outcome {
-            Stop::Refused(why) => Err(why),
-            Stop::HandedOut => Ok(batch_of(self, picks, tally, Close::Full)),
-            Stop::Spent => Ok(batch_of(self, picks, tally, Close::Spent)),
-            Stop::End => Ok(batch_of(self, picks, tally, Close::End)),
-        }
+        let asked = Asked {
+            count: self.count,
+            mode: paused::mode_of(self.phase),
+            budget,
+        };
+        let tally = sided::list::<S>(&on, &order, &mut picks, asked, out)?;
+        Ok(batch_of(self, picks, tally))
     }
 }
 
 // The answer of a batch that is not refused, from the core's tally and the picks that it left.
-fn batch_of<S: Side>(run: Run<S>, picks: [u8; 64], tally: Tally, close: Close) -> Batch<S>
-    ensures { batch_of S.number (Ok result) ≡ batch_from (value_of S.number run) (closing close) picks tally }
+fn batch_of<S: Side>(run: Run<S>, picks: [u8; 64], tally: Tally) -> Batch<S>
+    ensures { batch_of S.number (Ok result) ≡ batch_from (value_of S.number run) picks tally }
 {
     let mut next = run;
     next.picks = Picks::new(picks);
     next.count = tally.spot.count as u64;
     next.phase = paused::phase_of(tally.spot.mode);
     Batch {
-        close,
+        close: close_of(tally.outcome),
         ladders: tally.ladders,
         moves: tally.moves,
         next,
+    }
+}
+
+// A `From` would be no plainer: it is this match, with its contract in a definition. The two stay apart, since a call stops too, by a hand-out and not full.
+fn close_of(stop: Stop) -> Close
+    ensures { closing result ≡ stop_ending stop }
+{
+    match stop {
+        Stop::HandedOut => Close::Full,
+        Stop::Spent => Close::Spent,
+        Stop::End => Close::End,
     }
 }

@@ -1,20 +1,20 @@
-// The core of both runs, on plain numbers: `rows` are the side's rows, of which the first `n` are the table's. A spot
-// is a state of rules 1 to 5 with the set of the unpicked gauges; two arrays go along with it: the chain of the
-// picks, which is also where the left cases are found again when a pick is taken back, and the picks by number. A
-// side's call is `call`; where it omits, `wanted` has the pairs of which a chain must hold one to be handed over, by
-// the side's rows, and else it is not looked at.
-ghost use Rattle.std.specs.Prelude.{◌≡◌, ◌+◌, ◌≤◌, ◌<◌, length, take, set, get_or};
+// The core of both runs, on plain numbers. A spot is a state of rules 1 to 5 with the set of the unpicked gauges; a walk goes along with it, the chain of
+// the picks and the picks by number. A side's call is `call`.
+ghost use Rattle.std.specs.Prelude.{◌≡◌, ◌+◌, ◌≤◌, ◌<◌, set, get_or};
 ghost use Rattle.std.specs.Int.Bits.{bit_and};
-ghost use Rattle.table.specs.Tables.{no_rows, padded};
+ghost use Rattle.table.specs.Tables.{padded};
 ghost use Rattle.rules.specs.Machine.{take_back, cut_last};
 ghost use Rattle.lists.specs.OnTable.{chain_of};
 ghost use Rattle.search.specs.Finding.{within};
 ghost use Rattle.sets.specs.First.{Without};
 ghost use Rattle.runs.specs.Paused.{mode_phase};
-ghost use Rattle.runs.specs.private.Working.{Sized, Holds, Laying, state_of, places_of, spot_down, moved_from, Stepped, TakesBack, NumberAt};
-ghost use Rattle.runs.specs.private.Working.{left_after, Advanced, DecidedBy, filled as filled_places, PhaseIn, CarriesOn, Opens, refused_report, chain_with};
-ghost use Rattle.runs.specs.private.Working.{move_by, apart as apart_rows, hands_over};
+ghost use Rattle.runs.specs.private.Core.{rows_of, rule_of, HoldsOn};
+ghost use Rattle.runs.specs.private.Working.{Laying, state_of, places_of, spot_down, moved_from, Stepped, TakesBack, NumberAt};
+ghost use Rattle.runs.specs.private.Working.{omits, wanted_in, left_after, Advanced, DecidedBy, filled as filled_places, PhaseIn, CarriesOn, Opens, chain_with};
+ghost use Rattle.runs.specs.private.Working.{apart as apart_rows, hands_over};
 
+use crate::listing::Form;
+use crate::work::{Asked, Walk, Work};
 use crate::{Phase, listing};
 use refusals::Refusal;
 use replay;
@@ -37,7 +37,6 @@ pub enum Stop {
     HandedOut,
     Spent,
     End,
-    Refused(Refusal),
 }
 
 // Where a run is: how many picks, the unpicked gauges, the left cases, and the phase.
@@ -57,7 +56,7 @@ pub enum Moved {
     Over(Spot),
 }
 
-// What a call gives: its outcome, how many moves it made, and where the run is then.
+// What a call gives: its outcome, how many moves it made, and where the run is then. Each of the three stops has its moves and its spot: none is blank.
 #[derive(Clone, Copy)]
 pub struct Report {
     pub outcome: Stop,
@@ -65,84 +64,53 @@ pub struct Report {
     pub spot: Spot,
 }
 
-// A call on the value of the first `count` picks and a mode, with a budget: 15 and 18 as 01 has them, else up to
-// `budget` moves. `chain` comes empty, and has the chain of the picks after the moves; `picks` are then those of the
-// next value.
-pub fn call(
-    rows: &[u64; 64],
-    n: usize,
-    omit: bool,
-    wanted: &[u64; 64],
-    chain: &mut [u64; 64],
-    picks: &mut [u8; 64],
-    count: u64,
-    mode: Phase<usize>,
-    budget: u64,
-) -> Report
-    requires { (Sized n rows.now) × (chain.old ≡ no_rows) × (length picks.old ≡ 64) }
-    ensures { CarriesOn (move_by (take n rows.now) omit wanted.now) (take n rows.now) picks.old count
-        (mode_phase mode) budget chain.new picks.new result }
+// A call on the value of a walk's picks, with a budget: 15 and 18 as 01 has them, else up to `budget` moves. The walk has then the chain of the picks after
+// the moves, and the picks of the next value.
+pub fn call(work: &Work, walk: &mut Walk, asked: Asked) -> Result<Report, Refusal>
+    ensures { CarriesOn (rule_of work.now) (rows_of work.now) walk.old.picks asked.count (mode_phase asked.mode) asked.budget
+        walk.new.chain walk.new.picks result }
 {
-    let at = match open(rows, n, chain, picks, count, mode, budget) {
-        Ok(at) => at,
-        Err(why) => return refused(why),
+    let at = open(work, &mut walk.chain, &walk.picks, asked)?;
+    let mut nowhere = [0; 1];
+    let one = Form {
+        ladders: 1,
+        writing: false,
+        places: None,
     };
-    let none = [0u8; 64];
-    let mut nowhere = [0u64; 1];
-    let tally = listing::list_on(
-        rows,
-        n,
-        omit,
-        wanted,
-        1,
-        false,
-        false,
-        true,
-        &none,
-        0,
-        chain,
-        picks,
-        at,
-        budget,
-        &mut nowhere,
-    );
+    let tally = listing::list_on(work, &one, walk, at, asked.budget, &mut nowhere);
     let ended = tally.outcome;
     let after = tally.spot;
-    Report {
+    Ok(Report {
         outcome: ended,
         moves: tally.moves,
         spot: after,
-    }
+    })
 }
 
-// The checks of such a call alone: 15 and 18, or where the run is. `chain` comes empty, and has then the chain of the
-// picks.
+// The checks of such a call alone: 15 and 18, or where the run is. `chain` has then the chain of the picks.
 pub fn open(
-    rows: &[u64; 64],
-    n: usize,
+    work: &Work,
     chain: &mut [u64; 64],
     picks: &[u8; 64],
-    count: u64,
-    mode: Phase<usize>,
-    budget: u64,
+    asked: Asked,
 ) -> Result<Spot, Refusal>
-    requires { (Sized n rows.now) × (chain.old ≡ no_rows) × (length picks.now ≡ 64) }
-    ensures { Opens n rows.now picks.now count (mode_phase mode) budget chain.new result }
+    ensures { Opens work.now.n work.now.rows.now picks.now asked.count (mode_phase asked.mode) asked.budget chain.new result }
 {
-    if filled(picks) != count {
+    if filled(picks) != asked.count {
         return Err(Refusal::NotReached);
     }
-    let many = count as usize;
-    let Some(seen) = replay::replay(rows, n, picks, many) else {
+    let many = asked.count as usize;
+    let Some(seen) = replay::replay(work.rows, work.n, picks, many) else {
         return Err(Refusal::NotReached);
     };
-    if !phase_fits(rows, seen.unpicked, seen.left, many, mode) {
+    let mode = asked.mode;
+    if !phase_fits(work.rows, seen.unpicked, seen.left, many, mode) {
         return Err(Refusal::NotReached);
     }
-    if MOST_BUDGET < budget {
+    if MOST_BUDGET < asked.budget {
         return Err(Refusal::BudgetTooLarge);
     }
-    lay(rows, n, chain, picks, many);
+    lay(work, chain, picks, many);
     Ok(Spot {
         count: many,
         unpicked: seen.unpicked,
@@ -158,22 +126,6 @@ pub fn chain_of(gauges: u64, rows: &[u64; 64]) -> Chain
     Chain {
         gauges: gauges,
         rows: *rows,
-    }
-}
-
-// A call that makes no move.
-pub fn refused(why: Refusal) -> Report
-    ensures { result ≡ refused_report why }
-{
-    Report {
-        outcome: Stop::Refused(why),
-        moves: 0,
-        spot: Spot {
-            count: 0,
-            unpicked: 0,
-            left: 0,
-            mode: Phase::Down,
-        },
     }
 }
 
@@ -208,46 +160,38 @@ fn phase_fits(rows: &[u64; 64], unpicked: u64, left: u64, count: usize, mode: Ph
 }
 
 // Lays the chain of the first `count` picks.
-fn lay(rows: &[u64; 64], n: usize, chain: &mut [u64; 64], picks: &[u8; 64], count: usize)
-    requires { (Sized n rows.now) × (Laying n rows.now chain.old picks.now count) }
-    ensures { chain.new ≡ padded (chain_of (take n rows.now) (places_of picks.now count)) }
+fn lay(work: &Work, chain: &mut [u64; 64], picks: &[u8; 64], count: usize)
+    requires { Laying work.now.n work.now.rows.now picks.now count }
+    ensures { chain.new ≡ padded (chain_of (rows_of work.now) (places_of picks.now count)) }
 {
+    *chain = [0; 64];
     let mut left = ALL;
     for i in 0..count {
         let g = usize::from(picks[i]) - 1;
-        left = rows[g] & left;
+        left = work.rows[g] & left;
         chain[g] = left;
     }
 }
 
 // Up to `budget` moves: it stops after the first hand-out or end. A chain that is omitted does not stop it; its move
 // counts.
-pub fn advance(
-    rows: &[u64; 64],
-    n: usize,
-    omit: bool,
-    wanted: &[u64; 64],
-    chain: &mut [u64; 64],
-    picks: &mut [u8; 64],
-    at: Spot,
-    budget: u64,
-) -> Report
-    requires { (Sized n rows.now) × (Holds n rows.now chain.old picks.old at) }
-    ensures { Advanced (move_by (take n rows.now) omit wanted.now) n rows.now chain.new
-        picks.new budget (state_of picks.old at) result }
+pub fn advance(work: &Work, walk: &mut Walk, at: Spot, budget: u64) -> Report
+    requires { HoldsOn work.now walk.old at }
+    ensures { Advanced (rule_of work.now) work.now.n work.now.rows.now walk.new.chain walk.new.picks budget
+        (state_of walk.old.picks at) result }
 {
     let mut spot = at;
     let mut moves: u64 = 0;
     // a budget is used up, and a hand-out or the end leaves the rest: no index is counted
     while moves < budget {
-        let made = step(rows, n, chain, picks, spot);
+        let made = step(work, walk, spot);
         match made {
             Moved::On(next) => {
                 spot = next;
                 moves += 1;
             }
             Moved::Out(next) => {
-                if hands_over(omit, n, wanted, chain) {
+                if hands_over(work.n, work.wanted, &walk.chain) {
                     return Report {
                         outcome: Stop::HandedOut,
                         moves: moves + 1,
@@ -275,14 +219,14 @@ pub fn advance(
 
 // Whether a chain is handed over: by a run that omits, where it holds a pair that is wanted.
 #[tactic(auto, unfolding(crate::specs::private::Working::hands_over))]
-fn hands_over(omit: bool, n: usize, wanted: &[u64; 64], chain: &[u64; 64]) -> bool
+fn hands_over(n: usize, wanted: Option<&[u64; 64]>, chain: &[u64; 64]) -> bool
     requires { n ≤ 64 }
-    ensures { result ≡ hands_over omit n wanted.now chain.now }
+    ensures { result ≡ hands_over (omits wanted.entry) n (wanted_in wanted.entry) chain.now }
 {
-    if omit {
-        return !apart(n, wanted, chain);
-    }
-    true
+    let Some(wanted) = wanted else {
+        return true;
+    };
+    !apart(n, wanted, chain)
 }
 
 // Whether no row of the chain has a case of the same row that is wanted.
@@ -300,76 +244,61 @@ fn apart(n: usize, wanted: &[u64; 64], chain: &[u64; 64]) -> bool
 }
 
 // One move by rules 1 to 5.
-fn step(rows: &[u64; 64], n: usize, chain: &mut [u64; 64], picks: &mut [u8; 64], at: Spot) -> Moved
-    requires { (Sized n rows.now) × (Holds n rows.now chain.old picks.old at) }
-    ensures { Stepped n rows.now chain.new picks.new (moved_from n rows.now picks.old at) result }
+fn step(work: &Work, walk: &mut Walk, at: Spot) -> Moved
+    requires { HoldsOn work.now walk.old at }
+    ensures { Stepped work.now.n work.now.rows.now walk.new.chain walk.new.picks
+        (moved_from work.now.n work.now.rows.now walk.old.picks at) result }
 {
     let mode = at.mode;
-    let count = at.count;
-    let unpicked = at.unpicked;
-    let left = at.left;
     match mode {
         Phase::Down => {
-            let g = search::next_candidate_of(rows, unpicked, left, 0);
+            let g = search::next_candidate_of(work.rows, at.unpicked, at.left, 0);
             if g < PLACES {
-                return Moved::On(pick(rows, chain, picks, count, unpicked, left, g));
+                return Moved::On(pick(work.rows, walk, at, g));
             }
             Moved::Out(Spot {
-                count: count,
-                unpicked: unpicked,
-                left: left,
+                count: at.count,
+                unpicked: at.unpicked,
+                left: at.left,
                 mode: Phase::Handed,
             })
         }
-        Phase::Handed => take_back(rows, n, chain, picks, at),
+        Phase::Handed => take_back(work, walk, at),
         Phase::Back(from) => {
-            let g = search::next_candidate_of(rows, unpicked, left, from);
+            let g = search::next_candidate_of(work.rows, at.unpicked, at.left, from);
             if g < PLACES {
-                return Moved::On(pick(rows, chain, picks, count, unpicked, left, g));
+                return Moved::On(pick(work.rows, walk, at, g));
             }
-            take_back(rows, n, chain, picks, at)
+            take_back(work, walk, at)
         }
         Phase::Ended => Moved::Over(at),
     }
 }
 
 // Picks the gauge at place `g`.
-fn pick(
-    rows: &[u64; 64],
-    chain: &mut [u64; 64],
-    picks: &mut [u8; 64],
-    count: usize,
-    unpicked: u64,
-    left: u64,
-    g: usize,
-) -> Spot
-    requires { (count < 64) × (g < 64) }
-    ensures value { result ≡ spot_down (count + 1) result.unpicked (bit_and (get_or rows.now g 0) left) }
-    ensures unpicked_after { Without unpicked g result.unpicked }
-    ensures chain_after { chain.new ≡ set chain.old g (bit_and (get_or rows.now g 0) left) }
-    ensures picks_after { picks.new ≡ set picks.old count (g + 1) }
+fn pick(rows: &[u64; 64], walk: &mut Walk, at: Spot, g: usize) -> Spot
+    requires { (at.count < 64) × (g < 64) }
+    ensures value { result ≡ spot_down (at.count + 1) result.unpicked (bit_and (get_or rows.now g 0) at.left) }
+    ensures unpicked_after { Without at.unpicked g result.unpicked }
+    ensures chain_after { walk.new.chain ≡ set walk.old.chain g (bit_and (get_or rows.now g 0) at.left) }
+    ensures picks_after { walk.new.picks ≡ set walk.old.picks at.count (g + 1) }
 {
-    let own = rows[g] & left;
-    chain[g] = own;
-    picks[count] = (g + 1) as u8;
+    let own = rows[g] & at.left;
+    walk.chain[g] = own;
+    walk.picks[at.count] = (g + 1) as u8;
     Spot {
-        count: count + 1,
-        unpicked: sets::without(unpicked, g as u64),
+        count: at.count + 1,
+        unpicked: sets::without(at.unpicked, g as u64),
         left: own,
         mode: Phase::Down,
     }
 }
 
 // Takes the last pick back; without picks, the end.
-fn take_back(
-    rows: &[u64; 64],
-    n: usize,
-    chain: &mut [u64; 64],
-    picks: &mut [u8; 64],
-    at: Spot,
-) -> Moved
-    requires { (Sized n rows.now) × (Holds n rows.now chain.old picks.old at) × TakesBack (mode_phase at.mode) }
-    ensures { Stepped n rows.now chain.new picks.new (take_back (cut_last (state_of picks.old at).picks)) result }
+fn take_back(work: &Work, walk: &mut Walk, at: Spot) -> Moved
+    requires { (HoldsOn work.now walk.old at) × TakesBack (mode_phase at.mode) }
+    ensures { Stepped work.now.n work.now.rows.now walk.new.chain walk.new.picks
+        (take_back (cut_last (state_of walk.old.picks at).picks)) result }
 {
     let count = at.count;
     if count == 0 {
@@ -381,11 +310,11 @@ fn take_back(
         });
     }
     let last = count - 1;
-    let number = picks[last] as usize;
+    let number = walk.picks[last] as usize;
     let g = number - 1;
-    picks[last] = 0;
-    chain[g] = 0;
-    let left = left_after(chain, picks, last);
+    walk.picks[last] = 0;
+    walk.chain[g] = 0;
+    let left = left_after(&walk.chain, &walk.picks, last);
     Moved::On(Spot {
         count: last,
         unpicked: sets::with(at.unpicked, g as u64),

@@ -11,6 +11,7 @@ mod listing;
 mod ordered;
 mod paused;
 mod sided;
+mod work;
 
 pub use batches::{Batch, CaseBatch, Close, GaugeBatch};
 pub use paused::{

@@ -2,104 +2,70 @@
 // that is handed in. The plain order 1, 2, 3, .. goes straight to the core. For another one the rows are gathered as
 // it has them and the picks turned into places, so that on these the core's order by number is the order by place;
 // then the picks and the chain go back by number. Below both sides, as the core is.
-ghost use Rattle.std.specs.Prelude.{◌≡◌, true, length, take};
-ghost use Rattle.table.specs.Tables.{no_rows, padded};
+ghost use Rattle.std.specs.Prelude.{◌≡◌, true, take};
+ghost use Rattle.table.specs.Tables.{padded};
 ghost use Rattle.preference.specs.Preferences.{is_preference, order_of, numbers_of};
-ghost use Rattle.preference.specs.Placing.{inverse, gathered, renumber};
+ghost use Rattle.preference.specs.Placing.{inverse, gathered};
 ghost use Rattle.runs.specs.Paused.{mode_phase};
-ghost use Rattle.runs.specs.private.Working.{Sized, placed_move, InOrder, move_by, CarriesOn, renumbered_phase};
+ghost use Rattle.runs.specs.private.Working.{Sized, InOrder, omits, wanted_in, gathered_wanted, move_by, CarriesOn, renumbered_phase};
+ghost use Rattle.runs.specs.private.Core.{rows_of, rule_under};
 
 use crate::engine::{Report, Spot};
+use crate::work::{Asked, Walk, Work};
 use crate::{Phase, engine};
 use preference;
 use refusals::Refusal;
 
-// A call on the value of the first `count` picks and a mode, under the order of the `n` rows: 27, 15 and 18 as 02 and
-// 01 have them, else up to `budget` moves. `chain` comes empty, and has the chain of the picks after the moves;
-// `picks` are then those of the next value.
-pub fn call(
-    rows: &[u64; 64],
-    n: usize,
-    order: &[u8; 64],
-    omit: bool,
-    wanted: &[u64; 64],
-    chain: &mut [u64; 64],
-    picks: &mut [u8; 64],
-    count: u64,
-    mode: Phase<usize>,
-    budget: u64,
-) -> Report
-    requires { (Sized n rows.now) × (length order.now ≡ 64) × (length wanted.now ≡ 64) × (chain.old ≡ no_rows) × (length picks.old ≡ 64) }
-    ensures { InOrder (λ o. placed_move (take n rows.now) o omit wanted.now) n (take n rows.now)
-        order.now picks.old count (mode_phase mode) budget chain.new picks.new result }
+// A call on the value of a walk's picks, under the order of the rows: 27, 15 and 18 as 02 and 01 have them, else up to
+// `budget` moves. The walk has then the chain of the picks after the moves, and the picks of the next value.
+pub fn call(work: &Work, order: &[u8; 64], walk: &mut Walk, asked: Asked) -> Result<Report, Refusal>
+    ensures { InOrder (rule_under work.now) work.now.n (rows_of work.now) order.now walk.old.picks asked.count
+        (mode_phase asked.mode) asked.budget walk.new.chain walk.new.picks result }
 {
-    if preference::is_plain(order, n) {
-        return engine::call(rows, n, omit, wanted, chain, picks, count, mode, budget);
+    if preference::is_plain(order, work.n) {
+        return engine::call(work, walk, asked);
     }
-    if omit {
-        return by_order(
-            rows, n, order, true, wanted, chain, picks, count, mode, budget,
-        );
-    }
-    by_order(
-        rows, n, order, false, wanted, chain, picks, count, mode, budget,
-    )
+    by_order(work, order, walk, asked)
 }
 
-// The same for any order, placed first. It is called at two places so that it stays a function of its own: then
-// `call` is small, becomes part of both sides' calls, and the plain order 1, 2, 3, .. costs no call on the way to the
-// core.
-fn by_order(
-    rows: &[u64; 64],
-    n: usize,
-    order: &[u8; 64],
-    omit: bool,
-    wanted: &[u64; 64],
-    chain: &mut [u64; 64],
-    picks: &mut [u8; 64],
-    count: u64,
-    mode: Phase<usize>,
-    budget: u64,
-) -> Report
-    requires { (Sized n rows.now) × (length order.now ≡ 64) × (length wanted.now ≡ 64) × (chain.old ≡ no_rows) × (length picks.old ≡ 64) }
-    ensures { InOrder (λ o. placed_move (take n rows.now) o omit wanted.now) n (take n rows.now)
-        order.now picks.old count (mode_phase mode) budget chain.new picks.new result }
+// The same for any order, placed first. It is not inlined: then `call` is small, becomes part of both sides' calls, and
+// the plain order 1, 2, 3, .. costs no call on the way to the core.
+#[inline(never)]
+fn by_order(work: &Work, order: &[u8; 64], walk: &mut Walk, asked: Asked) -> Result<Report, Refusal>
+    ensures { InOrder (rule_under work.now) work.now.n (rows_of work.now) order.now walk.old.picks asked.count
+        (mode_phase asked.mode) asked.budget walk.new.chain walk.new.picks result }
 {
-    let Some(places) = preference::place_all(*order, n) else {
-        return engine::refused(Refusal::NotAnArrangement);
+    let Some(places) = preference::place_all(*order, work.n) else {
+        return Err(Refusal::NotAnArrangement);
     };
-    by_place(
-        rows, n, order, &places, omit, wanted, chain, picks, count, mode, budget,
-    )
+    by_place(work, order, &places, walk, asked)
 }
 
 // The call on the gathered rows and the picks by place, and back.
 fn by_place(
-    rows: &[u64; 64],
-    n: usize,
+    work: &Work,
     order: &[u8; 64],
     places: &[u8; 64],
-    omit: bool,
-    wanted: &[u64; 64],
-    chain: &mut [u64; 64],
-    picks: &mut [u8; 64],
-    count: u64,
-    mode: Phase<usize>,
-    budget: u64,
-) -> Report
-    requires { (Sized n rows.now) × (length order.now ≡ 64) × (length wanted.now ≡ 64) × (chain.old ≡ no_rows) × (length picks.old ≡ 64)
-        × (is_preference n order.now ≡ true) × (places.now ≡ numbers_of (inverse (order_of n order.now))) }
-    ensures { InOrder (λ o. placed_move (take n rows.now) o omit wanted.now) n (take n rows.now)
-        order.now picks.old count (mode_phase mode) budget chain.new picks.new result }
+    walk: &mut Walk,
+    asked: Asked,
+) -> Result<Report, Refusal>
+    requires { (is_preference work.now.n order.now ≡ true) × (places.now ≡ numbers_of (inverse (order_of work.now.n order.now))) }
+    ensures { InOrder (rule_under work.now) work.now.n (rows_of work.now) order.now walk.old.picks asked.count
+        (mode_phase asked.mode) asked.budget walk.new.chain walk.new.picks result }
 {
-    let arranged = preference::gather(rows, order, n);
-    let mut made = preference::renumber(*picks, places, n);
-    let at = renumbered(places, n, mode);
-    let report = call_arranged(
-        &arranged, n, order, omit, wanted, chain, &mut made, count, at, budget,
-    );
-    *picks = preference::renumber(made, order, n);
-    *chain = preference::gather(chain, places, n);
+    let n = work.n;
+    let arranged = preference::gather(work.rows, order, n);
+    let made = preference::renumber(walk.picks, places, n);
+    walk.picks = made;
+    let mode = renumbered(places, n, asked.mode);
+    let at = Asked {
+        count: asked.count,
+        mode,
+        budget: asked.budget,
+    };
+    let report = call_arranged(&arranged, work, order, walk, at)?;
+    walk.picks = preference::renumber(walk.picks, order, n);
+    walk.chain = preference::gather(&walk.chain, places, n);
     let spot = report.spot;
     let after = spot.mode;
     let outcome = report.outcome;
@@ -109,38 +75,47 @@ fn by_place(
         left: spot.left,
         mode: renumbered(order, n, after),
     };
-    Report {
+    Ok(Report {
         outcome: outcome,
         moves: report.moves,
         spot: next,
-    }
+    })
 }
 
-// The core's call on rows that are gathered already; the pairs that are wanted are gathered only where the run omits.
+// The core's call on the side's rows as the order has them.
 fn call_arranged(
-    rows: &[u64; 64],
-    n: usize,
+    arranged: &[u64; 64],
+    work: &Work,
     order: &[u8; 64],
-    omit: bool,
-    wanted: &[u64; 64],
-    chain: &mut [u64; 64],
-    picks: &mut [u8; 64],
-    count: u64,
-    mode: Phase<usize>,
-    budget: u64,
-) -> Report
-    requires { (Sized n rows.now) × (chain.old ≡ no_rows) × (length picks.old ≡ 64) }
-    ensures { CarriesOn (move_by (take n rows.now) omit (padded (gathered n wanted.now order.now)))
-        (take n rows.now) picks.old count (mode_phase mode) budget chain.new picks.new result }
+    walk: &mut Walk,
+    asked: Asked,
+) -> Result<Report, Refusal>
+    requires { Sized work.now.n arranged.now }
+    ensures { CarriesOn (move_by (take work.now.n arranged.now) (omits work.now.wanted)
+        (padded (gathered work.now.n (wanted_in work.now.wanted) order.now)))
+        (take work.now.n arranged.now) walk.old.picks asked.count (mode_phase asked.mode) asked.budget walk.new.chain walk.new.picks result }
 {
-    if omit {
-        let asked = preference::gather(wanted, order, n);
-        return engine::call(rows, n, true, &asked, chain, picks, count, mode, budget);
-    }
-    engine::call(rows, n, false, rows, chain, picks, count, mode, budget)
+    let gathered = gather_wanted(work, order);
+    let wanted = gathered.as_ref();
+    let placed = Work {
+        rows: arranged,
+        n: work.n,
+        wanted,
+        turned: work.turned,
+        gauges: work.gauges,
+    };
+    engine::call(&placed, walk, asked)
 }
 
-// A mode with the number of a pick that was taken back as the array has it.
+// The pairs that are wanted, as the order has the rows: they are gathered only where the run omits.
+pub fn gather_wanted(work: &Work, order: &[u8; 64]) -> Option<[u64; 64]>
+    ensures { result ≡ gathered_wanted work.now.wanted work.now.n order.now }
+{
+    let wanted = work.wanted?;
+    Some(preference::gather(wanted, order, work.n))
+}
+
+// A mode with the number of a pick that was taken back as the array has it; a match as in `paused::mode_of`, for the reason there.
 pub fn renumbered(numbers: &[u8; 64], n: usize, mode: Phase<usize>) -> Phase<usize>
     ensures { mode_phase result ≡ renumbered_phase numbers.now n (mode_phase mode) }
 {

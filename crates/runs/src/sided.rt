@@ -2,113 +2,119 @@
 // run that omits its essential pairs, by the rows of its side. What a call gives on a paused run is in paused.rt, and a
 // batch in batches.rt; below are ordered.rt, the core's call under an order, and
 // listing.rt, its batch.
-ghost use Rattle.std.specs.Prelude.{◌≡◌, true, List, ℕ, length};
-ghost use Rattle.table.specs.Tables.{Legal, no_rows};
+ghost use Rattle.std.specs.Prelude.{◌≡◌, true, List, ℕ};
+ghost use Rattle.table.specs.Tables.{Legal};
 ghost use Rattle.runs.specs.Paused.{mode_phase};
 ghost use Rattle.runs.specs.Sides.{side_of};
 ghost use Rattle.runs.specs.private.Working.{Works};
-ghost use Rattle.runs.specs.private.Sided.{table_of, table_in, side_in, Wants, CallsSide, ListsSide};
+ghost use Rattle.runs.specs.private.Sided.{table_of, Wants, WantsWhere, CallsSide, ListsSide};
 
 use crate::engine::Report;
 use crate::listing::Tally;
-use crate::{Phase, listing, ordered};
+use crate::work::{Asked, Walk, Work};
+use crate::{listing, ordered};
 use essentials;
+use refusals::Refusal;
 use table::{Side, Table};
 use transpose;
 
-// The numbers of a run's table, whose rows are lent beside this, and whether it omits.
-#[derive(Clone, Copy)]
-pub struct Shape {
-    pub gauges: u64,
-    pub cases: u64,
+// The table of a run, which passed the checks, and whether the run omits.
+#[derive(Drop)]
+pub struct Checked<'a> {
+    pub table: &'a Table,
     pub omit: bool,
+    ghost legal: { Legal table.now },
 }
 
-// A run call on the side `S`, of the table with these rows. `chain` comes empty, and has the chain of the picks
-// after the moves, by the rows of the side; `picks` are then those of the next value. The essential pairs
-// are looked for only where the run omits; else the core looks at none, and gets any rows. That is a function of its
-// own for both sides: then this one is small, becomes part of both sides' calls, and a run that omits nothing copies
-// no row.
+// A run call on the side `S` of the table. The walk has then the chain of the picks after the moves, by the rows of the side, and the picks of the next
+// value. The essential pairs are looked for only where the run omits. That is not inlined: then this
+// one is small, becomes part of both sides' calls, and a run that omits nothing copies no row.
 pub fn call<S: Side>(
-    shape: Shape,
-    rows: &[u64; 64],
+    on: &Checked,
     order: &[u8; 64],
-    chain: &mut [u64; 64],
-    picks: &mut [u8; 64],
-    count: u64,
-    at: Phase<usize>,
-    budget: u64,
-) -> Report
-    requires { (Legal (table_in shape rows.now)) × (length order.now ≡ 64) × (chain.old ≡ no_rows) × (length picks.old ≡ 64) }
-    ensures { CallsSide S.CASES shape rows.now order.now picks.old count (mode_phase at) budget chain.new
-        picks.new result }
+    walk: &mut Walk,
+    asked: Asked,
+) -> Result<Report, Refusal>
+    ensures { CallsSide S.CASES on.now.table.now on.now.omit order.now walk.old.picks asked.count (mode_phase asked.mode) asked.budget
+        walk.new.chain walk.new.picks result }
 {
-    let n = side_count::<S>(shape.gauges, shape.cases) as usize;
-    if shape.omit {
-        return call_omitting::<S>(shape, rows, n, order, chain, picks, count, at, budget);
+    let n = side_count::<S>(on.table.gauges, on.table.cases) as usize;
+    let gauges = on.table.gauges as usize;
+    if on.omit {
+        return call_omitting::<S>(on, n, order, walk, asked);
     }
     if S::CASES {
-        let own = side_rows::<S>(shape, rows);
-        return ordered::call(&own, n, order, false, &own, chain, picks, count, at, budget);
+        let own = side_rows::<S>(on);
+        let by_cases = Work {
+            rows: &own,
+            n,
+            wanted: None,
+            turned: true,
+            gauges,
+        };
+        return ordered::call(&by_cases, order, walk, asked);
     }
-    ordered::call(rows, n, order, false, rows, chain, picks, count, at, budget)
+    let own = &on.table.rows;
+    let by_gauges = Work {
+        rows: own,
+        n,
+        wanted: None,
+        turned: false,
+        gauges,
+    };
+    ordered::call(&by_gauges, order, walk, asked)
 }
 
 // The same of a run that omits, on the `n` rows of the side.
+#[inline(never)]
 fn call_omitting<S: Side>(
-    shape: Shape,
-    rows: &[u64; 64],
+    on: &Checked,
     n: usize,
     order: &[u8; 64],
-    chain: &mut [u64; 64],
-    picks: &mut [u8; 64],
-    count: u64,
-    at: Phase<usize>,
-    budget: u64,
-) -> Report
-    requires { (Legal (table_in shape rows.now)) × (length order.now ≡ 64) × (chain.old ≡ no_rows) × (length picks.old ≡ 64) × (shape.omit ≡ true)
-        × (n ≡ (side_in S.CASES shape rows.now).count) }
-    ensures { CallsSide S.CASES shape rows.now order.now picks.old count (mode_phase at) budget chain.new
-        picks.new result }
+    walk: &mut Walk,
+    asked: Asked,
+) -> Result<Report, Refusal>
+    requires { (on.now.omit ≡ true) × (n ≡ (side_of S.CASES on.now.table.now).count) }
+    ensures { CallsSide S.CASES on.now.table.now on.now.omit order.now walk.old.picks asked.count (mode_phase asked.mode) asked.budget
+        walk.new.chain walk.new.picks result }
 {
-    let own = side_rows::<S>(shape, rows);
-    let want = wanted_rows::<S>(shape, rows);
-    ordered::call(&own, n, order, true, &want, chain, picks, count, at, budget)
+    let own = side_rows::<S>(on);
+    let essential = wanted_rows::<S>(on);
+    let wanted = Some(&essential);
+    let turned = S::CASES;
+    let work = Work {
+        rows: &own,
+        n,
+        wanted,
+        turned,
+        gauges: on.table.gauges as usize,
+    };
+    ordered::call(&work, order, walk, asked)
 }
 
 // A batch on the side `S`.
 pub fn list<S: Side>(
-    shape: Shape,
-    rows: &[u64; 64],
+    on: &Checked,
     order: &[u8; 64],
     picks: &mut [u8; 64],
-    count: u64,
-    at: Phase<usize>,
-    budget: u64,
+    asked: Asked,
     out: &mut [u64],
-) -> Tally
-    requires { (Legal (table_in shape rows.now)) × (length order.now ≡ 64) × (length picks.old ≡ 64) }
-    ensures { ListsSide S.CASES shape rows.now order.now picks.old count (mode_phase at) budget out.old
-        picks.new out.new result }
+) -> Result<Tally, Refusal>
+    ensures { ListsSide S.CASES on.now.table.now on.now.omit order.now picks.old asked.count (mode_phase asked.mode) asked.budget
+        out.old picks.new out.new result }
 {
-    let n = side_count::<S>(shape.gauges, shape.cases) as usize;
-    let own = side_rows::<S>(shape, rows);
-    let want = wanted_rows::<S>(shape, rows);
-    let g = shape.gauges as usize;
-    listing::call(
-        &own,
+    let n = side_count::<S>(on.table.gauges, on.table.cases) as usize;
+    let own = side_rows::<S>(on);
+    let pairs = wanted_where::<S>(on);
+    let wanted = pairs.as_ref();
+    let work = Work {
+        rows: &own,
         n,
-        order,
-        shape.omit,
-        &want,
-        S::CASES,
-        g,
-        picks,
-        count,
-        at,
-        budget,
-        out,
-    )
+        wanted,
+        turned: S::CASES,
+        gauges: on.table.gauges as usize,
+    };
+    listing::call(&work, order, picks, asked, out)
 }
 
 // How many rows the side has.
@@ -122,33 +128,35 @@ pub fn side_count<S: Side>(gauges: u64, cases: u64) -> u64
 }
 
 // The rows of the side: the table's own, or turned.
-fn side_rows<S: Side>(shape: Shape, rows: &[u64; 64]) -> [u64; 64]
-    requires { Legal (table_in shape rows.now) }
-    ensures { Works (side_in S.CASES shape rows.now) (side_in S.CASES shape rows.now).count result }
+fn side_rows<S: Side>(on: &Checked) -> [u64; 64]
+    ensures { Works (side_of S.CASES on.now.table.now) (side_of S.CASES on.now.table.now).count result }
 {
+    let table = on.table;
     if S::CASES {
-        return transpose::transposed(rows, shape.gauges as usize, shape.cases as usize);
+        return transpose::transposed(&table.rows, table.gauges as usize, table.cases as usize);
     }
-    *rows
+    table.rows
 }
 
-// The essential pairs of the table by the rows of the side, where the run omits; else any rows.
-fn wanted_rows<S: Side>(shape: Shape, rows: &[u64; 64]) -> [u64; 64]
-    requires { Legal (table_in shape rows.now) }
-    ensures { shape.omit ≡ true → Wants (table_in shape rows.now) (side_in S.CASES shape rows.now) result }
+// The essential pairs of the table by the rows of the side, where the run omits.
+fn wanted_where<S: Side>(on: &Checked) -> Option<[u64; 64]>
+    ensures { WantsWhere on.now.omit on.now.table.now (side_of S.CASES on.now.table.now) result }
 {
-    if !shape.omit {
-        return *rows;
+    if on.omit {
+        return Some(wanted_rows::<S>(on));
     }
-    let t = Table {
-        gauges: shape.gauges,
-        cases: shape.cases,
-        rows: *rows,
-    };
+    None
+}
+
+// The essential pairs of the table by the rows of the side.
+fn wanted_rows<S: Side>(on: &Checked) -> [u64; 64]
+    ensures { Wants on.now.table.now (side_of S.CASES on.now.table.now) result }
+{
+    let table = on.table;
     // the table is legal, so that nothing is refused
-    let found = essentials::essential_rows(t).unwrap().rows;
+    let found = essentials::essential_rows(*table).unwrap().rows;
     if S::CASES {
-        return transpose::transposed(&found, shape.gauges as usize, shape.cases as usize);
+        return transpose::transposed(&found, table.gauges as usize, table.cases as usize);
     }
     found
 }

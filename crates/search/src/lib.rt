@@ -25,6 +25,7 @@ pub fn is_candidate_of(rows: &[u64; 64], set: u64, left: u64, g: usize) -> bool
 }
 
 // The lowest candidate from place `from` on, of the places in the set; 64 where there is none.
+// A number for none: `FirstOf` of specs/Finding, by which the runs and growing go, says the answer as the end of a range.
 pub fn next_candidate_of(rows: &[u64; 64], set: u64, left: u64, from: usize) -> usize
     ensures { FirstOf (candidate_in (within set rows.now) left 64) from 64 result }
 {

@@ -49,7 +49,7 @@ pub fn count(a: u64) -> u32
     u64::count_ones(a)
 }
 
-// The lowest place of a set; 64 for the empty one.
+// The lowest place of a set; 64 for the empty one. A number and no `Option`, since the clause (`First`) says 64.
 pub fn first(a: u64) -> usize
     ensures { First a result }
 {

@@ -38,13 +38,13 @@ pub fn candidates<S: Side>(p: Run<S>) -> Result<Picks<S>, Refusal>
     Ok(Picks::new(picks))
 }
 
-// The part of `p` that has the candidate `pick` as a pick more: a value that run calls take, in the phase Down. They hand out its list.
-pub fn part<S: Side>(p: Run<S>, pick: S) -> Result<Run<S>, Refusal>
-    ensures part_at { PartAt (side_of S.CASES) (value_of S.number p) (S.number pick) (part_of S.number result) }
+// The part of `run` that has the candidate `pick` as a pick more: a value that run calls take, in the phase Down. They hand out its list.
+pub fn part<S: Side>(run: Run<S>, pick: S) -> Result<Run<S>, Refusal>
+    ensures part_at { PartAt (side_of S.CASES) (value_of S.number run) (S.number pick) (part_of S.number result) }
     ensures lists { ListsPart (side_of S.CASES) (part_of S.number result).value }
 {
-    p.check_down()?;
-    try_pick(p, pick.number())
+    run.check_down()?;
+    try_pick(run, pick.number())
 }
 
 // How many numbers the side has.
@@ -78,10 +78,7 @@ fn next_picks<S: Side>(p: Run<S>, n: usize, order: &[u8; 64]) -> [u8; 64]
 fn takes_pick<S: Side>(p: Run<S>, g: u8) -> bool
     ensures { TakesAt (side_of S.CASES) (value_of S.number p) g result }
 {
-    match try_pick(p, g as u64) {
-        Ok(_) => true,
-        Err(_) => false,
-    }
+    try_pick(p, g as u64).is_ok()
 }
 
 // The value with one pick more, where the checks let it pass.

@@ -1,5 +1,7 @@
 -- The checks 10 to 13 decide what they say: a table passes exactly when it is legal, a chain exactly when it is a set of pairs of its
 -- table; and the facts of a legal table that the other crates use. The code tests rows by their unions: `fit_by_unions`.
+--
+-- Pins, which nothing else cites: `no_rows_lem`.
 use mathlib.Core.Path.{◌≡◌, refl, sym, ap, ap₂, ◌∙◌, subst, subst₂}
 use mathlib.Core.Bool.{Bool, true, false, ◌&&◌, cond, and_assoc}
 use mathlib.Core.List.{List, [], ◌∷◌}
@@ -123,6 +125,13 @@ module _ (t : Table) where
 
   pub legal_cases : Legal t → Cases t.cases (table_rows t)
   legal_cases l = small_cases t.cases (table_rows t) (λ i. subst (λ (x : ℕ). x < 2 ^ t.cases) (sym (row-table_rows l i)) (l.rows_bits i))
+
+-- a table whose numbers are in range and whose rows do not fit is refused with 11
+module _ (t : Table) (a b f : Bool) (ea : a ≡ in_range 64 t.gauges) (ta : a ≡ true) (eb : b ≡ in_range 64 t.cases) (tb : b ≡ true)
+    (ef : f ≡ rows_fit t.gauges t.cases t.rows) where
+  pub no_rows_lem : f ≡ false → 11 ≡ table_refusal t
+  unfolding table_refusal
+  no_rows_lem e = rw (← ea, ta, ← eb, tb, ← ef, e)
 
 module _ (t : Table) (s : Chain) (w : Bool) (e : table_refusal t ≡ 0) (n : s.gauges ≡ t.gauges) (ew : w ≡ rows_within t.rows s.rows) where
   pub chain_passes : w ≡ true → 0 ≡ chain_refusal t s

@@ -12,7 +12,8 @@ ghost use Rattle.refusals.specs.Answers.{verdict};
 use refusals::Refusal;
 use sets;
 
-// A gauge's number, from 1. A gauge number never stands where a case number belongs (01): the two node classes of source 003.
+// A gauge's number, from 1. A gauge number never stands where a case number belongs (01): the two node classes of source 003. So gauges and
+// cases are two types of one shape; what holds of either side is written once, over `Side`.
 #[derive(Clone, Copy, Debug, PartialEq, Eq)]
 pub struct Gauge(pub u64);
 
@@ -49,7 +50,8 @@ impl Side for Gauge {
     }
 
     fn number(self) -> u64 {
-        self.0
+        let Gauge(n) = self;
+        n
     }
 }
 
@@ -65,11 +67,13 @@ impl Side for Case {
     }
 
     fn number(self) -> u64 {
-        self.0
+        let Case(n) = self;
+        n
     }
 }
 
-// A response table: its gauges, its cases, and a row of case bits for each gauge; rows past the last gauge are zero.
+// A response table: its gauges, its cases, and a row of case bits for each gauge; rows past the last gauge are zero. Its rows are no `Vec`:
+// a table and a chain each hold their 64 rows as one value (01), nothing here uses a heap, and C lends them as so many words.
 #[derive(Clone, Copy, Debug, PartialEq, Eq)]
 pub struct Table {
     pub gauges: u64,
@@ -77,7 +81,7 @@ pub struct Table {
     pub rows: [u64; 64],
 }
 
-// A set of pairs of a table, by gauge rows; its row count is the table's number of gauges.
+// A set of pairs of a table, by gauge rows; its row count is the table's number of gauges. It holds 64 rows for the same reason as a table.
 #[derive(Clone, Copy, Debug, PartialEq, Eq)]
 pub struct Chain {
     pub gauges: u64,
@@ -188,7 +192,8 @@ pub fn in_range(n: u64, most: u64) -> bool
     (1..=most).contains(&n)
 }
 
-// Whether two arrays have the same rows. Of 64 rows each they are then the same (`rows_same` in proofs/Agreement.antt).
+// Whether two arrays have the same rows. Of 64 rows each they are then the same (`rows_same` in proofs/Agreement.antt). The comparison is
+// the derived one; the function stays, since it is public and its clause says what a caller may rest on.
 pub fn same_rows(a: &[u64; 64], b: &[u64; 64]) -> bool
     ensures { (result ≡ true) ↔ ((i : ℕ) → i < 64 → row_of a.now i ≡ row_of b.now i) }
 {

@@ -11,6 +11,7 @@ const ROOM: usize = 65537;
 const COMMENT_LINE: u64 = 1025;
 
 // A file as it is made. A byte that has no room is dropped.
+// An array with its length: the longest file is known, and the tests need no heap.
 #[derive(Drop)]
 pub struct File {
     space: [u8; ROOM],

@@ -21,6 +21,7 @@ pub enum Outcome {
     End,
 }
 
+// A step of either side. Its outcome stands beside the next run, which each outcome has: no value is blank.
 #[derive(Clone, Copy)]
 pub struct Step {
     pub outcome: Outcome,

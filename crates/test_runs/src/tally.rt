@@ -36,6 +36,7 @@ impl Tally {
     }
 
     // One comparison of two numbers.
+    // No `==` stands for it: it counts the comparison, and a difference.
     pub fn same(&mut self, want: u64, got: u64) {
         if want == got {
             return;

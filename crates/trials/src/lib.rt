@@ -61,6 +61,7 @@ pub fn commit(p: Proposal, t: Table) -> Result<Table, Refusal>
 }
 
 // Whether two proposals are the same, whole: the table, the chain, the place and the effect.
+// One derived comparison; it stays, since it is public and its clause and edits say that nothing is left out.
 pub fn same_proposal(p: Proposal, q: Proposal) -> bool
     ensures { (result ≡ true) ↔ (p ≡ q) }
 {

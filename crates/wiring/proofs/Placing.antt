@@ -1,6 +1,6 @@
 -- The pair that comes next, as the code finds it in 64 rows: the tests look at the first n rows alone, so they are the same of these (`same_takes`). The
 -- first row that can take a case is one of them (`row_in`), and with the lowest case that it can take it is the pair that comes next
--- (`next_place`).
+-- (`next_place`): there are such a row and such a case (`row_some`, `case_some`).
 use mathlib.Core.Path.{◌≡◌, refl, sym, ap, ap₂, ◌∙◌}
 use mathlib.Core.Bool.{Bool, ◌&&◌, not}
 use mathlib.Core.List.{List}
@@ -8,13 +8,15 @@ use Prim.Native.Nat.{ℕ, zero, suc, ◌<◌}
 use native.Mathlib.Omega.{arith}
 use lib.ListN.{length, take}
 use lib.Seq.{get_or-take, length-take-le}
+use Rattle.std.specs.Prelude.{Option, Some, None}
+use Rattle.std.specs.Option.{IsSome}
 use Rattle.sets.specs.Sets.{bit}
 use Rattle.sets.specs.Lists.{all_below}
 use Rattle.table.specs.Pairs.{row}
 use Rattle.search.specs.Finding.{FirstOf}
 use Rattle.pair_orders.specs.private.Growing.{spares, allowed, Room, beyond, takes, FirstRow}
 use Rattle.pair_orders.proofs.NextPair.{row_found, case-found, next-pair}
-use Rattle.wiring.specs.private.Steps.{Between, NextPlace}
+use Rattle.wiring.specs.private.Steps.{Between, NextPlace, place_or}
 use Rattle.wiring.proofs.Rows.{room_takes}
 
 -- tests that agree below n
@@ -70,3 +72,11 @@ module _ (x s : List ℕ) (n : ℕ) (b : Between x s n) where
           found = λ l. ((g.found l).0, same k ∙ (g.found l).1);
           none = g.none;
         }
+
+    pub case_some : ¬ (take n s ≡ take n x) → (wide : ℕ) → Room s (row x i) i n wide → (r : Option ℕ) → FirstOf (beyond wide (row s i)) 0 64 (place_or 64 r) → IsSome r
+    case_some d wide room (Some k) g = refl
+    case_some d wide room None g = absurd (omega (arith, (next_place d wide room 64 g).case))
+
+  pub row_some : ¬ (take n s ≡ take n x) → (r : Option ℕ) → FirstRow x s n (place_or n r) → IsSome r
+  row_some d (Some i) f = refl
+  row_some d None f = absurd (omega (arith, row_in n f d))

@@ -4,7 +4,7 @@
 // most 65 * 64 steps on sets of cases: for each gauge, what the other rows leave to it.
 #![tactic(auto)]
 
-ghost use Rattle.std.specs.Prelude.{◌≡◌, [], ◌∷◌, ◌+◌, ◌≤◌, ◌<◌, length, take};
+ghost use Rattle.std.specs.Prelude.{◌≡◌, [], ◌∷◌, ◌+◌, ◌*◌, ◌≤◌, ◌<◌, length, take};
 ghost use Rattle.std.specs.Int.Count.{ones};
 ghost use Rattle.std.proofs.lemmas.List.Edits.{sets as stored};
 ghost use Rattle.table.specs.Tables.{chain_refusal};
@@ -13,7 +13,7 @@ ghost use Rattle.search.specs.Finding.{FirstOf};
 ghost use Rattle.pair_orders.specs.Adding.{OrderClaims};
 ghost use Rattle.pair_orders.specs.private.Growing.{beyond as beyond_own, FirstRow, pairs_in};
 ghost use Rattle.wiring.specs.Wiring.{ordered, Wires};
-ghost use Rattle.wiring.specs.private.Steps.{Checked, LadderChecked, includes, Waiting, NextPlace, Ready, StoresOrder};
+ghost use Rattle.wiring.specs.private.Steps.{Checked, LadderChecked, includes, place_or, Waiting, NextPlace, Ready, StoresOrder};
 
 use judge;
 use refusals::Refusal;
@@ -44,7 +44,7 @@ pub fn write_order(t: Table, s: Chain, ladder: Chain, out: &mut [u8]) -> Result<
     if out.len() < size {
         return Err(Refusal::BufferTooShort);
     }
-    put_order(out, &goal, rows, n, size);
+    put_order(out, &goal, rows, n, count);
     Ok(count)
 }
 
@@ -78,6 +78,8 @@ fn check_ladder(t: Table, s: Chain, ladder: Chain) -> Result<(), Refusal>
 }
 
 // Each of the first `n` rows is within that of `outer`.
+// `n ≤ 64` stays a clause of three: `judge::widest`, which `next_row` calls, is public and takes an array of 64 rows with their number, so that slices here
+// would be no plainer: each would be made beside the arrays.
 fn contains(outer: &[u64; 64], rows: &[u64; 64], n: usize) -> bool
     requires { n ≤ 64 }
     ensures { result ≡ includes outer.now rows.now n }
@@ -109,21 +111,18 @@ fn case_count(row: u64) -> usize
     sets::count(row) as usize
 }
 
-// Writes the order from `chain` to `outer`, which takes `size` bytes.
-fn put_order(out: &mut [u8], outer: &[u64; 64], chain: [u64; 64], n: usize, size: usize)
-    requires { Ready outer.now chain n size out.old }
+// Writes the order from `chain` to `outer`, which has `count` pairs.
+fn put_order(out: &mut [u8], outer: &[u64; 64], chain: [u64; 64], n: usize, count: usize)
+    requires { Ready outer.now chain n (2 * count) out.old }
     ensures { StoresOrder (take n outer.now) (take n chain) out.old out.new }
 {
     let mut rows = chain;
-    let mut at = 0;
-    // `at` goes on by two bytes: `step_by(2)` says no more, and wants a measure too.
-    while at < size {
+    for turn in 0..count {
         let next = next_pair(outer, &rows, n);
         let i = next.row;
         let k = next.bit;
         rows[i] = sets::with(rows[i], k);
-        put_pair(out, at, Gauge(i as u64 + 1), Case(k + 1));
-        at += 2;
+        put_pair(out, 2 * turn, Gauge(i as u64 + 1), Case(k + 1));
     }
 }
 
@@ -141,36 +140,37 @@ fn next_pair(outer: &[u64; 64], rows: &[u64; 64], n: usize) -> Place
     requires { Waiting outer.now rows.now n }
     ensures { NextPlace outer.now rows.now n result.row result.bit }
 {
-    let i = next_row(outer, rows, n);
+    // a pair is missing, so that there is such a row, and a case for it
+    let i = next_row(outer, rows, n).unwrap();
     let free = judge::widest(rows, outer[i], i, n);
-    let k = lowest_beyond(free, rows[i]);
+    let k = lowest_beyond(free, rows[i]).unwrap();
     Place { row: i, bit: k }
 }
 
-// The first of the first `n` rows that can take a case; `n` where none can.
-fn next_row(outer: &[u64; 64], rows: &[u64; 64], n: usize) -> usize
+// The first of the first `n` rows that can take a case.
+fn next_row(outer: &[u64; 64], rows: &[u64; 64], n: usize) -> Option<usize>
     requires { n ≤ 64 }
-    ensures { FirstRow outer.now rows.now n result }
+    ensures { FirstRow outer.now rows.now n (place_or n result) }
 {
     for i in 0..n {
         let wide = judge::widest(rows, outer[i], i, n);
         if !sets::subset(wide, rows[i]) {
-            return i;
+            return Some(i);
         }
     }
-    n
+    None
 }
 
-// The lowest place of `wide` that is not in `own`; 64 where there is none.
-fn lowest_beyond(wide: u64, own: u64) -> u64
-    ensures { FirstOf (beyond_own wide own) 0 64 result }
+// The lowest place of `wide` that is not in `own`.
+fn lowest_beyond(wide: u64, own: u64) -> Option<u64>
+    ensures { FirstOf (beyond_own wide own) 0 64 (place_or 64 result) }
 {
     for k in 0..PLACES {
         if beyond(wide, own, k) {
-            return k;
+            return Some(k);
         }
     }
-    PLACES
+    None
 }
 
 // Whether place `k` is in `wide` and not in `own`.

@@ -1,5 +1,5 @@
-// Words of lent slices: tables, chains, rows and numbers read from them and put into them at fixed places, and the number of a verdict. All entries of the
-// C library read and put by these. Every function takes every slice: a place behind the last word reads as 0, and putting there changes nothing, so none
+// Words of lent slices: tables, chains, rows and numbers read from them and put into them at fixed places, and the number of a check's answer. All entries of
+// the C library read and put by these. Every function takes every slice: a place behind the last word reads as 0, and putting there changes nothing, so none
 // has a `requires`. The layouts are in specs/Layouts.antt, what an entry as a whole gives in specs/Serving.antt.
 #![tactic(auto)]
 
@@ -27,7 +27,7 @@ const ROWS: usize = Table::MOST_GAUGES as usize;
 // The greatest number that a byte holds; no gauge and no case has it.
 const NO_NUMBER: u64 = 255;
 
-// The number of a verdict: that of its refusal, or 0.
+// The number of a check's answer: that of its refusal, or 0.
 pub fn verdict_number(v: Result<(), Refusal>) -> u64
     ensures { result ≡ verdict v }
 {

@@ -1,6 +1,6 @@
 -- `blocks::list_some` meets its contract: what the batch gives, and the files of its ladders, are a turn
--- (OneTurn.antt), one for each way to stop.
-use mathlib.Core.Path.{◌≡◌, refl, sym, ap, ◌∙◌, subst}
+-- (OneTurn.antt), and a refusal is one.
+use mathlib.Core.Path.{◌≡◌, refl, sym, ◌∙◌, subst}
 use mathlib.Core.List.{List}
 use Prim.Native.Nat.{ℕ, ◌-◌, ◌≤◌}
 use native.Mathlib.Omega.{arith}
@@ -11,20 +11,18 @@ use Rattle.std.proofs.Common.{Ok, Err}
 use Rattle.runs.specs.Paused.{Value, gauge_value}
 use Rattle.runs.specs.Batches.{batch_of, closing}
 use Rattle.table.specs.declared.Gauge.{Gauge}
-use Rattle.runs.specs.declared.batches.Close.{Close}
 use Rattle.runs.proofs.Demands.{Starts}
 use Rattle.runs.proofs.Starting.{gauge_started}
 use Rattle.lists.specs.Lists.{gauge_side}
 use Rattle.blocks.specs.declared.Turn.{Turn}
-use Rattle.blocks.specs.private.Turning.{Turned}
-use Rattle.blocks.proofs.Batching.{stopped, ended}
+use Rattle.blocks.specs.private.Turning.{Turned, stopped, ended}
 use Rattle.blocks.proofs.OneTurn.{ladders_there, turned_batch, turned_refused}
 use Rattle.blocks.proofs.list_some.Goals as goal
 
 said : (v : Value) (before : List ℕ) (at : ℕ) (now : List ℕ) (r x : Turn) → r ≡ x
-    → Turned v before at (gauge_value x.run) x.next x.stop x.over now → Turned v before at (gauge_value r.run) r.next r.stop r.over now
+    → Turned v before at (gauge_value x.run) x.next (stopped (closing x.close)) (ended (closing x.close)) now → Turned v before at (gauge_value r.run) r.next (stopped (closing r.close)) (ended (closing r.close)) now
 said v before at now r x e h =
-    subst (λ (y : Turn). Turned v before at (gauge_value y.run) y.next y.stop y.over now) (sym e) h
+    subst (λ (y : Turn). Turned v before at (gauge_value y.run) y.next (stopped (closing y.close)) (ended (closing y.close)) now) (sym e) h
 
 pub put_ladders-place-requires : goal.put_ladders-place-requires
 put_ladders-place-requires c =
@@ -41,8 +39,8 @@ put_ladders-place-requires c =
     (batch_of (λ x. x.0) (Ok c.in-Ok.batch)) _ (rw c.in-Ok.is at c.list.ensures.batched) _ in
     (low, there.0, there.1)
 
-pub returns-in-Full : goal.returns-in-Full
-returns-in-Full c =
+pub returns-in-Ok : goal.returns-in-Ok
+returns-in-Ok c =
     let rows-length : length c.args.run.table.rows ≡ 64 = search rules in
     let order-length : length c.args.run.order.numbers ≡ 64 = search rules in
     let started : Starts gauge_side (gauge_value c.args.run) = gauge_started c.args.run.table rows-length c.args.run.order.numbers order-length in
@@ -50,47 +48,10 @@ returns-in-Full c =
     let m : ℕ = c.lend-many.result in
     let e : m - 0 ≡ m = omega arith in
     length-take-le (m - 0) c.args.words.now (omega (arith, c.lend-many.ensures.few, c.requires.0)) ∙ e in
-    let turn : (o : Close) → c.in-Ok.batch.close ≡ o → Turned (gauge_value c.args.run) c.args.out.now c.args.at (gauge_value c.in-Ok.batch.next)
-    c.put_ladders-place.result (stopped (closing o)) (ended (closing o)) c.put_ladders-place.new.out =
-    λ o e. turned_batch (gauge_value c.args.run) rows-length started c.args.out.now c.args.at c.requires.1 _ c.lend-many.ensures
+    said _ _ _ _ _ _ c.turned.ensures
+    (turned_batch (gauge_value c.args.run) rows-length started c.args.out.now c.args.at c.requires.1 _ c.lend-many.ensures
     (take (c.lend-many.result - 0) (drop 0 c.args.words.now)) long
-    (batch_of (λ x. x.0) (Ok c.in-Ok.batch)) _ (rw c.in-Ok.is at c.list.ensures.batched) _ _ _ c.put_ladders-place.ensures _ refl _ _
-    (sym (ap (λ (x : Close). stopped (closing x)) e)) (sym (ap (λ (x : Close). ended (closing x)) e)) in
-    said _ _ _ _ _ _ c.turned.ensures (turn _ c.in-Full.is)
-
-pub returns-in-Spent : goal.returns-in-Spent
-returns-in-Spent c =
-    let rows-length : length c.args.run.table.rows ≡ 64 = search rules in
-    let order-length : length c.args.run.order.numbers ≡ 64 = search rules in
-    let started : Starts gauge_side (gauge_value c.args.run) = gauge_started c.args.run.table rows-length c.args.run.order.numbers order-length in
-    let long : length (take (c.lend-many.result - 0) (drop 0 c.args.words.now)) ≡ c.lend-many.result =
-    let m : ℕ = c.lend-many.result in
-    let e : m - 0 ≡ m = omega arith in
-    length-take-le (m - 0) c.args.words.now (omega (arith, c.lend-many.ensures.few, c.requires.0)) ∙ e in
-    let turn : (o : Close) → c.in-Ok.batch.close ≡ o → Turned (gauge_value c.args.run) c.args.out.now c.args.at (gauge_value c.in-Ok.batch.next)
-    c.put_ladders-place.result (stopped (closing o)) (ended (closing o)) c.put_ladders-place.new.out =
-    λ o e. turned_batch (gauge_value c.args.run) rows-length started c.args.out.now c.args.at c.requires.1 _ c.lend-many.ensures
-    (take (c.lend-many.result - 0) (drop 0 c.args.words.now)) long
-    (batch_of (λ x. x.0) (Ok c.in-Ok.batch)) _ (rw c.in-Ok.is at c.list.ensures.batched) _ _ _ c.put_ladders-place.ensures _ refl _ _
-    (sym (ap (λ (x : Close). stopped (closing x)) e)) (sym (ap (λ (x : Close). ended (closing x)) e)) in
-    said _ _ _ _ _ _ c.turned-in-Spent.ensures (turn _ c.in-Spent.is)
-
-pub returns-in-End : goal.returns-in-End
-returns-in-End c =
-    let rows-length : length c.args.run.table.rows ≡ 64 = search rules in
-    let order-length : length c.args.run.order.numbers ≡ 64 = search rules in
-    let started : Starts gauge_side (gauge_value c.args.run) = gauge_started c.args.run.table rows-length c.args.run.order.numbers order-length in
-    let long : length (take (c.lend-many.result - 0) (drop 0 c.args.words.now)) ≡ c.lend-many.result =
-    let m : ℕ = c.lend-many.result in
-    let e : m - 0 ≡ m = omega arith in
-    length-take-le (m - 0) c.args.words.now (omega (arith, c.lend-many.ensures.few, c.requires.0)) ∙ e in
-    let turn : (o : Close) → c.in-Ok.batch.close ≡ o → Turned (gauge_value c.args.run) c.args.out.now c.args.at (gauge_value c.in-Ok.batch.next)
-    c.put_ladders-place.result (stopped (closing o)) (ended (closing o)) c.put_ladders-place.new.out =
-    λ o e. turned_batch (gauge_value c.args.run) rows-length started c.args.out.now c.args.at c.requires.1 _ c.lend-many.ensures
-    (take (c.lend-many.result - 0) (drop 0 c.args.words.now)) long
-    (batch_of (λ x. x.0) (Ok c.in-Ok.batch)) _ (rw c.in-Ok.is at c.list.ensures.batched) _ _ _ c.put_ladders-place.ensures _ refl _ _
-    (sym (ap (λ (x : Close). stopped (closing x)) e)) (sym (ap (λ (x : Close). ended (closing x)) e)) in
-    said _ _ _ _ _ _ c.turned-in-End.ensures (turn _ c.in-End.is)
+    (batch_of (λ x. x.0) (Ok c.in-Ok.batch)) _ (rw c.in-Ok.is at c.list.ensures.batched) _ _ _ c.put_ladders-place.ensures _ refl _ _ refl refl)
 
 pub returns-in-Err : goal.returns-in-Err
 returns-in-Err c =

@@ -8,6 +8,7 @@ use Rattle.rules.specs.Sequences.{All}
 use Rattle.lists.specs.Lists.{gauge_side}
 use Rattle.runs.specs.Paused.{Value, paused}
 use Rattle.runs.specs.Calling.{value_refusal, PausedAt}
+use Rattle.runs.specs.Batches.{Ending, denied, full, used, over}
 use Rattle.file_writer.specs.Writing.{write_file}
 use Rattle.blocks.specs.Filling.{pair_table, files, longest, calls, after, text, is_end, is_none, has, Stops, Filling, Fills}
 
@@ -69,6 +70,19 @@ pub record Added (t : Table) (order : List ℕ) (omit : Bool) (s : State) (befor
   pub stops : stop ≡ has is_none (calls t order omit many s)
   pub ends : over ≡ has is_end (calls t order omit many s)
   pub some : stop ≡ false → at < next
+
+-- how a batch that stopped so says that a call handed nothing out, and that one answered end
+abbrev pub stopped : Ending → Bool
+stopped (denied n) = true
+stopped full = false
+stopped used = true
+stopped over = true
+
+abbrev pub ended : Ending → Bool
+ended (denied n) = true
+ended full = false
+ended used = false
+ended over = true
 
 -- one turn
 pub record Turned (v : Value) (before : List ℕ) (at : ℕ) (w : Value) (next : ℕ) (stop over : Bool) (now : List ℕ) : Type 0 where

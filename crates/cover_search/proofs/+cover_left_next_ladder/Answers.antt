@@ -29,25 +29,25 @@ next_ladder-returns-then-not-has t c =
 -- nothing is left of the budget
 pub next_ladder-returns-then-budget-eq0 : goal.next_ladder-returns-then-budget-eq0
 next_ladder-returns-then-budget-eq0 t c =
-    none_left c.args.ladders.now c.args.i c.args.first c.args.left c.args.k c.args.at c.args.budget c.args.cover.now c.if-ladders-i.false _ c.has.ensures
+    none_left c.args.ladders.now c.args.i c.args.step.first c.args.step.left c.args.step.k c.args.step.at c.args.budget c.args.cover.now c.if-ladders-i.false _ c.has.ensures
     (ap not c.if-not-has.false) (omega (arith, c.type_inv.ladders c.args.i)) c.if-budget-eq0.true
 
 -- what the search under the ladder found
 pub next_ladder-returns-in-Cover : goal.next_ladder-returns-in-Cover
 unfolding minus meet
 next_ladder-returns-in-Cover t c =
-    ladder-covers c.args.ladders.now c.args.i c.args.first c.args.left c.args.k c.args.at c.args.budget c.args.cover.now c.if-ladders-i.false _ c.has.ensures
+    ladder-covers c.args.ladders.now c.args.i c.args.step.first c.args.step.left c.args.step.k c.args.step.at c.args.budget c.args.cover.now c.if-ladders-i.false _ c.has.ensures
     (ap not c.if-not-has.false) (omega (arith, c.type_inv.ladders c.args.i)) c.if-budget-eq0.false _ _ c.cover_left-below.ensures _ _ c.in-Cover.is
 
 pub next_ladder-returns-in-Nothing : goal.next_ladder-returns-in-Nothing
 unfolding minus meet
 next_ladder-returns-in-Nothing t c =
-    ladder-nothing c.args.ladders.now c.args.i c.args.first c.args.left c.args.k c.args.at c.args.budget c.args.cover.now c.if-ladders-i.false _ c.has.ensures
+    ladder-nothing c.args.ladders.now c.args.i c.args.step.first c.args.step.left c.args.step.k c.args.step.at c.args.budget c.args.cover.now c.if-ladders-i.false _ c.has.ensures
     (ap not c.if-not-has.false) (omega (arith, c.type_inv.ladders c.args.i)) c.if-budget-eq0.false _ _ c.cover_left-below.ensures _ c.in-Nothing.is _ _
     c.next_ladder-in-Nothing.ensures
 
 pub next_ladder-returns-in-Spent : goal.next_ladder-returns-in-Spent
 unfolding minus meet
 next_ladder-returns-in-Spent t c =
-    ladder-spent c.args.ladders.now c.args.i c.args.first c.args.left c.args.k c.args.at c.args.budget c.args.cover.now c.if-ladders-i.false _ c.has.ensures
+    ladder-spent c.args.ladders.now c.args.i c.args.step.first c.args.step.left c.args.step.k c.args.step.at c.args.budget c.args.cover.now c.if-ladders-i.false _ c.has.ensures
     (ap not c.if-not-has.false) (omega (arith, c.type_inv.ladders c.args.i)) c.if-budget-eq0.false _ _ c.cover_left-below.ensures c.in-Spent.is

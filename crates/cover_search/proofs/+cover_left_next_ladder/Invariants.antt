@@ -7,4 +7,4 @@ abbrev pub decreases-cover_left : goal.decreases-cover_left
 decreases-cover_left l = l.k * (length l.ladders.now + 2)
 
 abbrev pub decreases-next_ladder : goal.decreases-next_ladder
-decreases-next_ladder l = l.k * (length l.ladders.now + 2) + (length l.ladders.now - l.i + 1)
+decreases-next_ladder l = l.step.k * (length l.ladders.now + 2) + (length l.ladders.now - l.i + 1)

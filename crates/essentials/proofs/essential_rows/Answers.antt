@@ -8,22 +8,20 @@ use Rattle.table.proofs.Legality.{legal_of}
 use Rattle.essentials.proofs.Outdoing.{finding_none, finding_more, finding_all, ready}
 use Rattle.essentials.proofs.essential_rows.Goals as goal
 
-pub unions-store-requires : goal.unions-store-requires
-unions-store-requires c =
+pub invariant_of-table : goal.invariant_of-table
+invariant_of-table c =
     let rows-length : length c.args.t.rows ≡ 64 = search rules in
     let legal : Legal c.args.t = legal_of _ rows-length (sym c.in_ok-check_table.ensures) in
-    legal.gauges_high
+    record { few = legal.gauges_high }
+
+pub invariant_of-pairs : goal.invariant_of-pairs
+invariant_of-pairs c =
+    let rows-length : length c.args.t.rows ≡ 64 = search rules in
+    let legal : Legal c.args.t = legal_of _ rows-length (sym c.in_ok-check_table.ensures) in
+    record { ready = ready _ legal _ c.unions-store.ensures }
 
 pub loop-i-init : goal.loop-i-init
 loop-i-init c = finding_none _ _
-
-pub essential_row-requires : goal.essential_row-requires
-essential_row-requires c =
-    let rows-length : length c.args.t.rows ≡ 64 = search rules in
-    let legal : Legal c.args.t = legal_of _ rows-length (sym c.in_ok-check_table.ensures) in (
-      ready _ legal _ c.unions-store.ensures,
-      omega arith,
-    )
 
 pub offset_bounds-found-i : goal.offset_bounds-found-i
 offset_bounds-found-i c =

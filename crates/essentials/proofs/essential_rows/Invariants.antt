@@ -3,4 +3,4 @@ use Rattle.essentials.proofs.Outdoing.{Finding}
 use Rattle.essentials.proofs.essential_rows.Given as goal
 
 abbrev pub invariant-loop-i : goal.invariant-loop-i
-invariant-loop-i l = Finding l.rows l.n l.found l.i
+invariant-loop-i l = Finding l.fn.t.rows l.n l.found l.i

@@ -10,11 +10,18 @@ use Rattle.essentials.proofs.is_essential.Goals as goal
 pub returns-in_err-check_pair-clause-claims : goal.returns-in_err-check_pair-clause-claims
 returns-in_err-check_pair-clause-claims c = λ e. conflict_claims _
 
-pub unions-store-requires : goal.unions-store-requires
-unions-store-requires c =
+pub invariant_of-table : goal.invariant_of-table
+invariant_of-table c =
     let rows-length : length c.args.t.rows ≡ 64 = search rules in
     let facts : PairFacts c.args.t c.args.g.0 c.args.c.0 rows-length = pair_facts _ _ _ _ (sym c.in_ok-check_pair.ensures) in
-    facts.legal.gauges_high
+    record { few = facts.legal.gauges_high }
+
+pub invariant_of-pairs : goal.invariant_of-pairs
+invariant_of-pairs c =
+    let rows-length : length c.args.t.rows ≡ 64 = search rules in
+    let facts : PairFacts c.args.t c.args.g.0 c.args.c.0 rows-length = pair_facts _ _ _ _ (sym c.in_ok-check_pair.ensures) in
+    let f = facts in
+    record { ready = ready _ f.legal _ c.unions-store.ensures }
 
 pub overflow_sub-i : goal.overflow_sub-i
 overflow_sub-i c =
@@ -32,8 +39,7 @@ pub outdone-requires : goal.outdone-requires
 outdone-requires c =
     let rows-length : length c.args.t.rows ≡ 64 = search rules in
     let facts : PairFacts c.args.t c.args.g.0 c.args.c.0 rows-length = pair_facts _ _ _ _ (sym c.in_ok-check_pair.ensures) in
-    let f = facts in
-    (ready _ f.legal _ c.unions-store.ensures, placed _ _ _ _ f)
+    placed _ _ _ _ facts
 
 pub returns : goal.returns
 returns c =

@@ -1,5 +1,5 @@
 -- `extend::extend_chain` meets its contract: each answer is that of the check or of the judgement that led to it.
-use Rattle.std.proofs.Common.{◌≡◌, ◌∙◌, ap, refl, sym, rules, Ok, Err, true, false}
+use Rattle.std.proofs.Common.{◌≡◌, ◌∙◌, ap, refl, sym, rules, Ok, Err, true}
 use Rattle.refusals.proofs.Answering.{verdict_refused}
 use Rattle.extend.proofs.Answers.{extends_first, judged_passes, judged_chain, extends_refused, extends_no_chain, extends_grown}
 use Rattle.extend.proofs.extend_chain.Goals as goal

@@ -1,16 +1,11 @@
 -- `file_reader::comment_at` meets its contract: the answer of the reader of either kind comes first, and the search starts behind the first line.
 use mathlib.Core.Path.{◌≡◌, ap, ◌∙◌}
 use borrow.Author.Rules.{rules}
-use native.Mathlib.Omega.{arith}
 use Rattle.std.specs.Prelude.{Err}
-use Rattle.file_text.proofs.LineAt.{inside}
 use Rattle.file_reader.specs.Comments.{found}
 use Rattle.file_reader.proofs.Lookup.{find_start, lookup_refused, lookup_found}
 use Rattle.file_reader.proofs.Promising.{comment_of_file}
 use Rattle.file_reader.proofs.comment_at.Goals as goal
-
-pub find_comment-requires : goal.find_comment-requires
-find_comment-requires c = omega (arith, inside c.args.file.now 0 _ c.line_at-span.ensures (omega arith))
 
 pub returns-in_err-read_recorded : goal.returns-in_err-read_recorded
 returns-in_err-read_recorded c =

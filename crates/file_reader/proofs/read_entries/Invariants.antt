@@ -11,9 +11,9 @@ use Rattle.table.specs.Tables.{no_rows}
 use Rattle.file_reader.proofs.read_entries.Given as goal
 
 abbrev pub invariant-loop-at : goal.invariant-loop-at
-invariant-loop-at l = (l.at ≤ length l.file)
-    × (read_entries l.kind l.gauges l.cases l.left l.rows l.values (lines (drop l.at l.file)) ≡ read_entries l.kind l.gauges l.cases l.count no_rows no_readings (lines (drop l.from l.file)))
-    × (stop_entries l.kind l.gauges l.cases l.left l.rows l.line (lines (drop l.at l.file)) ≡ stop_entries l.kind l.gauges l.cases l.count no_rows l.number (lines (drop l.from l.file)))
+invariant-loop-at l =
+    (read_entries l.shape.kind l.shape.gauges l.shape.cases l.left l.rows l.values (lines (drop l.at l.file)) ≡ read_entries l.shape.kind l.shape.gauges l.shape.cases l.shape.count no_rows no_readings (lines (drop l.from l.file)))
+    × (stop_entries l.shape.kind l.shape.gauges l.shape.cases l.left l.rows l.line (lines (drop l.at l.file)) ≡ stop_entries l.shape.kind l.shape.gauges l.shape.cases l.shape.count no_rows l.number (lines (drop l.from l.file)))
     × (l.line ≤ l.at + 2)
 
 abbrev pub decreases-loop-at : goal.decreases-loop-at

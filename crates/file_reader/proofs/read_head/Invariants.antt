@@ -8,8 +8,8 @@ use Rattle.file_reader.specs.private.Stopping.{stop_head}
 use Rattle.file_reader.proofs.read_head.Given as goal
 
 abbrev pub invariant-loop-at : goal.invariant-loop-at
-invariant-loop-at l = (l.at ≤ length l.file)
-    × (read_head l.kind (lines (drop l.at l.file)) ≡ read_head l.kind (lines (drop l.from l.file)))
+invariant-loop-at l =
+    (read_head l.kind (lines (drop l.at l.file)) ≡ read_head l.kind (lines (drop l.from l.file)))
     × (stop_head l.kind l.line (lines (drop l.at l.file)) ≡ stop_head l.kind l.number (lines (drop l.from l.file)))
     × (l.line ≤ l.at + 2)
 

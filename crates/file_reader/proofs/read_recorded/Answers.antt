@@ -2,8 +2,8 @@
 -- `LineLoops`. In the answers `b` is where the first line was judged, `l` where it was found.
 use mathlib.Core.Path.{◌∙◌}
 use native.Mathlib.Omega.{arith}
-use Rattle.file_text.proofs.LineAt.{Inside, inside}
 use Rattle.file_reader.proofs.LineLoops.{file_long, file_other, file_head, long_line, other_line, head_from}
+use Rattle.file_text.proofs.LineAt.{Inside, inside}
 use Rattle.file_reader.proofs.read_recorded.Goals as goal
 
 pub returns-then-file-gt-MOST_FILE : goal.returns-then-file-gt-MOST_FILE
@@ -30,11 +30,6 @@ returns-in_default c =
           ∙ other_line c.args.integers c.args.file.now c.if-file-gt-MOST_FILE.false _ c.line_at-span.ensures _ c.first_line.ensures
           c.in_default.is;
     }
-
-pub read_head-requires : goal.read_head-requires
-read_head-requires c =
-    let bounds : Inside c.args.file.now 0 c.line_at-span.result.end c.line_at-span.result.next = inside c.args.file.now 0 c.line_at-span.result c.line_at-span.ensures (omega arith) in
-    (bounds.fits, omega arith, omega arith)
 
 pub returns : goal.returns
 returns c =

@@ -7,4 +7,4 @@ use Rattle.file_writer.proofs.Counting.{Counting}
 use Rattle.file_writer.proofs.all_totals.Given as goal
 
 abbrev pub invariant-loop-i : goal.invariant-loop-i
-invariant-loop-i l = (l.i ≤ l.gauges) × Counting (entry_text l.kind l.readings) (pairs_at (gauge_of l.gauges) l.rows 0) l.count l.size (pairs_at (gauge_of l.gauges) l.rows l.i)
+invariant-loop-i l = (l.i ≤ l.gauges) × Counting (entry_text l.entries.kind l.entries.readings.now) (pairs_at (gauge_of l.gauges) l.rows 0) l.count l.size (pairs_at (gauge_of l.gauges) l.rows l.i)

@@ -12,6 +12,6 @@ use Rattle.file_writer.proofs.put_entry.Goals as goal
 
 pub returns-in-Integer : goal.returns-in-Integer
 returns-in-Integer c =
-    let value : to_z w32 (of_z w32 c.reading_at.result) ≡ value_at c.args.readings.now (pair_at c.args.g c.args.c) = to_z-of_z {w = mir.Syntax.w32} (sfits_of c.reading_at.type_inv) ∙ c.reading_at.ensures in
-    rw (integer_line _ c.args.readings.now c.args.g c.args.c c.in-Integer.is, ← value)
+    let value : to_z w32 (of_z w32 c.reading_at.result) ≡ value_at c.args.entries.now.readings.now (pair_at c.args.g c.args.c) = to_z-of_z {w = mir.Syntax.w32} (sfits_of c.reading_at.type_inv) ∙ c.reading_at.ensures in
+    rw (integer_line _ c.args.entries.now.readings.now c.args.g c.args.c c.in-Integer.is, ← value)
     (wrote_both c.put_pair-p.ensures c.put_reading.ensures)

@@ -5,8 +5,7 @@ use Rattle.file_writer.specs.TestFiles.{entry_text}
 use Rattle.file_writer.proofs.Stores.{Writing}
 use Rattle.file_writer.proofs.put_row.Given as goal
 
-abbrev pub invariant-loop-left : goal.invariant-loop-left
-invariant-loop-left l = Writing l.initial.out l.at (lines_of (entry_text l.kind l.readings) (row_pairs l.g 64 1 l.row)) l.out l.p (lines_of (entry_text l.kind l.readings) (row_pairs l.g 64 1 l.left))
-
-abbrev pub decreases-loop-left : goal.decreases-loop-left
-decreases-loop-left l = l.left
+abbrev pub invariant-loop-k : goal.invariant-loop-k
+invariant-loop-k l =
+    Writing l.initial.out l.at (lines_of (entry_text l.entries.kind l.entries.readings.now) (row_pairs l.g 64 1 l.row)) l.out l.p
+    (lines_of (entry_text l.entries.kind l.entries.readings.now) (row_pairs l.g 64 1 (l.k-iterator).0))

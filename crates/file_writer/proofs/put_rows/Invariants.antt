@@ -6,4 +6,4 @@ use Rattle.file_writer.proofs.Stores.{Writing}
 use Rattle.file_writer.proofs.put_rows.Given as goal
 
 abbrev pub invariant-loop-i : goal.invariant-loop-i
-invariant-loop-i l = (l.i ≤ l.most) × Writing l.initial.out l.at (rows_from l.kind l.readings (gauge_of l.most) l.rows 0) l.out l.p (rows_from l.kind l.readings (gauge_of l.most) l.rows l.i)
+invariant-loop-i l = (l.i ≤ l.most) × Writing l.initial.out l.at (rows_from l.entries.kind l.entries.readings.now (gauge_of l.most) l.rows 0) l.out l.p (rows_from l.entries.kind l.entries.readings.now (gauge_of l.most) l.rows l.i)

@@ -15,7 +15,10 @@ pub write_kind-requires : goal.write_kind-requires
 write_kind-requires c =
     let passes : table_refusal c.args.t ≡ 0 = sym c.in_ok-check_table.ensures in
     let rows-length : length c.args.t.rows ≡ 64 = search rules in
-    (legal_of _ rows-length passes, no_readings_lem _)
+    legal_of _ rows-length passes
+
+pub invariant_of-entries : goal.invariant_of-entries
+invariant_of-entries c = record { suits = no_readings_lem _ }
 
 pub returns : goal.returns
 returns c =

@@ -15,8 +15,14 @@ write_kind-requires c =
     let entries-length : length c.args.t.entries ≡ 64 = search rules in
     let readings-length : length c.args.t.readings ≡ 4096 = search rules in
     let legal : LegalTest c.args.t = test_legal c.args.t entries-length readings-length passes in
-    let t = c.args.t in
-    (legal.entries_legal, test_readings t legal)
+    legal.entries_legal
+
+pub invariant_of-entries : goal.invariant_of-entries
+invariant_of-entries c =
+    let passes : test_refusal c.args.t ≡ 0 = sym c.in_ok-check_test.ensures in
+    let entries-length : length c.args.t.entries ≡ 64 = search rules in
+    let readings-length : length c.args.t.readings ≡ 4096 = search rules in
+    record { suits = test_readings c.args.t (test_legal c.args.t entries-length readings-length passes) }
 
 pub returns : goal.returns
 returns c =

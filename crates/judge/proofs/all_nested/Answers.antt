@@ -1,19 +1,15 @@
--- `judge::all_nested` meets its contract: the test holds at each row passed.
-use native.Mathlib.Omega.{arith}
-use Rattle.sets.proofs.Tabulated.{all_none, all_more, all_fails, all_done}
-use Rattle.judge.specs.private.RowTests.{all_nested}
+-- `judge::all_nested` meets its contract: what the chain of calls tests is what the definition says.
+use mathlib.Core.Path.{◌∙◌}
+use borrow.Author.Rules.{rules}
+use borrow.Author.Tests.{tests}
+use Rattle.std.specs.List.{list_all}
+use Rattle.std.proofs.lemmas.Iterator.Search.{all_from_yields_List}
+use Rattle.std.proofs.lemmas.Iterator.{YieldsList-from_slice}
+use Rattle.judge.specs.private.RowTests.{nested}
+use Rattle.judge.proofs.RowLoops.{nested_list}
 use Rattle.judge.proofs.all_nested.Goals as goal
 
-pub loop-i-init : goal.loop-i-init
-loop-i-init c = all_none _
-
-pub returns-then-not-nested_with : goal.returns-then-not-nested_with
-unfolding all_nested
-returns-then-not-nested_with c = all_fails _ _ c.loop-i.i _ c.loop-i-test.true c.nested_with.ensures c.if-not-nested_with.true
-
-pub loop-i-preserved : goal.loop-i-preserved
-loop-i-preserved c = all_more _ _ _ c.loop-i.invariant c.nested_with.ensures c.if-not-nested_with.false
-
 pub returns : goal.returns
-unfolding all_nested
-returns c = all_done _ _ _ c.loop-i.invariant (omega arith)
+returns c =
+    all_from_yields_List (λ a. list_all (nested a) c.args.rows.now) _ _ c.all.result c.all.ensures.ran (YieldsList-from_slice c.args.rows.now cc) (λ x b q k. search (rules, tests))
+    ∙ nested_list _

@@ -1,20 +1,25 @@
 -- `judge::judge_chain` meets its contract: the check refuses by its number, and the test of nested rows decides a chain.
 use mathlib.Core.Path.{◌≡◌, sym}
-use Prim.Native.Nat.{◌≤◌}
-use native.Mathlib.Omega.{arith}
 use borrow.Author.Rules.{rules}
 use lib.ListN.{length}
+use Rattle.std.proofs.Common.{length-take-le}
 use Rattle.table.specs.Tables.{chain_refusal}
-use Rattle.judge.proofs.Verdicts.{few_gauges, chain_judged}
+use Rattle.judge.proofs.Verdicts.{few_rows, chain_judged}
 use Rattle.judge.proofs.judge_chain.Goals as goal
 
-pub all_nested-requires : goal.all_nested-requires
-all_nested-requires c =
+pub slice_bounds-pairs-end : goal.slice_bounds-pairs-end
+slice_bounds-pairs-end c =
     let passed : chain_refusal c.args.t c.args.s ≡ 0 = sym c.in_ok-check_chain.ensures in
     let table-size : length c.args.t.rows ≡ 64 = search rules in
     let chain-size : length c.args.s.rows ≡ 64 = search rules in
-    let few : c.args.t.gauges ≤ 64 = few_gauges c.args.t c.args.s passed table-size chain-size in
-    omega (arith, few)
+    few_rows _ _ passed table-size chain-size
+
+pub slice_bounds-all_nested-end : goal.slice_bounds-all_nested-end
+slice_bounds-all_nested-end c =
+    let passed : chain_refusal c.args.t c.args.s ≡ 0 = sym c.in_ok-check_chain.ensures in
+    let table-size : length c.args.t.rows ≡ 64 = search rules in
+    let chain-size : length c.args.s.rows ≡ 64 = search rules in
+    sym (length-take-le _ _ (few_rows _ _ passed table-size chain-size))
 
 pub returns : goal.returns
 returns c =

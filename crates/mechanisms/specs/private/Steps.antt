@@ -1,6 +1,6 @@
 -- What the private steps promise: the ladders by the gauge run in plain order (02, R-12: "R-7 stays in plain order"), one call at a time, and the search
 -- on their boards.
-use Rattle.std.specs.Prelude.{◌≡◌, Bool, true, false, List, ◌++◌, map, ℕ, ◌-◌, ◌≤◌, ◌<◌, length, take, replicate}
+use Rattle.std.specs.Prelude.{◌≡◌, false, List, ◌++◌, map, ℕ, ◌-◌, ◌≤◌, ◌<◌, length, take, replicate}
 use Rattle.table.specs.declared.Table.{Table}
 use Rattle.table.specs.Tables.{Legal, padded, blank_chain}
 use Rattle.rules.specs.Machine.{State}
@@ -19,16 +19,22 @@ pub record SmallTable (t : Table) : Type 0 where
   pub gauges : t.gauges ≤ 8
   pub cases : t.cases ≤ 8
 
--- the call c of the run on t in plain order: it ended, or it handed a ladder out, b is its board, and w the value after it
-pub record Handed (t : Table) (c : Call) (over : Bool) (b : ℕ) (w : Value) : Type 0 where
-  pub ends : over ≡ true → c.answer ≡ end
-  pub hands : over ≡ false → (x : List ℕ) × (c.answer ≡ handed x) × (b ≡ board (corner (padded x))) × (w ≡ paused t (plain_numbers t.gauges) false c.next)
+-- the call c of the run on t in plain order handed a ladder out, b is its board, and w the value after it
+abbrev pub Handed : Table → Call → ℕ → Value → Type 0
+Handed t c b w = (x : List ℕ) × (c.answer ≡ handed x) × (b ≡ board (corner (padded x))) × (w ≡ paused t (plain_numbers t.gauges) false c.next)
 
--- one call from the value v of a run in plain order that omits nothing
-abbrev pub Hands : Value → Bool → ℕ → Value → Type 0
-Hands v over b w =
+-- P holds of one call from the value v of a run in plain order that omits nothing
+abbrev pub OneCall : (Table → Call → Type 0) → Value → Type 0
+OneCall P v =
     Legal v.table → v.order ≡ plain_numbers v.table.gauges → v.omit ≡ false → (s : State) → PausedAt gauge_side v s
-    → Handed v.table (call_on (gauge_side v.table) (held gauge_side v) most_budget s) over b w
+    → P v.table (call_on (gauge_side v.table) (held gauge_side v) most_budget s)
+
+-- the call finds the run at its end
+abbrev pub Ends : Value → Type 0
+Ends = OneCall (λ t c. c.answer ≡ end)
+
+abbrev pub Hands : Value → ℕ → Value → Type 0
+Hands v b w = OneCall (λ t c. Handed t c b w) v
 
 -- n is the number of the ladders of t, and the first n of 1,024 places hold their boards; or there are more than 1,024
 pub record Lists (t : Table) (n : ℕ) (boards : List ℕ) : Type 0 where

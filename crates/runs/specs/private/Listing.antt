@@ -1,5 +1,5 @@
 -- What the private steps of a batch say of one another. No public promise mentions these.
-use Rattle.std.specs.Prelude.{◌≡◌, Bool, true, false, List, ℕ, zero, suc, ◌+◌, ◌-◌, ◌≤◌, ◌<◌, min, length, take}
+use Rattle.std.specs.Prelude.{◌≡◌, Bool, true, false, List, ℕ, zero, suc, ◌+◌, ◌-◌, ◌≤◌, ◌<◌, min, length, take, Result, Ok, Err}
 use Rattle.std.proofs.lemmas.List.Edits.{sets as stored}
 use Rattle.table.specs.Tables.{padded}
 use Rattle.transpose.specs.Transposing.{transpose}
@@ -12,12 +12,11 @@ use Rattle.rules.specs.Calls.{most_budget}
 use Rattle.preference.specs.Preferences.{is_preference, order_of}
 use Rattle.lists.specs.OnTable.{chain_of}
 use Rattle.runs.specs.Batches.{tale, behind, batch_by, joined}
-use Rattle.runs.specs.Batches.{Ending, denied, full, used, over}
+use Rattle.runs.specs.Batches.{Ending, full, used, over}
 use Rattle.runs.specs.Paused.{mode_phase}
-use Rattle.runs.specs.private.Working.{StandsBy, ReachedIn, Holds, ComesOut, state_of, spot_down}
-use Rattle.refusals.specs.Answers.{number}
+use Rattle.runs.specs.private.Working.{StandsBy, ReachedIn, Holds, ComesOut, state_of}
 use Rattle.runs.specs.declared.engine.Stop.{Stop}
-use Rattle.runs.specs.declared.engine.Stop.TheVariants.{HandedOut, Spent, End, Refused}
+use Rattle.runs.specs.declared.engine.Stop.TheVariants.{HandedOut, Spent, End}
 use Rattle.runs.specs.declared.listing.Tally.{Tally}
 
 -- how a batch stopped
@@ -25,10 +24,6 @@ abbrev pub stop_ending : Stop → Ending
 stop_ending HandedOut = full
 stop_ending Spent = used
 stop_ending End = over
-stop_ending (Refused x) = denied (number x)
-
-abbrev pub refused_tally : Refusal → Tally
-refused_tally why = record { outcome = Refused why; ladders = 0; moves = 0; spot = spot_down 0 0 0 }
 
 -- ---- a ladder from the chain array c
 -- by number, where the rows went by place
@@ -104,13 +99,13 @@ pub record WentOn (mv : State → Move) (good : State → Type 0) (out : List �
   pub stands : StandsBy good k' o.spot.count (mode_phase o.spot.mode) to
 
 pub record ListsBy (mv : State → Move) (good : State → Type 0) (out : List ℕ → List ℕ) (room : ℕ) (k : List ℕ) (count : ℕ) (f : Phase) (b : ℕ)
-    (before k' now : List ℕ) (o : Tally) : Type 0 where
-  pub value : ((s : State) → StandsBy good k count f s → ⊥) → (o.outcome ≡ Refused NotReached) × (now ≡ before)
-  pub large : (s : State) → StandsBy good k count f s → most_budget < b → (o.outcome ≡ Refused BudgetTooLarge) × (now ≡ before)
-  pub moves : (s : State) → StandsBy good k count f s → b ≤ most_budget → WentOn mv good out room b s before k' now o
+    (before k' now : List ℕ) (o : Result Tally Refusal) : Type 0 where
+  pub value : ((s : State) → StandsBy good k count f s → ⊥) → (o ≡ Err NotReached) × (now ≡ before)
+  pub large : (s : State) → StandsBy good k count f s → most_budget < b → (o ≡ Err BudgetTooLarge) × (now ≡ before)
+  pub moves : (s : State) → StandsBy good k count f s → b ≤ most_budget → (r : Tally) × (o ≡ Ok r) × WentOn mv good out room b s before k' now r
 
 -- under the preference in the n numbers of order
 pub record ListsIn (mv : List ℕ → State → Move) (out : List ℕ → List ℕ) (room n : ℕ) (r order k : List ℕ) (count : ℕ) (f : Phase) (b : ℕ)
-    (before k' now : List ℕ) (o : Tally) : Type 0 where
-  pub none : is_preference n order ≡ false → (o.outcome ≡ Refused NotAnArrangement) × (now ≡ before)
+    (before k' now : List ℕ) (o : Result Tally Refusal) : Type 0 where
+  pub none : is_preference n order ≡ false → (o ≡ Err NotAnArrangement) × (now ≡ before)
   pub listed : is_preference n order ≡ true → ListsBy (mv (order_of n order)) (ReachedIn r (order_of n order)) out room k count f b before k' now o

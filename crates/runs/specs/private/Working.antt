@@ -1,15 +1,15 @@
 -- What the core's private steps say of one another: how a spot and its arrays represent a state of rules 1 to 5. No
 -- public promise mentions these.
-use Rattle.std.specs.Prelude.{◌≡◌, List, map, Bool, true, false, not, cond, ℕ, zero, suc, ◌+◌, ◌-◌, ◌^◌, ◌≤◌, ◌<◌, eqb, length, take, get_or, Result, Ok, Err}
+use Rattle.std.specs.Prelude.{◌≡◌, List, [], map, Bool, true, false, not, cond, ℕ, zero, suc, ◌+◌, ◌-◌, ◌^◌, ◌≤◌, ◌<◌, eqb, length, take, get_or, Result, Ok, Err, Option, Some, None}
+use Rattle.std.specs.Borrow.{Bor}
 use Rattle.std.specs.Int.Bits.{bit_and}
-use Rattle.refusals.specs.Answers.{number}
-use Rattle.table.specs.Tables.{no_rows, padded, blank_chain}
+use Rattle.table.specs.Tables.{padded, blank_chain}
 use Rattle.sets.specs.Sets.{◌⊆◌, lowest}
 use Rattle.sets.specs.Lists.{all_below}
 use Rattle.table.specs.Pairs.{row}
 use Rattle.rules.specs.Machine.{Phase, Down, Handed, Back, Ended, State, Move, gives, nothing, hands, ends, move_in, ReachedBy}
 use Rattle.rules.specs.ByNumber.{move}
-use Rattle.rules.specs.Calls.{Reply, refused, spent, handed, end, Call, result, carry_by, most_budget}
+use Rattle.rules.specs.Calls.{Reply, spent, handed, end, Call, result, carry_by, most_budget}
 use Rattle.rules.specs.Keeping.{move_keeping}
 use Rattle.rules.specs.private.Fitting.{Valid, Fits}
 use Rattle.lists.specs.Lists.{Side}
@@ -22,25 +22,24 @@ use Rattle.search.proofs.AfterPicks.{After}
 use Rattle.refusals.specs.declared.Refusal.{Refusal}
 use Rattle.refusals.specs.declared.Refusal.TheVariants.{NotReached, BudgetTooLarge, NotAnArrangement}
 use Rattle.preference.specs.Preferences.{is_preference, order_of}
-use Rattle.preference.specs.Placing.{renumber}
+use Rattle.preference.specs.Placing.{renumber, gathered}
 use Rattle.table.specs.declared.Table.{Table}
 use Rattle.table.specs.declared.Chain.{Chain}
 use Rattle.runs.specs.Paused.{Value, numbered, mode_phase, no_numbers}
-use Rattle.runs.specs.Calling.{Step, refusal_step}
+use Rattle.runs.specs.Calling.{Step}
 use Rattle.runs.specs.declared.engine.Stop.{Stop}
-use Rattle.runs.specs.declared.engine.Stop.TheVariants.{HandedOut, Spent, End, Refused}
+use Rattle.runs.specs.declared.engine.Stop.TheVariants.{HandedOut, Spent, End}
 use Rattle.runs.specs.declared.Phase.TheVariants.{Down as mode_down}
 use Rattle.runs.specs.declared.engine.Spot.{Spot}
 use Rattle.runs.specs.declared.engine.Report.{Report}
 use Rattle.runs.specs.declared.engine.Moved.{Moved}
 use Rattle.runs.specs.declared.engine.Moved.TheVariants.{On, Out, Over}
 
--- 01's answer for each way to stop: a refusal by its number, a hand-out by its rows
+-- 01's answer for each way to stop: a hand-out by its rows
 abbrev pub stop_reply : Stop → List ℕ → Reply
 stop_reply HandedOut rows = handed rows
 stop_reply Spent rows = spent
 stop_reply End rows = end
-stop_reply (Refused x) rows = refused (number x)
 
 -- the rows of a side: at most 64 of them count, in an array of 64, each within the 64 cases
 pub record Sized (n : ℕ) (rows : List ℕ) : Type 0 where
@@ -115,6 +114,20 @@ unfoldable pub left_after : List ℕ → List ℕ → ℕ → ℕ
 left_after c k count = cond (eqb count 0) (2 ^ 64 - 1) (get_or c (get_or k (count - 1) 0 - 1) 0)
 
 -- ---- what a run that omits hands over
+-- the pairs that are wanted: none of a run that omits nothing
+abbrev pub omits : Option (Bor (List ℕ)) → Bool
+omits None = false
+omits (Some w) = true
+
+abbrev pub wanted_in : Option (Bor (List ℕ)) → List ℕ
+wanted_in None = padded []
+wanted_in (Some w) = w.now
+
+-- those pairs as the order o has the n rows
+abbrev pub gathered_wanted : Option (Bor (List ℕ)) → ℕ → List ℕ → Option (List ℕ)
+gathered_wanted None n o = None
+gathered_wanted (Some w) n o = Some (padded (gathered n w.now o))
+
 -- none of the first n rows of c has a case of the same row of w
 unfoldable pub apart : ℕ → List ℕ → List ℕ → Bool
 apart n w c = all_below (λ i. eqb (bit_and (get_or c i 0) (get_or w i 0)) 0) n
@@ -158,10 +171,8 @@ unfoldable pub filled : List ℕ → ℕ → ℕ
 filled k zero = 0
 filled k (suc n) = filled k n + cond (eqb (get_or k n 0) 0) 0 1
 
--- c is empty, and the first `count` numbers in k are those of picks that can have been made: what is asked where
--- their chain is laid
-pub record Laying (n : ℕ) (rows c k : List ℕ) (count : ℕ) : Type 0 where
-  pub empty : c ≡ no_rows
+-- the first `count` numbers in k are those of picks that can have been made: what is asked where their chain is laid
+pub record Laying (n : ℕ) (rows k : List ℕ) (count : ℕ) : Type 0 where
   pub picks : List ℕ
   pub numbers : take count k ≡ map suc picks
   pub counted : count ≡ length picks
@@ -189,13 +200,13 @@ pub record WentBy (mv : State → Move) (good : State → Type 0) (chain : List 
   pub chained : c' ≡ padded (chain to.picks)
   pub stands : StandsBy good k' o.spot.count (mode_phase o.spot.mode) to
 
--- what a call on the value of k, `count` and f gives: no good state is its state; or it is the value of one, and the
+-- what a call on the value of k, `count` and f answers: no good state is its state; or it is the value of one, and the
 -- budget is too large, or it makes its moves, by the rule mv; `chain` has the chain of some picks
 pub record CarriesBy (mv : State → Move) (good : State → Type 0) (chain : List ℕ → List ℕ) (k : List ℕ) (count : ℕ) (f : Phase) (b : ℕ)
-    (c' k' : List ℕ) (o : Report) : Type 0 where
-  pub value : ((s : State) → StandsBy good k count f s → ⊥) → o.outcome ≡ Refused NotReached
-  pub large : (s : State) → StandsBy good k count f s → most_budget < b → o.outcome ≡ Refused BudgetTooLarge
-  pub moves : (s : State) → StandsBy good k count f s → b ≤ most_budget → WentBy mv good chain b s c' k' o
+    (c' k' : List ℕ) (o : Result Report Refusal) : Type 0 where
+  pub value : ((s : State) → StandsBy good k count f s → ⊥) → o ≡ Err NotReached
+  pub large : (s : State) → StandsBy good k count f s → most_budget < b → o ≡ Err BudgetTooLarge
+  pub moves : (s : State) → StandsBy good k count f s → b ≤ most_budget → (r : Report) × (o ≡ Ok r) × WentBy mv good chain b s c' k' r
 
 -- ---- the same by number, on the rows r
 abbrev pub FitsOn : List ℕ → State → Type 0
@@ -204,7 +215,7 @@ FitsOn r s = Fits (candidates r) s.picks s.phase
 abbrev pub StandsFor : List ℕ → List ℕ → ℕ → Phase → State → Type 0
 StandsFor r k count f s = StandsBy (FitsOn r) k count f s
 
-abbrev pub CarriesOn : (State → Move) → List ℕ → List ℕ → ℕ → Phase → ℕ → List ℕ → List ℕ → Report → Type 0
+abbrev pub CarriesOn : (State → Move) → List ℕ → List ℕ → ℕ → Phase → ℕ → List ℕ → List ℕ → Result Report Refusal → Type 0
 CarriesOn mv r k count f b c' k' o = CarriesBy mv (FitsOn r) (chain_of r) k count f b c' k' o
 
 -- what the checks of such a call give, before it moves: a refusal, or a spot that holds the value's state
@@ -232,16 +243,14 @@ renumbered_phase l n Ended = Ended
 
 -- what a call under the preference in the n numbers of `order` gives: 27 where they are none, and else as above, by
 -- the rule mv at each arrangement
-pub record InOrder (mv : List ℕ → State → Move) (n : ℕ) (r order k : List ℕ) (count : ℕ) (f : Phase) (b : ℕ) (c' k' : List ℕ) (o : Report) : Type 0 where
-  pub none : is_preference n order ≡ false → o.outcome ≡ Refused NotAnArrangement
+pub record InOrder (mv : List ℕ → State → Move) (n : ℕ) (r order k : List ℕ) (count : ℕ) (f : Phase) (b : ℕ) (c' k' : List ℕ)
+    (o : Result Report Refusal) : Type 0 where
+  pub none : is_preference n order ≡ false → o ≡ Err NotAnArrangement
   pub carried : is_preference n order ≡ true → CarriesBy (mv (order_of n order)) (ReachedIn r (order_of n order)) (chain_of r) k count f b c' k' o
 
 -- a chain from its parts
 abbrev pub chain_with : ℕ → List ℕ → Chain
 chain_with g rows = record { gauges = g; rows = rows }
-
-abbrev pub refused_report : Refusal → Report
-refused_report why = record { outcome = Refused why; moves = 0; spot = spot_down 0 0 0 }
 
 -- ---- what the functions above the core make of its report, on the table t, with the picks k that it left and the chain by gauge rows
 abbrev pub next_of : Table → List ℕ → Bool → Report → List ℕ → Value
@@ -258,4 +267,3 @@ step_by t order omit o k rows HandedOut =
     }
 step_by t order omit o k rows Spent = record { answer = spent; moves = o.moves; chain = blank_chain; picks = no_numbers; next = next_of t order omit o k }
 step_by t order omit o k rows End = record { answer = end; moves = o.moves; chain = blank_chain; picks = no_numbers; next = next_of t order omit o k }
-step_by t order omit o k rows (Refused why) = refusal_step (number why)

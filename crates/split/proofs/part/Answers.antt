@@ -19,9 +19,9 @@ use Rattle.split.proofs.part.Goals as goal
 pub returns-in_err-check_down-clause-part_at : goal.returns-in_err-check_down-clause-part_at
 returns-in_err-check_down-clause-part_at g c =
     let e : c.from_residual.result ≡ Err c.in_err-check_down.field-0.0 = search rules in
-    subst (PartAt (side_of g.S.Side.CASES) (value_of g.S.Side.number c.args.p) (g.S.Side.number c.args.pick)) (sym (ap (part_of g.S.Side.number) e))
-    (part-refused (side_of g.S.Side.CASES) (value_of g.S.Side.number c.args.p) (g.S.Side.number c.args.pick) _ (number_pos c.in_err-check_down.field-0.0)
-    (subst (ChecksAt (side_of g.S.Side.CASES) (value_of g.S.Side.number c.args.p) Down) (ap verdict c.in_err-check_down.was) c.check_down.ensures))
+    subst (PartAt (side_of g.S.Side.CASES) (value_of g.S.Side.number c.args.run) (g.S.Side.number c.args.pick)) (sym (ap (part_of g.S.Side.number) e))
+    (part-refused (side_of g.S.Side.CASES) (value_of g.S.Side.number c.args.run) (g.S.Side.number c.args.pick) _ (number_pos c.in_err-check_down.field-0.0)
+    (subst (ChecksAt (side_of g.S.Side.CASES) (value_of g.S.Side.number c.args.run) Down) (ap verdict c.in_err-check_down.was) c.check_down.ensures))
 
 pub returns-in_err-check_down-clause-lists : goal.returns-in_err-check_down-clause-lists
 returns-in_err-check_down-clause-lists g c =
@@ -30,9 +30,9 @@ returns-in_err-check_down-clause-lists g c =
 
 pub returns-clause-part_at : goal.returns-clause-part_at
 returns-clause-part_at g c =
-    part-given (side_of g.S.Side.CASES) (value_of g.S.Side.number c.args.p) (g.S.Side.number c.args.pick)
-    (subst (ChecksAt (side_of g.S.Side.CASES) (value_of g.S.Side.number c.args.p) Down) (ap verdict c.in_ok-check_down.was) c.check_down.ensures) (part_of g.S.Side.number c.try_pick.result)
-    (subst (λ (k : ℕ). TriedAt (side_of g.S.Side.CASES) (value_of g.S.Side.number c.args.p) k (part_of g.S.Side.number c.try_pick.result)) c.number.ensures c.try_pick.ensures.tried_at)
+    part-given (side_of g.S.Side.CASES) (value_of g.S.Side.number c.args.run) (g.S.Side.number c.args.pick)
+    (subst (ChecksAt (side_of g.S.Side.CASES) (value_of g.S.Side.number c.args.run) Down) (ap verdict c.in_ok-check_down.was) c.check_down.ensures) (part_of g.S.Side.number c.try_pick.result)
+    (subst (λ (k : ℕ). TriedAt (side_of g.S.Side.CASES) (value_of g.S.Side.number c.args.run) k (part_of g.S.Side.number c.try_pick.result)) c.number.ensures c.try_pick.ensures.tried_at)
 
 pub returns-clause-lists : goal.returns-clause-lists
 returns-clause-lists g c = c.try_pick.ensures.lists

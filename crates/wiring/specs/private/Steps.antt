@@ -1,6 +1,6 @@
 -- What the private steps of the code promise each other. `Wires` of specs/Wiring.antt is what the public function promises; the tests by which a pair
 -- is found are in crate `pair_orders`, specs/private/Growing.antt.
-use Rattle.std.specs.Prelude.{◌≡◌, Bool, List, ℕ, suc, ◌≤◌, ◌<◌, length, take}
+use Rattle.std.specs.Prelude.{◌≡◌, Bool, List, ℕ, suc, ◌≤◌, ◌<◌, length, take, Option, Some, None}
 use Rattle.std.proofs.lemmas.List.Edits.{sets}
 use Rattle.sets.specs.Sets.{is_subset}
 use Rattle.sets.specs.Lists.{all_below}
@@ -31,6 +31,11 @@ unfoldable pub includes : List ℕ → List ℕ → ℕ → Bool
 includes x s n = all_below (λ i. is_subset (row s i) (row x i)) n
 
 -- ---- the pair that comes next
+-- the place that was found, or n where there is none
+abbrev pub place_or : ℕ → Option ℕ → ℕ
+place_or n (Some k) = k
+place_or n None = n
+
 -- of the 64 rows x and s, the first n are a chain and a chain that contains it
 pub record Between (x s : List ℕ) (n : ℕ) : Type 0 where
   pub few : n ≤ 64

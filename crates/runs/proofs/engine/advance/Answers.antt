@@ -7,12 +7,12 @@ loop-moves-preserved-in-On c = turn_on _ _ _ _ _ _ _ _ _ _ c.loop-moves.invarian
 
 pub returns-then-hands_over : goal.returns-then-hands_over
 returns-then-hands_over c =
-    turn-out _ _ _ _ _ _ _ _ _ _ c.loop-moves.invariant.1 c.loop-moves-test.true c.requires.0 _ _ c.in-Out.is
+    turn-out _ _ _ _ _ _ _ _ _ _ c.loop-moves.invariant.1 c.loop-moves-test.true c.args.work.now.sized _ _ c.in-Out.is
     c.step-made.ensures _ c.hands_over.ensures c.if-hands_over.true
 
 pub loop-moves-preserved : goal.loop-moves-preserved
 loop-moves-preserved c =
-    turn-past _ _ _ _ _ _ _ _ _ _ c.loop-moves.invariant.1 c.loop-moves-test.true c.requires.0 _ _ c.in-Out.is
+    turn-past _ _ _ _ _ _ _ _ _ _ c.loop-moves.invariant.1 c.loop-moves-test.true c.args.work.now.sized _ _ c.in-Out.is
     c.step-made.ensures _ c.hands_over.ensures c.if-hands_over.false
 
 pub returns-in-Over : goal.returns-in-Over

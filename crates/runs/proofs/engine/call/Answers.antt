@@ -5,5 +5,5 @@ use Rattle.runs.proofs.engine.call.Goals as goal
 
 pub returns : goal.returns
 returns c =
-    call_went _ _ _ _ _ _ _ _ c.open.ensures _ c.in-Ok.is _ _ _ _
+    call_went _ _ _ _ _ _ _ _ c.in_ok-at.ensures _ refl _ _ _ _
     (record { comes = c.list_on-tally.ensures.one refl; holds = c.list_on-tally.ensures.holds })

@@ -4,9 +4,7 @@ use Rattle.runs.proofs.Ordering.{refused_order}
 use Rattle.runs.proofs.ordered.by_order.Goals as goal
 
 pub returns-in_default : goal.returns-in_default
-returns-in_default c = refused_order _ _ _ _ _ _ _ _ _ _ _ (places_none _ _ _ c.place_all.ensures c.in_default.is) c.refused.ensures
+returns-in_default c = refused_order _ _ _ _ _ _ _ _ _ _ (places_none _ _ _ c.place_all.ensures c.in_default.is)
 
 pub by_place-requires : goal.by_place-requires
-by_place-requires c =
-    let (is, are) = places_are _ _ _ c.place_all.ensures c.in-Some.is in
-    (c.requires.0, c.requires.1, c.requires.2, c.requires.3, c.requires.4, is, are)
+by_place-requires c = places_are _ _ _ c.place_all.ensures c.in-Some.is

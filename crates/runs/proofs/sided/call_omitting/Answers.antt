@@ -1,23 +1,24 @@
 -- `runs::sided::call_omitting` meets its contract: the moves under the order are those of a run that omits, by the essential pairs (`carried_by`).
-use mathlib.Core.Path.{◌≡◌}
 use mathlib.Core.Bool.{true}
+use mathlib.Core.Path.{◌≡◌}
 use borrow.Author.Rules.{rules}
 use lib.ListN.{length}
-use Rattle.table.specs.declared.Table.{Table}
 use Rattle.runs.specs.Sides.{side_of}
-use Rattle.runs.specs.private.Sided.{table_in}
 use Rattle.runs.proofs.SideRows.{sized_as}
 use Rattle.runs.proofs.Wanting.{carried_by}
 use Rattle.runs.proofs.sided.call_omitting.Goals as goal
 
-pub call-requires : goal.call-requires
-call-requires g c =
-    let wanted-length : length c.wanted_rows-want.result ≡ 64 = search rules in
-    let s = sized_as g.S.Side.CASES (table_in c.args.shape c.args.rows.now) _ c.requires.5 c.side_rows-own.ensures in
-    (s, c.requires.1, wanted-length, c.requires.2, c.requires.3)
+pub invariant_of-work : goal.invariant_of-work
+invariant_of-work g c =
+    let wanted-length : length c.wanted_rows-essential.result ≡ 64 = search rules in
+    record {
+      sized = sized_as g.S.Side.CASES c.args.on.now.table.now _ c.requires.1 c.side_rows-own.ensures;
+      long = wanted-length;
+      some = c.args.on.now.legal.gauges_low;
+      few = c.args.on.now.legal.gauges_high;
+    }
 
 pub returns : goal.returns
 returns g c =
-    let t : Table = table_in c.args.shape c.args.rows.now in
-    carried_by t (side_of g.S.Side.CASES t) _ _ _ c.requires.5 c.side_rows-own.ensures _ true c.requires.4 (λ x. c.wanted_rows-want.ensures c.requires.4)
-    _ _ _ _ _ _ _ _ c.call.ensures
+    carried_by c.args.on.now.table.now (side_of g.S.Side.CASES c.args.on.now.table.now) _ _ _ c.requires.1 c.side_rows-own.ensures _ true c.requires.0
+    (λ x. c.wanted_rows-essential.ensures) _ _ _ _ _ _ _ _ c.call.ensures

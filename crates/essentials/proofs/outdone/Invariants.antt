@@ -1,7 +1,0 @@
--- `essentials::outdone` meets its contract: no row passed has such a pair.
-use Prim.Native.Nat.{ℕ, ◌<◌}
-use Rattle.essentials.specs.private.Unions.{OutdoneIn}
-use Rattle.essentials.proofs.outdone.Given as goal
-
-abbrev pub invariant-loop-h : goal.invariant-loop-h
-invariant-loop-h l = (j : ℕ) → j < l.h → OutdoneIn l.rows l.g l.k j → ⊥

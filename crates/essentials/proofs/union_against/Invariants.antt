@@ -1,7 +1,0 @@
--- `essentials::union_against` meets its contract: after `i` rows it is the union of these.
-use mathlib.Core.Path.{◌≡◌}
-use Rattle.essentials.specs.private.Unions.{against}
-use Rattle.essentials.proofs.union_against.Given as goal
-
-abbrev pub invariant-loop-i : goal.invariant-loop-i
-invariant-loop-i l = l.seen ≡ against l.rows l.own l.k l.i

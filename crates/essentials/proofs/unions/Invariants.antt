@@ -1,6 +1,0 @@
--- `essentials::unions` meets its contract: the unions of the rows passed are stored.
-use Rattle.essentials.specs.private.Unions.{Stored}
-use Rattle.essentials.proofs.unions.Given as goal
-
-abbrev pub invariant-loop-i : goal.invariant-loop-i
-invariant-loop-i l = Stored l.rows l.n l.i l.store

@@ -1,0 +1,2 @@
+-- What `read_input` rests on.
+mod Reading

@@ -1,6 +1,0 @@
--- `transpose::column` meets its contract: the number so far is the column of the rows passed.
-use Rattle.transpose.proofs.Columns.{Gathered}
-use Rattle.transpose.proofs.column.Given as goal
-
-abbrev pub invariant-loop-i : goal.invariant-loop-i
-invariant-loop-i l = Gathered l.many l.k l.rows l.i l.set

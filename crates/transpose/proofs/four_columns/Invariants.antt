@@ -1,6 +1,0 @@
--- `transpose::four_columns` meets its contract: the four numbers so far are the columns of the rows passed.
-use Rattle.transpose.proofs.Columns.{Fours}
-use Rattle.transpose.proofs.four_columns.Given as goal
-
-abbrev pub invariant-loop-i : goal.invariant-loop-i
-invariant-loop-i l = Fours l.many l.k l.rows l.i l.a l.b l.c l.d
