@@ -118,8 +118,30 @@ def clause_of(clauses, wanted):
     return "".join(text for name, text in clauses_of(clauses) if wanted is None or name == wanted)
 
 
+PROMISED = re.compile(r"^impl(?:<.*?>)? (?:\w+::)*(\w+)(?:<.*>)? for (\w+)(?:<[^{}]*>)? \{$")
+
+
+def promised_by_types(text):
+    """(type's trait, line, text) for what each `impl` of a trait promises of a type: its lines `ghost NAME = { .. };`, as clauses of that name."""
+    found, lines, i = [], text.split("\n"), 0
+    while i < len(lines):
+        m = PROMISED.match(lines[i])
+        i += 1
+        while m and i < len(lines) and lines[i] != "}":
+            g = re.match(r"^\s+ghost (\w+) = ", lines[i])
+            start = i
+            while g and not lines[i].rstrip().endswith("};"):
+                i += 1
+            if g:
+                said = "\n".join(lines[start : i + 1]).replace(f"ghost {g[1]} =", f"ensures {g[1]}", 1)
+                found.append((m[2], m[1], start + 1, said))
+            i += 1
+    return found
+
+
 def entries():
-    """(crate, file, imports, function, line, contract) for every public function with a contract of every library crate."""
+    """(crate, file, imports, function, line, contract) for every public function with a contract of every library crate, those of a public trait among
+    them, and for what a public type promises as an iterator, an error or the like, by its trait's name."""
     for crate in sources.crates():
         if not sources.is_library(crate):
             continue
@@ -128,13 +150,23 @@ def entries():
         for path, given in parts:
             text = sources.read(path)
             owners = sources.owners(text)
+            traits = set(re.findall(r"^pub trait (\w+)", text, re.M))
+            public_types = set(re.findall(r"^pub (?:struct|enum) (\w+)", text, re.M)) if given is None else given
             imports = {}
             for module, names in sources.imports("\n".join(l for l in text.split("\n") if l.strip().startswith("ghost use"))):
                 for name, local in names:
                     imports[local] = (module, name)
             for name, public, line, clauses in sources.contracts(text):
-                if public and clauses and (given is None or name in given or owners[line - 1] in types):
+                owner = owners[line - 1]
+                if (public or owner in traits) and clauses and (given is None or name in given or owner in types):
                     yield crate, path, imports, name, line, sources.strip_comments(clauses, "//")
+            said = {}
+            for owner, trait, line, clause in promised_by_types(text):
+                if owner in public_types or owner in types:
+                    at, clauses = said.get((owner, trait), (line, ""))
+                    said[owner, trait] = at, clauses + clause + "\n"
+            for (owner, trait), (line, clauses) in said.items():
+                yield crate, path, imports, f"{owner}'s {trait}", line, sources.strip_comments(clauses, "//")
 
 
 THEOREM = re.compile(r"^((?:--.*\n)*)-- Theorem alone: `([^`]+)` in (proofs/[\w/]+)\.antt.*\n(?:--.*\n)*pub record (\S+)", re.M)

@@ -1,7 +1,14 @@
 // What bench_runs and bench_batches share: what is listed and how, and the sum over the ladders handed out.
 #![tactic(auto)]
 
-ghost use Rattle.std.specs.Prelude.{◌≡◌, ◌+◌, ◌%◌, ◌^◌, IfOk};
+ghost use Rattle.std.specs.Prelude.{◌≡◌, ◌+◌, ◌%◌, ◌^◌, min, length};
+ghost use Rattle.refusals.specs.Answers.{answer};
+ghost use Rattle.rules.specs.Machine.{fresh};
+ghost use Rattle.preference.specs.Preferences.{preferred_refusal};
+ghost use Rattle.runs.specs.Paused.{start_of, paused, blank_value};
+ghost use Rattle.runs.specs.Sides.{side_of};
+ghost use Rattle.samples.specs.Xorshift.{step};
+ghost use Rattle.bench_lists.specs.Listing.{numbers, folded, summed};
 
 use preference::{GaugeOrder, Order};
 use program_input::is_given;
@@ -33,9 +40,12 @@ impl Listing {
         }
     }
 
-    // The fresh run of a side.
+    // The fresh run of a side, under the order that is asked for: 10, 11 and 27 are refused.
     pub fn run<S: Side>(self) -> Result<Run<S>, Refusal>
-        ensures { IfOk result (λ run. (run.table ≡ self.table) × (run.omit ≡ self.omit)) }
+        ensures { start_of S.number result ≡ answer
+            (preferred_refusal self.table (side_of S.CASES self.table).count (numbers (side_of S.CASES self.table).count self.backward))
+            (paused self.table (numbers (side_of S.CASES self.table).count self.backward) self.omit fresh)
+            blank_value }
     {
         let n = if S::CASES {
             self.table.cases
@@ -48,7 +58,10 @@ impl Listing {
 }
 
 // The numbers of an order: 1, 2, 3, .., or from the last to the first.
-fn numbers(n: u64, backward: bool) -> [u8; 64] {
+#[tactic(auto, unfolding(crate::specs::Listing::numbers))]
+fn numbers(n: u64, backward: bool) -> [u8; 64]
+    ensures { result ≡ numbers n backward }
+{
     let mut numbers = GaugeOrder::plain(n).numbers;
     if backward {
         numbers[..n.min(64) as usize].reverse();
@@ -66,21 +79,31 @@ pub struct Tally {
 impl Tally {
     // A ladder more: the sum goes one step on (shifts 13, 7, 17) and takes the ladder in, so that the order counts.
     pub fn with(self, ladder: &[u64]) -> Tally
-        ensures { result.count ≡ (self.count + 1) % 2 ^ 64 }
+        ensures count { result.count ≡ (self.count + 1) % 2 ^ 64 }
+        ensures sum { result.sum ≡ summed self.sum (folded (min (length ladder.now) 64) ladder.now) }
     {
-        let mut sum = self.sum;
-        sum ^= sum << 13;
-        sum ^= sum >> 7;
-        sum ^= sum << 17;
         Tally {
             count: self.count.wrapping_add(1),
-            sum: sum ^ folded(ladder),
+            sum: stepped(self.sum) ^ folded(ladder),
         }
     }
 }
 
+// One step of crate `samples`' generator.
+#[tactic(auto, unfolding(samples::specs::Xorshift::step, samples::specs::Xorshift::shifted_left, samples::specs::Xorshift::right))]
+fn stepped(x: u64) -> u64
+    ensures { result ≡ step x }
+{
+    let a = x ^ (x << 13);
+    let b = a ^ (a >> 7);
+    b ^ (b << 17)
+}
+
 // The rows as one number, each shifted by another multiple of 7: gauges and cases cannot be mistaken for each other.
-fn folded(rows: &[u64]) -> u64 {
+#[tactic(auto, unfolding(crate::specs::Listing::folded))]
+fn folded(rows: &[u64]) -> u64
+    ensures { result ≡ folded (min (length rows.now) 64) rows.now }
+{
     let mut x = 0;
     for i in 0..rows.len().min(64) {
         x ^= rows[i] << (i * 7 % 64);

@@ -89,10 +89,7 @@ pub fn write(table: &[u64], bytes: &mut [u8], length: &mut [u64]) -> u64
 pub fn written_number(written: Result<usize, Refusal>) -> u64
     ensures { result ≡ (written_as written).refusal }
 {
-    match written {
-        Err(why) => why.number(),
-        Ok(_) => 0,
-    }
+    words::verdict_number(written.and(Ok(())))
 }
 
 // The length of the file that was written, or 0.

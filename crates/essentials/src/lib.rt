@@ -53,7 +53,7 @@ pub fn conflicts_of(t: Table, g: Gauge, c: Case) -> Result<PairSet, Refusal>
     ensures gives_conflicts { GivesConflicts t g.0 c.0 (found_pairs result) }
     ensures claims { table_refusal t ≡ 0 → ConflictClaims (table_rows t) }
 {
-    check_pair(t, g, c)?;
+    check_pair(t, g, c)?; // 10, 11, then 19
     let outer = t.rows;
     let i = (g.0 - 1) as usize;
     let rows = conflict_rows(&outer, i, c.0 - 1);
@@ -69,7 +69,8 @@ pub fn is_essential(t: Table, g: Gauge, c: Case) -> Result<bool, Refusal>
     let rows = t.rows;
     let n = t.gauges as usize;
     let table = GaugeRows { rows: &rows, n };
-    let store = table.unions();
+    let mut store = [0u64; 4096];
+    table.unions(&mut store);
     let pairs = PairUnions {
         rows: &rows,
         n,
@@ -87,7 +88,8 @@ pub fn essential_rows(t: Table) -> Result<PairSet, Refusal>
     let rows = t.rows;
     let n = t.gauges as usize;
     let table = GaugeRows { rows: &rows, n };
-    let store = table.unions();
+    let mut store = [0u64; 4096];
+    table.unions(&mut store);
     let pairs = PairUnions {
         rows: &rows,
         n,
@@ -142,15 +144,14 @@ fn minus(a: u64, b: u64) -> u64
 }
 
 impl GaugeRows<'_> {
-    // The unions of all pairs of the first `n` rows: that of place `k` of row `i` is at 64 * i + k.
-    fn unions(self) -> [u64; 4096]
-        ensures { Stored self.entry.rows.now self.entry.n self.entry.n result }
+    // The unions of all pairs of the first `n` rows: that of place `k` of row `i` is at 64 * i + k. The store is lent, since one that is handed back is copied,
+    // which costs as much as the rest of a small table.
+    fn unions(self, store: &mut [u64; 4096])
+        ensures { Stored self.entry.rows.now self.entry.n self.entry.n store.new }
     {
-        let mut store = [0u64; 4096];
         for i in 0..self.n {
-            self.store_row(&mut store, i);
+            self.store_row(store, i);
         }
-        store
     }
 
     // Stores the unions of the pairs of row `i`.

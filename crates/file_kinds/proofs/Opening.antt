@@ -1,18 +1,16 @@
 -- The first line. In order: a line of a kind is its banner but for capitals in the words behind the opening (`kind_only`, `kind_mixed`), and
 -- no line is of two kinds; a first line is read exactly when it is a banner in 01's words (`first_mixed`, `first_only`, `first_none`), and a banner
--- that is written is (`banner_reads`). Then the answers of `is_of_kind` and of `first_line`, one law for each of their returns.
+-- that is written is (`banner_reads`). Then an answer of `first_line`.
 -- Pins, which nothing else cites: `first-integer`.
 use Prim.Native.Nat.{ℕ}
 use mathlib.Core.Path.{◌≡◌, refl, sym, ap, ap₂, ◌∙◌}
 use mathlib.Core.Logic.{◌↔◌}
 use mathlib.Core.List.{List, [], ◌∷◌, ◌++◌, map}
 use mathlib.Core.Bool.{Bool, true, false, cond, ◌&&◌}
-use native.Mathlib.Decide.{ℕ_discrete}
 use native.Mathlib.Omega.{arith}
-use lib.ListN.{length, get_or, take, drop, take-append-drop}
+use lib.ListN.{get_or, take, drop, take-append-drop}
 use lib.Dec.{eqb}
-use borrow.Author.Tests.{eqb-true, eq-eqb, ne_eqb}
-use Rattle.std.specs.List.{starts_with}
+use borrow.Author.Tests.{eqb-true, eq-eqb}
 use Rattle.basics.proofs.Clash.{clash}
 use Rattle.file_text.specs.Bytes.{same_bytes, small}
 use Rattle.table.proofs.Legality.{both}
@@ -118,23 +116,6 @@ pub banner_reads : (integers : Bool) (kind : Kind) → takes integers kind ≡ t
 banner_reads integers kind t = first_mixed integers kind (banner_of kind) (record { taken = t; rest = words_of kind; whole = refl; letters = written kind })
 
 -- ---- the answers of the code
--- the library's comparison with a front is that of as many bytes
-pub starts_is : (l p : List ℕ) → starts_with eqb l p ≡ same_bytes (take (length p) l) p
-starts_is l [] = refl
-starts_is [] (x ∷ p) = refl
-starts_is (y ∷ l) (x ∷ p) = ap₂ (λ (t u : Bool). t && u) (go (ℕ_discrete x y)) (starts_is l p)
-  where
-    go : Dec (x ≡ y) → eqb x y ≡ eqb y x
-    go (yes e) = rw (eq-eqb x y e, eq-eqb y x (sym e))
-    go (no n) = rw (ne_eqb x y n, ne_eqb y x (λ e. n (sym e)))
-
-module _ (words l : List ℕ) (t : Bool) (e : t ≡ same_bytes (take 14 l) opening) where
-  pub opening_other : t ≡ false → false ≡ is_of_kind words l
-  opening_other f = ap (λ (u : Bool). u && same_bytes (map small (drop 14 l)) words) (sym f ∙ e)
-
-  pub opening_words : t ≡ true → (u : Bool) → u ≡ same_bytes (map small (drop 14 l)) words → u ≡ is_of_kind words l
-  opening_words f u d = ap₂ (λ (a b : Bool). a && b) (sym f ∙ e) d
-
 module _ (integers : Bool) (l : List ℕ) (t : Bool) (e : t ≡ is_of_kind pattern l) (p : t ≡ false) (i : integers ≡ true) (u : Bool)
     (d : u ≡ is_of_kind integer l) where
   pub first-integer : u ≡ true → Banner Integer ≡ first_line integers l

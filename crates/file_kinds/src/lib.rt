@@ -121,7 +121,11 @@ pub fn entry_line(line: &[u8], kind: Kind, gauges: Gauge, cases: Case) -> EntryL
 fn is_of_kind(line: &[u8], words: &[u8]) -> bool
     ensures { result ≡ is_of_kind words.now line.now }
 {
-    line.starts_with(b"%%MatrixMarket") && file_text::same_small(&line[OPENING..], words)
+    if line.len() < OPENING {
+        return false;
+    }
+    file_text::same_bytes(&line[..OPENING], b"%%MatrixMarket")
+        && file_text::same_small(&line[OPENING..], words)
 }
 
 // The fields of an entry line, by the kind of file.

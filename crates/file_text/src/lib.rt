@@ -140,11 +140,15 @@ fn small(b: u8) -> u8
 
 // The bytes of the end of line that comes next: 1 for LF, 2 for CR LF, 0 for none. A CR that no LF follows is an ordinary byte.
 // It is a length, and 0 that of no end: `end_size` gives it, and a span adds it to its place.
+// What follows a CR is looked at behind a CR alone: a pattern of both bytes would ask at every byte of a file whether two are left.
 fn end_at(rest: &[u8]) -> usize
     ensures { result ≡ end_size rest.now }
 {
     match rest {
-        [b'\r', b'\n', ..] => 2,
+        [b'\r', ..] => match rest {
+            [_, b'\n', ..] => 2,
+            _ => 0,
+        },
         [b'\n', ..] => 1,
         _ => 0,
     }

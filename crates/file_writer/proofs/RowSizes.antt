@@ -1,5 +1,6 @@
 -- One row, counted by its bits: as many pairs as bits, and each line two bytes beside its numbers, the digits of the gauge, and two digits
--- of the case, or one for the cases 1 to 9 (`row_totals`). The sum over the rows is in Counting.antt.
+-- of the case, or one for the cases 1 to 9 (`row_totals`). The sum over the rows is in Counting.antt. At the end the places of a row, in turn.
+-- Pins, which nothing else cites: `next_unique`, `next_some`.
 use Prim.Native.Nat.{ℕ, zero, suc, ◌+◌, ◌-◌, ◌*◌, ◌/◌, ◌%◌, ◌^◌, ◌≤◌, ◌<◌}
 use mathlib.Core.Path.{◌≡◌, refl, ap, sym, ◌∙◌}
 use mathlib.Core.Logic.{⊎_elim}
@@ -9,6 +10,8 @@ use native.Mathlib.Nat.{pow-suc, add-mul, one-mul}
 use lib.Count.{ones, ones_step, ones-le}
 use lib.Pow.{mod-pow-add}
 use lib.ListN.{length}
+use Rattle.sets.specs.First.{Next}
+use Rattle.sets.proofs.OnePlace.{first_unique, rest_unique}
 use Rattle.table.specs.declared.Gauge.{Gauge}
 use Rattle.file_writer.specs.Writing.{digits, case_of, row_pairs, pair_text, lines_of}
 use Rattle.file_writer.specs.private.StoreSteps.{Width, IsTotals}
@@ -103,3 +106,10 @@ module _ (g : Gauge) (b width count short : ℕ) (l : b < 2 ^ 64) (w : Width g.0
 
   pub row_totals : IsTotals pair_text (row_pairs g 64 1 b) (record { count = count; size = count * (width + 4) - short })
   row_totals = record { pairs = x ∙ sym (row_count g 64 1 b l); bytes = omega (arith, bytes) }
+
+-- ---- the places of a row, as `sets::Places` gives them: one place at a time and what is left without it, and none of an empty row
+pub next_unique : (a k r j s : ℕ) → Next a k r → Next a j s → (k ≡ j) × (r ≡ s)
+next_unique a k r j s n m = (first_unique a k j n.first m.first, rest_unique a r s n.rest m.rest)
+
+pub next_some : (k r : ℕ) → ¬ Next 0 k r
+next_some k r n = n.some refl

@@ -267,13 +267,18 @@ fn put_rows(out: &mut [u8], at: usize, rows: [u64; 64], gauges: Gauge, entries: 
 }
 
 // Writes the entries of a gauge: the cases of its row, from the lowest on.
+// `own` says what `entries` says. It is a value of this function, so its kind is looked at once a row; behind the loan it would be at each case.
 fn put_row(out: &mut [u8], at: usize, g: Gauge, row: u64, entries: &Entries) -> usize
     requires { (1 ≤ g.0) × (g.0 ≤ 64) × Room out.old at (row_lines entries.now.kind entries.now.readings.now g row) }
     ensures { Wrote out.old at (row_lines entries.now.kind entries.now.readings.now g row) out.new result }
 {
+    let own = Entries {
+        kind: entries.kind,
+        readings: entries.readings,
+    };
     let mut p = at;
     for k in Places(row) {
-        p = put_entry(out, p, g, Case(k as u64 + 1), entries);
+        p = put_entry(out, p, g, Case(k as u64 + 1), &own);
     }
     p
 }

@@ -44,13 +44,6 @@ pub enum Fewest {
     Spent(u64),
 }
 
-// A ladder that a call handed out, by its board, and the run after that call.
-#[derive(Clone, Copy)]
-struct Next {
-    run: GaugeRun,
-    board: u64,
-}
-
 // The fewest ladders of `t` that hold every pair, by trying at most `budget` ladders.
 pub fn fewest_ladders(t: Table, budget: u64) -> Result<Fewest, Refusal>
     ensures { Covers t budget (fewest result) }
@@ -83,30 +76,27 @@ fn list_ladders(t: Table, ladders: &mut [u64; 1024]) -> usize
     // the table was checked and the order is plain, so that nothing is refused
     let mut run = GaugeRun::start(t, GaugeOrder::plain(t.gauges), false).unwrap();
     for n in 0..MOST_LADDERS {
-        let Some(next) = next_ladder(run) else {
+        let Some(board) = next_ladder(&mut run) else {
             return n;
         };
-        ladders[n] = next.board;
-        run = next.run;
+        ladders[n] = board;
     }
-    match next_ladder(run) {
+    match next_ladder(&mut run) {
         Some(_) => MOST_LADDERS + 1,
         None => MOST_LADDERS,
     }
 }
 
-// One call of the run: the ladder that it handed out, or none where the run is over.
-fn next_ladder(run: GaugeRun) -> Option<Next>
-    ensures { MatchOption result (Ends (gauge_value run)) (λ next. Hands (gauge_value run) next.board (gauge_value next.run)) }
+// One call of the run: the board of the ladder that it handed out, or none where the run is over. The run is lent, and not handed back beside the board: a copy
+// of it costs as much as a move.
+fn next_ladder(run: &mut GaugeRun) -> Option<u64>
+    ensures { MatchOption result (Ends (gauge_value run.old)) (λ board. Hands (gauge_value run.old) board (gauge_value run.new)) }
 {
     match run.call(MOVES) {
         Ok(step) => match step.outcome {
             Outcome::HandedOut(ladder) => {
-                let rows = ladder.chain.rows;
-                Some(Next {
-                    run: step.next,
-                    board: boards::board_of(&rows),
-                })
+                *run = step.next;
+                Some(boards::board_of(&ladder.chain.rows))
             }
             Outcome::Spent => None,
             Outcome::End => None,

@@ -147,7 +147,8 @@ impl<S: Side> Run<S> {
         }
     }
 
-    // The check of the table, and the core's call on the paused value, whose picks the walk has.
+    // The check of the table, and the core's call on the paused value, whose picks the walk has. Not inlined: then a call copies fewer of the value's arrays.
+    #[inline(never)]
     fn call_core(self, walk: &mut Walk, budget: u64) -> Result<Report, Refusal>
         requires { walk.old.picks ≡ self.picks.numbers }
         ensures { Reports (side_of S.CASES) (value_of S.number self) budget walk.new.chain walk.new.picks result }

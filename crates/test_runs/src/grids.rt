@@ -10,7 +10,7 @@ pub fn table_of(board: Board) -> Table {
     )
 }
 
-fn rows_of(pairs: u64) -> [u64; 64] {
+pub fn rows_of(pairs: u64) -> [u64; 64] {
     let mut rows = [0; 64];
     for g in 0..8usize {
         rows[g] = plain::row(pairs, g as u64 + 1);

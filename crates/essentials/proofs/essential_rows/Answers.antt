@@ -18,7 +18,7 @@ pub invariant_of-pairs : goal.invariant_of-pairs
 invariant_of-pairs c =
     let rows-length : length c.args.t.rows ≡ 64 = search rules in
     let legal : Legal c.args.t = legal_of _ rows-length (sym c.in_ok-check_table.ensures) in
-    record { ready = ready _ legal _ c.unions-store.ensures }
+    record { ready = ready _ legal _ c.unions.ensures }
 
 pub loop-i-init : goal.loop-i-init
 loop-i-init c = finding_none _ _

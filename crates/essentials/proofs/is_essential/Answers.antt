@@ -21,7 +21,7 @@ invariant_of-pairs c =
     let rows-length : length c.args.t.rows ≡ 64 = search rules in
     let facts : PairFacts c.args.t c.args.g.0 c.args.c.0 rows-length = pair_facts _ _ _ _ (sym c.in_ok-check_pair.ensures) in
     let f = facts in
-    record { ready = ready _ f.legal _ c.unions-store.ensures }
+    record { ready = ready _ f.legal _ c.unions.ensures }
 
 pub overflow_sub-i : goal.overflow_sub-i
 overflow_sub-i c =
