@@ -1,4 +1,4 @@
-// What bench_runs and bench_batches share: what is listed and how, and the sum over the ladders handed out.
+// What bench_runs and bench_batches share: what is listed and how, and the sum over the ladders of a batch, which bench_runs takes in its own way.
 #![tactic(auto)]
 
 ghost use Rattle.std.specs.Prelude.{◌≡◌, ◌+◌, ◌%◌, ◌^◌, min, length};
@@ -40,7 +40,7 @@ impl Listing {
         }
     }
 
-    // The fresh run of a side, under the order that is asked for: 10, 11 and 27 are refused.
+    // The fresh run of a side, under the order that is asked for: 10 and 11 are refused (27 never is, since the order has each number once).
     pub fn run<S: Side>(self) -> Result<Run<S>, Refusal>
         ensures { start_of S.number result ≡ answer
             (preferred_refusal self.table (side_of S.CASES self.table).count (numbers (side_of S.CASES self.table).count self.backward))

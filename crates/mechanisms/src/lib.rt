@@ -87,8 +87,8 @@ fn list_ladders(t: Table, ladders: &mut [u64; 1024]) -> usize
     }
 }
 
-// One call of the run: the board of the ladder that it handed out, or none where the run is over. The run is lent, and not handed back beside the board: a copy
-// of it costs as much as a move.
+// One call of the run: the board of the ladder that it handed out, or none where the run is over. The run is lent: handed back beside the board it is copied once
+// more a call.
 fn next_ladder(run: &mut GaugeRun) -> Option<u64>
     ensures { MatchOption result (Ends (gauge_value run.old)) (λ board. Hands (gauge_value run.old) board (gauge_value run.new)) }
 {

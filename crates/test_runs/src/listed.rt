@@ -93,7 +93,7 @@ fn key_of(side: Side, chain: Chain) -> u64 {
 fn ladder(t: &mut Tally, board: Board, due: u64, chain: Chain) {
     t.same(board.gauges, chain.gauges);
     t.same(
-        1,
-        u64::from(table::same_rows(&chain.rows, &grids::rows_of(due))),
+        0,
+        u64::from(!table::same_rows(&chain.rows, &grids::rows_of(due))),
     );
 }

@@ -1,4 +1,4 @@
--- The answers of trials. In order: the check of a place, by the code's tests; the answer for each outcome of a trial (`tried_place`, `tried-judged`,
+-- The answers of trials. In order: the answer for each outcome of a trial (`tried_place`, `tried-judged`,
 -- `tried-lesser`, `tried-unfit`); one answer (`tried_unique`) for every table, chain and place (`tried_exists`), a proposal where it is no refusal
 -- (`tried-proposes`); no two answers of the code read alike (`proposed_injective`). Those of commits are in Commits.antt.
 use Rattle.std.specs.Prelude.{Result, Ok, Err}
