@@ -1,7 +1,8 @@
 -- The first line. In order: a line of a kind is its banner but for capitals in the words behind the opening (`kind_only`, `kind_mixed`), and
 -- no line is of two kinds; a first line is read exactly when it is a banner in 01's words (`first_mixed`, `first_only`, `first_none`), and a banner
--- that is written is (`banner_reads`). Then an answer of `first_line`.
--- Pins, which nothing else cites: `first-integer`.
+-- that is written is (`banner_reads`). Then what a comparison of the opening says of a kind (`opening_other`, `opening_words`), and an answer of
+-- `first_line`.
+-- Pins, which nothing else cites: `opening_other`, `opening_words`, `first-integer`.
 use Prim.Native.Nat.{ℕ}
 use mathlib.Core.Path.{◌≡◌, refl, sym, ap, ap₂, ◌∙◌}
 use mathlib.Core.Logic.{◌↔◌}
@@ -116,6 +117,13 @@ pub banner_reads : (integers : Bool) (kind : Kind) → takes integers kind ≡ t
 banner_reads integers kind t = first_mixed integers kind (banner_of kind) (record { taken = t; rest = words_of kind; whole = refl; letters = written kind })
 
 -- ---- the answers of the code
+module _ (words l : List ℕ) (t : Bool) (e : t ≡ same_bytes (take 14 l) opening) where
+  pub opening_other : t ≡ false → false ≡ is_of_kind words l
+  opening_other f = ap (λ (u : Bool). u && same_bytes (map small (drop 14 l)) words) (sym f ∙ e)
+
+  pub opening_words : t ≡ true → (u : Bool) → u ≡ same_bytes (map small (drop 14 l)) words → u ≡ is_of_kind words l
+  opening_words f u d = ap₂ (λ (a b : Bool). a && b) (sym f ∙ e) d
+
 module _ (integers : Bool) (l : List ℕ) (t : Bool) (e : t ≡ is_of_kind pattern l) (p : t ≡ false) (i : integers ≡ true) (u : Bool)
     (d : u ≡ is_of_kind integer l) where
   pub first-integer : u ≡ true → Banner Integer ≡ first_line integers l
